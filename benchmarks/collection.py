@@ -1,14 +1,14 @@
 #!/usr/bin/env python3
-"""Measures what a file of a collection costs, beside one that a session copies.
+"""Measures what a file of a collection costs, compared with one that a session copies.
 
 usage: benchmarks/collection.py PROGRAM [COUNT [FOLDER]]
 
 COUNT files (1,000) of 500 characters each are stored on a volume of 8192 blocks in three ways: by one `import`, by one
 session that copies a file of that size as often, and by one `export` back to the host. The table has what a file takes:
-instructions of the program, counted by valgrind (the same number in each run; memory that is zeroed counts by the byte),
-and these and the time of the run as multiples of what a COPY takes. A start and the end of the run are in it. Times are
-the least of eleven runs that take turns, and rough on a busy machine. The folder for all of it is made in FOLDER, or else
-below /dev/shm if there is one, where a sync costs nothing. This is no part of the gate.
+instructions of the program, counted by valgrind (the same number in each run; memory that is zeroed counts by the
+byte), and these and the time of the run as multiples of what a COPY takes. A start and the end of the run are included.
+Times are the least of eleven runs that take turns, and rough on a busy machine. The folder for all of it is made in
+FOLDER, or else below /dev/shm if there is one, where a sync costs nothing. This isn't part of the gate.
 """
 import os
 import re
@@ -24,7 +24,7 @@ TEXT = b"A LINE OF FIFTY CHARACTERS, TEN OF WHICH A FILE HAS\n"[:50] * 10
 
 
 def run(words, folder, given=b"", counter=()):
-    """A run that has to be served; what it tells on the standard error."""
+    """Does a run that must be served; returns what it reports on the standard error."""
     done = subprocess.run([*counter, *words], input=given, stdout=subprocess.DEVNULL, stderr=subprocess.PIPE, cwd=folder,
                           check=False)
     if done.returncode != 0:
@@ -33,7 +33,7 @@ def run(words, folder, given=b"", counter=()):
 
 
 def cost(words, folder, given=b""):
-    """Instructions of a run."""
+    """Returns the instructions of a run."""
     return int(COUNTED.search(run(words, folder, given, COUNTER))[1].replace(b",", b""))
 
 
@@ -48,7 +48,7 @@ def make_images(program, folder, name):
 
 
 def seconds(words, folder, given=b""):
-    """The time of a run."""
+    """Returns the time of a run."""
     begun = time.monotonic()
     run(words, folder, given)
     return time.monotonic() - begun

@@ -28,7 +28,7 @@ COLUMNS = ("start", "LOOKUP", "create", "supersede", "DIRECTORY")
 
 
 def is_counted():
-    """Whether instructions are counted, and not the time."""
+    """Returns whether instructions are counted, not the time."""
     return "--time" not in sys.argv and shutil.which(COUNTER[0]) is not None
 
 
@@ -36,13 +36,13 @@ CALLS = 400 if is_counted() else 1600  # how many of a call are measured
 
 
 def used():
-    """Microseconds of a processor that the children took so far."""
+    """Returns the microseconds of processor time that the children have used so far."""
     times = resource.getrusage(resource.RUSAGE_CHILDREN)
     return (times.ru_utime + times.ru_stime) * 1e6
 
 
 def run(program, words, lines):
-    """Runs the program over these lines, which it has to serve."""
+    """Runs the program over these lines, which it must serve."""
     given = "".join(line + "\n" for line in lines).encode()
     done = subprocess.run([*program, *words], input=given, capture_output=True)
     if done.returncode != 0:
@@ -51,7 +51,7 @@ def run(program, words, lines):
 
 
 def cost(program, words, lines):
-    """What a run takes: thousands of its instructions, or microseconds."""
+    """Returns what a run takes: thousands of its instructions, or microseconds."""
     if is_counted():
         counted = COUNTED.search(run(COUNTER + program, words, lines).stderr)
         return int(counted[1].replace(b",", b"")) / 1000
@@ -61,7 +61,7 @@ def cost(program, words, lines):
 
 
 def sixbit(text):
-    """The word of a name, in octal."""
+    """Returns the word of a name, in octal."""
     word = 0
     for letter in text.ljust(6):
         word = word * 64 + ord(letter) - 32
@@ -69,7 +69,7 @@ def sixbit(text):
 
 
 def name(number):
-    """A name of six letters and digits, in an order that no directory keeps."""
+    """Returns a name of six letters and digits, in an order that no directory has."""
     number = number * 7919 % 60466176
     letters = ""
     for _ in range(5):
@@ -79,7 +79,7 @@ def name(number):
 
 
 class Image:
-    """A volume with so many files, spread over so many directories."""
+    """A volume with this many files, spread over this many directories."""
 
     def __init__(self, program, path, files, owners):
         self.program = program
@@ -120,7 +120,7 @@ class Image:
         run(self.program, ["calls", self.path], lines)
 
     def measure(self, words, lines):
-        """What a run over a copy of the image takes."""
+        """Returns what a run over a copy of the image takes."""
         image = pathlib.Path(self.path).read_bytes()
         copy = self.path + ".copy"
         costs = []
@@ -131,7 +131,7 @@ class Image:
         return min(costs)
 
     def table_line(self):
-        """What a start takes, and what each call takes beside it."""
+        """Returns what a start takes, and the additional cost of each call."""
         start = self.measure("calls", [])
         there = [number * 37 % self.files for number in range(CALLS)]
         named = [line for number in there for line in self.named(number)]
@@ -146,7 +146,7 @@ class Image:
 
 
 def print_line(title, line, first):
-    """Prints what each took, and behind it how many times that of the first line it is."""
+    """Prints what each took, followed by its multiple of the first line's value."""
     cells = [f"{taken:12.1f} {taken / base:6.2f}x" for taken, base in zip(line, first)]
     print(f"{title:>16}" + "".join(cells), flush=True)
 

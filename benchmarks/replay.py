@@ -1,13 +1,13 @@
 #!/usr/bin/env python3
-"""Measures what the program adds to its own calls of the system.
+"""Measures what the program adds to its own system calls.
 
 usage: benchmarks/replay.py PROGRAM
 
 Each run is traced once (strace), and a program in C (gcc -O2) is made of the calls that it made on the image: the same
-reads, writes, seeks and syncs in the same order, with the bytes of each read copied once, and nothing else. The table has
-the processor's time of both, the system's included, in milliseconds, each the least of fifteen runs that take turns, and
-the program's as a multiple of the other's. The folder is below /dev/shm if there is one, so that a sync costs nothing.
-The runs are:
+reads, writes, seeks and syncs in the same order, with the bytes of each read copied once, and nothing else. The table
+has the processor's time of both, including the system's, in milliseconds, each the least of fifteen runs that take
+turns, and the program's as a multiple of the other's. The folder is below /dev/shm if there is one, so that a sync
+costs nothing. The runs are:
 
   a start     on a volume of 8192 blocks with 1,000 files of 500 characters
   60 MiB      a start on a volume of 131,072 blocks with 60 MiB of files
@@ -17,7 +17,7 @@ The runs are:
   put         of 1 MiB of words to a file that is there, on the same
   get 10 MiB  of a file of as many words, on the same
 
-Times on a machine that does other work are rough. This is no part of the gate.
+Times on a machine that does other work are rough. This isn't part of the gate.
 """
 import os
 import re
@@ -63,7 +63,7 @@ class Run:
         self.given = given
 
     def spent(self, words, folder):
-        """The processor's time of a process, the system's with it."""
+        """Returns the processor's time of a process, including the system's."""
         shutil.copyfile(os.path.join(folder, self.image), os.path.join(folder, "RUN.IMG"))
         with open(os.path.join(folder, "given"), "rb") as given:
             child = subprocess.Popen(words, stdin=given, stdout=subprocess.DEVNULL, cwd=folder)
@@ -74,7 +74,7 @@ class Run:
         return used.ru_utime + used.ru_stime
 
     def calls(self, program, folder):
-        """The calls of a run on its image, as the program in C has them."""
+        """Returns the calls of a run on its image, as the program in C has them."""
         trace = os.path.join(folder, "trace")
         self.spent([*TRACER, trace, program, *self.words], folder)
         calls = []
@@ -87,7 +87,8 @@ class Run:
         return calls
 
     def measure(self, program, folder):
-        """The least times of the program and of one in C that makes the same calls, and how many calls there are."""
+        """Returns the least times of the program and of one in C that makes the same calls, and how many calls there
+        are."""
         with open(os.path.join(folder, "given"), "wb") as given:
             given.write(self.given)
         calls = self.calls(program, folder)
@@ -101,7 +102,7 @@ class Run:
 
 
 def make_images(program, folder):
-    """The two images, and files of the host."""
+    """Makes the two images, and files of the host."""
 
     def run(*words, given=b""):
         subprocess.run([program, *words], input=given, stdout=subprocess.DEVNULL, cwd=folder, check=True)

@@ -3,8 +3,8 @@
 
 usage: benchmarks/speed.py PROGRAM
 
-Makes a volume of 131,072 blocks in a folder of its own (below /dev/shm if there is one, so that a sync costs nothing),
-with a file of 10 MiB and fifty of 1 MiB. The table has what a run takes, in all and for each word of the image (eight
+Makes a volume of 131,072 blocks in a new folder (below /dev/shm if there is one, so that a sync costs nothing), with a
+file of 10 MiB and fifty of 1 MiB. The table has what a run takes, in total and for each word of the image (eight
 bytes):
 
   a start       recovers the volume, and reads all that files reach
@@ -13,10 +13,10 @@ bytes):
   get 10 MiB    reads a file of 10 MiB as words, besides a start
   type 10 MiB   reads the same as text, five characters to a word
 
-The unit is instructions of the program, counted by valgrind: the same number in each run, even on a busy machine. A plain
-copy takes one for each word. The system's work is no part of them, so the last column has the processor's time, the
+The unit is instructions of the program, counted by valgrind: the same number in each run, even on a busy machine. A
+plain copy takes one for each word. The system's work isn't included, so the last column has the processor's time, the
 system's included, as a multiple of what a plain read of as many bytes takes (dd, a MiB at a time): the least of fifteen
-runs of each, which is still rough on a busy machine. This is no part of the gate.
+runs of each, which is still rough on a busy machine. This isn't part of the gate.
 """
 import os
 import re
@@ -46,7 +46,7 @@ COUNTED = re.compile(rb"I\s+refs:\s+([0-9,]+)")
 
 
 def cost(words, data=os.devnull):
-    """Instructions of a run, which has to be served."""
+    """Returns the instructions of a run, which must be served."""
     with open(data, "rb") as given:
         done = subprocess.run(COUNTER + words, stdin=given, stdout=subprocess.DEVNULL, stderr=subprocess.PIPE,
                               check=False)
@@ -56,7 +56,7 @@ def cost(words, data=os.devnull):
 
 
 def seconds(words, data=os.devnull):
-    """The processor's time of a run, the system's with it: the least of fifteen."""
+    """Returns the processor's time of a run, including the system's: the least of fifteen."""
     least = None
     for _turn in range(15):
         with open(data, "rb") as given:
@@ -71,7 +71,7 @@ def seconds(words, data=os.devnull):
 
 
 def words_of(count):
-    """So many words, as a file of words has them: each is text of five characters."""
+    """Returns this many words, as a file of words has them: each is text of five characters."""
     word = int.from_bytes(b"\0\0\0\0\0", "big")
     for letter in b"WORD\n":
         word = word << 7 | letter

@@ -1,11 +1,11 @@
 #!/usr/bin/env python3
-"""Counts what a start asks of the system.
+"""Counts the system calls of a start.
 
 usage: benchmarks/starts.py PROGRAM
 
-Makes an image for each line of the table, in a folder of its own, and counts the calls that a start (`check`) makes on
-it, by strace, seeks and the sync included, and the blocks that they read. In the second image the files were written
-again in no order, so that they lie in another order than their names in the directory. This is no part of the gate.
+Makes an image for each line of the table, in a new folder, and counts the calls that a start (`check`) makes on it, by
+strace, seeks and the sync included, and the blocks that they read. In the second image the files were written again in
+random order, so that they are in another order than their names in the directory. This isn't part of the gate.
 """
 import os
 import random
@@ -36,13 +36,14 @@ class Maker:
         self.folder = folder
 
     def run(self, *words, given=b""):
-        """Runs the program, which has to serve all of its input."""
+        """Runs the program, which must serve all of its input."""
         done = subprocess.run([self.program, *words], input=given, capture_output=True, cwd=self.folder, check=False)
         if done.returncode != 0:
             sys.exit(f"{words} ended with {done.returncode}: {done.stdout[-200:]!r} {done.stderr[-200:]!r}")
 
     def make(self, blocks, groups, again):
-        """An image with so many files of so many blocks for each group, each written once more in no order if asked."""
+        """Makes an image with this many files of this many blocks for each group, each written again in random order if
+        requested."""
         image = os.path.join(self.folder, "RUN.IMG")
         if os.path.exists(image):
             os.remove(image)
@@ -64,7 +65,7 @@ class Maker:
         self.run("run", "RUN.IMG", given=b"LOGIN [10,20]\n" + lines.encode())
 
     def count(self):
-        """How many calls of the system a start makes on the image, and how many blocks they read."""
+        """Returns how many system calls a start makes on the image, and how many blocks they read."""
         subprocess.run([*TRACER, self.program, "check", "RUN.IMG"], stdout=subprocess.DEVNULL, cwd=self.folder, check=True)
         calls = size = 0
         with open(os.path.join(self.folder, "trace"), encoding="utf-8") as lines:

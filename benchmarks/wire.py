@@ -4,13 +4,13 @@
 usage: benchmarks/wire.py PROGRAM
 
 A job writes a file by a ring: each OUT gets the 128 words of its buffer and the header's three before the call, and
-the emulator wants the words that the call has changed after it. Over the wire these are a DEPOSIT for each of both
-areas, and the CALL, whose answer tells 136 words. As lines they are a DEP for each word, the OUT, and an EXA for each
+after it the emulator needs the words that the call has changed. Over the wire these are a DEPOSIT for each of the two
+areas, and the CALL, whose answer returns 136 words. As lines they are a DEP for each word, the OUT, and an EXA for each
 of the 136 words, which the emulator has to know by itself.
 
-The table has what an OUT costs on either way: bytes in and out, the program's instructions, counted by valgrind (the
-same number in each run, even on a busy machine), and its reads and writes of the two pipes, counted by strace, where
-each OUT is written by one write. A start is taken off. This is no part of the gate.
+The table has what an OUT costs in either way: bytes in and out, the program's instructions, counted by valgrind (the
+same number in each run, even on a busy machine), and its reads and writes of the two pipes, counted by strace, with one
+write for each OUT. The cost of a start is subtracted. This isn't part of the gate.
 """
 import os
 import re
@@ -24,18 +24,18 @@ from filser import halves, order, sixbit  # noqa: E402
 OUTS = 40
 OPEN_WORDS = [0, sixbit("DSK"), halves(0o60, 0)]
 NAME_WORDS = [sixbit("FOO"), 0, 0, 0]
-BUFFERS = [0o141, 0o344]  # the rings of a job begin at 140, and a buffer is named by its second word
+BUFFERS = [0o141, 0o344]  # the rings of a job begin at 140, and the second word of a buffer names it
 COUNTER = ["valgrind", "--tool=cachegrind", "--cache-sim=no", "--cachegrind-out-file=/dev/null"]
 COUNTED = re.compile(rb"I\s+refs:\s+([0-9,]+)")
 
 
 def changed(place):
-    """The areas that the OUT of this buffer may change: the header, two words of it, and the next buffer."""
+    """Returns the areas that the OUT of this buffer may change: the header, two words of it, and the next buffer."""
     return [(0o60, 3), (BUFFERS[place], 2), (BUFFERS[1 - place] - 1, 0o203)]
 
 
 def wire_opening():
-    """The orders that come before the first OUT of a buffer."""
+    """Returns the orders that come before the first OUT of a buffer."""
     words = [order(1, job=1, number=0o1000, words=[halves(0o10, 0o20)]),
              order(2, job=1, number=0o200, words=[halves(0o10, 0o20), 0]), order(4, 1, 1, 0, 0o200),
              order(2, job=1, number=0o200, words=OPEN_WORDS), order(4, 0o50, 1, 1, 0o200),
@@ -44,7 +44,7 @@ def wire_opening():
 
 
 def wire_out(number):
-    """The orders of one OUT."""
+    """Returns the orders of one OUT."""
     first = BUFFERS[number % 2]
     return (order(2, job=1, number=first + 2, words=[number] * 128)
             + order(2, job=1, number=0o61, words=[halves(0o010700, first + 1 + 128), 0]) + order(4, 0o57, 1, 1))
@@ -55,7 +55,7 @@ def line_of(address, word):
 
 
 def script_opening():
-    """The lines that come before the first OUT of a buffer."""
+    """Returns the lines that come before the first OUT of a buffer."""
     def block(words):
         return "".join(line_of(0o200 + place, word) for place, word in enumerate(words))
     return ("1 LOGIN 10,20 1000\n" + block([halves(0o10, 0o20), 0]) + "1 MAKDIR 200\n" + block(OPEN_WORDS)
@@ -63,7 +63,7 @@ def script_opening():
 
 
 def script_out(number):
-    """The lines of one OUT."""
+    """Returns the lines of one OUT."""
     first = BUFFERS[number % 2]
     lines = [line_of(first + 2 + place, number) for place in range(128)]
     lines += [line_of(0o61, halves(0o010700, first + 1 + 128)), line_of(0o62, 0), "1 OUT 1 0\n"]
@@ -81,14 +81,14 @@ def new_image(program, folder):
 
 
 def instructions(program, folder, command, data):
-    """The program's instructions for this input, and the bytes that it prints."""
+    """Returns the program's instructions for this input, and the bytes that it prints."""
     done = subprocess.run(COUNTER + [program, command, new_image(program, folder)], input=data, capture_output=True,
                           check=True)
     return int(COUNTED.search(done.stderr)[1].replace(b",", b"")), len(done.stdout)
 
 
 def calls(program, folder, command, opening, parts):
-    """The reads and writes of the pipes, where each part is written by one write and answered before the next."""
+    """Returns the reads and writes of the pipes, if each part is written by one write and answered before the next."""
     trace = os.path.join(folder, "trace")
     words = ["strace", "-y", "-e", "trace=read,write", "-o", trace, program, command, new_image(program, folder)]
     with subprocess.Popen(words, stdin=subprocess.PIPE, stdout=subprocess.PIPE, bufsize=0) as process:
@@ -102,7 +102,7 @@ def calls(program, folder, command, opening, parts):
 
 
 def measure(program, folder, command, opening, out):
-    """What one OUT costs: bytes in, bytes out, instructions, and reads and writes."""
+    """Returns what one OUT costs: bytes in, bytes out, instructions, and reads and writes."""
     parts = [out(number) for number in range(OUTS)]
     before, told = instructions(program, folder, command, opening)
     after, all_told = instructions(program, folder, command, opening + b"".join(parts))

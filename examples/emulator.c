@@ -1,5 +1,5 @@
-/* The disk of an emulator in C: filser serves calls over two pipes, a line for a call and a line for its reply.
-   cc emulator.c -o emulator && ./emulator PROGRAM IMAGE: job 1 logs in and lists what is in its core at 121. */
+/* The disk of an emulator in C: filser serves calls over two pipes, one line per call and one per reply. cc emulator.c
+   -o emulator && ./emulator PROGRAM IMAGE: job 1 logs in and prints the word of its core at 121. */
 #include <stdio.h>
 #include <stdlib.h>
 #include <sys/wait.h>

@@ -1,9 +1,9 @@
 #!/usr/bin/env python3
-"""The disk of an emulator: filser serves the calls of its jobs over two pipes, a line for a call and a line for its reply.
+"""The disk of an emulator: filser serves the calls of its jobs over two pipes, one line per call and one per reply.
 
 usage: emulator.py PROGRAM IMAGE
 
-Job 1 writes a file of three words into its directory [10,20], and reads it back. All numbers of the lines are octal.
+Job 1 writes a file of three words to its directory [10,20], and reads it back. All numbers of the lines are octal.
 """
 import subprocess
 import sys
@@ -18,24 +18,24 @@ class Disk:
         )
 
     def ask(self, line):
-        """The reply to a line: `DONE`, `VALUE` and a word, or why the call isn't done."""
+        """Returns the reply to a line: `DONE`, `VALUE` and a word, or why the call isn't done."""
         self.process.stdin.write(line + "\n")
         self.process.stdin.flush()
         return self.process.stdout.readline().rstrip("\n")
 
     def do(self, line):
-        """A line that has to be done."""
+        """Sends a line that must be done."""
         reply = self.ask(line)
         if reply != "DONE":
             raise RuntimeError(f"{line}: {reply}")
 
     def deposit(self, job, address, words):
-        """Puts words into the core that filser keeps for a job, where calls find what they are about."""
+        """Puts words into the core that filser has for a job, where calls find their arguments."""
         for place, word in enumerate(words):
             self.do(f"{job} DEP {address + place:o} {word:o}")
 
     def examine(self, job, address):
-        """A word of that core."""
+        """Returns a word of that core."""
         kind, word = self.ask(f"{job} EXA {address:o}").split()
         if kind != "VALUE":
             raise RuntimeError(f"address {address:o}: {kind}")
@@ -48,7 +48,7 @@ class Disk:
 
 
 def sixbit(text):
-    """Up to six characters as a word, six bits each, from the left."""
+    """Returns up to six characters as a word, six bits each, from the left."""
     word = 0
     for character in text.ljust(6):
         word = word * 64 + ord(character) - 32
@@ -56,7 +56,7 @@ def sixbit(text):
 
 
 def area(address, count):
-    """A command list of dump mode: so many words from an address on, and its end."""
+    """Returns a command list of dump mode: this many words from an address, and its end."""
     return [(2**18 - count) % 2**18 * 2**18 + address - 1, 0]
 
 
@@ -75,8 +75,8 @@ def main(program, image):
     disk.do("1 OUT 1 400")
     disk.do("1 CLOSE 1 0")  # the file is there now, whatever happens
 
-    disk.deposit(1, 0o303, [0])  # a directory's name may stand there, and zero is the job's own
-    disk.do("1 LOOKUP 1 300")  # and now the file's length does
+    disk.deposit(1, 0o303, [0])  # a directory's name may be there, and zero means the job's own
+    disk.do("1 LOOKUP 1 300")  # and now the file's length is
     disk.deposit(1, 0o400, area(0o2000, 128))
     disk.do("1 IN 1 400")
     print(*(f"{disk.examine(1, 0o2000 + place):o}" for place in range(3)))

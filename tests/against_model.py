@@ -1,12 +1,12 @@
 #!/usr/bin/env python3
-"""Compares what scripts of four jobs are answered with a model of the file machine.
+"""Compares the answers to scripts of four jobs with a model of the file machine.
 
 usage: tests/against_model.py PROGRAM [COUNT]
 
 The model is model/machine.py, and model/players.py decides what the jobs do. The volumes are small enough to be full at
-times, and so are the quotas of their directories. They have layout 1 or 2, which they were made in or migrated to, and
-the calls are made at a moment that fits. For each of COUNT seeds (20 if not given), the same in every run, the four
-jobs follow each other in three ways: one job after the other, in turn, and at random. Each reply, each word that a job
+times, and the quotas of their directories are small too. They have layout 1 or 2, which they were made in or migrated
+to, and the calls are made at a moment that fits. For each of COUNT seeds (20 if not given), the same in every run, the
+four jobs take turns in three ways: one job after the other, in turn, and at random. Each reply, each word that a job
 examines, the room that is left, and each directory and each file at the end must be the model's.
 """
 
@@ -20,7 +20,7 @@ ORDERS = ["apart", "in turn", "at random"]
 
 
 def serve(program, folder, seed, order):
-    """What isn't the model's where the program serves a script, and how many lines it had."""
+    """Returns what isn't the model's when the program serves a script, and how many lines it had."""
     blocks = [64, 96, 160][seed % 3]
     layout, moment = moment_of(seed)
     lines, wanted, machine = script(seed, order, blocks, layout, moment)

@@ -5,9 +5,9 @@ usage: tests/both_forms.py PROGRAM
 
 Each row begins with the image that its lines describe, once in form 1 and once in form 2. Its session lines go through
 `filser run`, and its calls through `filser calls`. Both forms must print the same, and end with the same status and the
-same words in each block; a row that has only sessions must print what the row wants. The top of crates/scenarios/stdin says
-what its lines mean. Then images of several sizes and of both layouts are converted there and back, one of them by
-processes that are interrupted. Prints a line for each thing that is not as it should be, and one line at the end.
+same words in each block; a row that has only sessions must print what the row wants. The top of crates/scenarios/stdin
+says what its lines mean. Then images of several sizes and of both layouts are converted there and back, one of them by
+processes that are interrupted. Prints a line for each failed check, and one line at the end.
 """
 
 import os
@@ -32,7 +32,7 @@ WRITTEN = {
 
 
 def rows_of(path):
-    """The kind of each row that is played, its title, and its lines, of several alternatives the first one."""
+    """Returns the kind of each row that is played, its title, and its lines; of several alternatives the first one."""
     parts, rows = {}, []
     with open(path, encoding="ascii") as file:
         for line in file.read().split("\n"):
@@ -49,13 +49,13 @@ def rows_of(path):
 
 
 def words_of(text):
-    """The words of a block: those that are spelled in octal, and zeros behind them."""
+    """Returns the words of a block: those that are spelled in octal, and zeros after them."""
     words = [int(word, 8) for word in text.split()]
     return words + [0] * (WORDS - len(words))
 
 
 def calls_of(line):
-    """The calls that a line stands for."""
+    """Returns the calls that a line stands for."""
     if " TIMES " in line:
         times, events = line.split(" TIMES ")
         turns = [events.replace("%", f"{turn + 1:o}") for turn in range(int(times))]
@@ -75,7 +75,7 @@ def calls_of(line):
 
 
 class Run:
-    """A session, with what it is to print, and calls behind it, at one moment."""
+    """A session, with what it must print, and the calls after it, at one moment."""
 
     def __init__(self, moment):
         self.moment = moment
@@ -132,12 +132,13 @@ class Row:
             self.runs[-1].calls += calls_of(line)
 
     def is_session(self):
-        """Whether it has sessions alone, over a disk that doesn't fail."""
+        """Returns whether it has only sessions, over a disk that doesn't fail."""
         return self.serves and not any(run.calls for run in self.runs)
 
 
 def text_of(lines):
-    """The bytes of lines of a session: `\\r` at the end stands for a carriage return, `\\c` for no line feed."""
+    """Returns the bytes of lines of a session: `\\r` at the end stands for a carriage return, `\\c` for no line
+    feed."""
     text = ""
     for line in lines:
         text += line[:-2] if line.endswith("\\c") else line.replace("\\r", "\r") + "\n"
@@ -145,18 +146,18 @@ def text_of(lines):
 
 
 def plain(words):
-    """The bytes of words in form 1."""
+    """Returns the bytes of words in form 1."""
     return b"".join(word.to_bytes(8, "big") for word in words)
 
 
 def packed(data):
-    """The bytes of form 2 for those of form 1."""
+    """Returns the bytes of form 2 for those of form 1."""
     words = [int.from_bytes(data[at : at + 8], "big") for at in range(0, len(data), 8)]
     return b"".join((first << 36 | second).to_bytes(9, "big") for first, second in zip(words[::2], words[1::2]))
 
 
 class Tries:
-    """Runs of the program in a folder of their own."""
+    """Runs of the program in their own folder."""
 
     def __init__(self, program, folder):
         self.program = program
@@ -176,19 +177,19 @@ class Tries:
             file.write(data)
 
     def run(self, words, data=b""):
-        """What a run prints, and its status."""
+        """Returns what a run prints, and its status."""
         done = subprocess.run([self.program, *words], input=data, capture_output=True, cwd=self.folder, check=False)
         return done.stdout, done.returncode
 
     def expect(self, good, what):
-        """Counts, and says what is not as it should be."""
+        """Counts a check, and reports what is wrong."""
         self.count += 1
         if not good:
             self.failed += 1
             print(what)
 
     def both(self, command, run, data):
-        """What both forms print, which has to be the same."""
+        """Returns what both forms print, which must be the same."""
         moment = ["--date", run.moment[0], "--minute", run.moment[1]]
         one = self.run([command, "ONE.IMG", *moment], data)
         two = self.run([command, "TWO.IMG", *moment, "--form", "2"], data)
@@ -202,7 +203,7 @@ class Tries:
                 file.write(data)
 
     def row(self, row):
-        """A row over both forms."""
+        """Plays a row over both forms."""
         if row.is_volume:
             for name, form in (("ONE.IMG", "1"), ("TWO.IMG", "2")):
                 if os.path.exists(self.path(name)):
@@ -226,7 +227,7 @@ class Tries:
         self.expect(packed(self.read("ONE.IMG")) == self.read("TWO.IMG"), f"{row.title}: the images differ")
 
     def size(self, blocks, data=b"HELLO\r\n" * 2000, layout=1):
-        """An image of so many blocks with a file of these bytes in it, converted there and back."""
+        """Converts an image of this many blocks with a file of these bytes in it there and back."""
         for name in ("A.IMG", "B.IMG", "C.IMG"):
             if os.path.exists(self.path(name)):
                 os.remove(self.path(name))
@@ -240,8 +241,8 @@ class Tries:
         self.expect(self.read("A.IMG")[1024:] == self.read("C.IMG")[1024:], f"{blocks} blocks: other bytes come back")
 
     def interrupted(self):
-        """An image that a file fills, converted by processes that are interrupted, each one later. The one that is there
-        stays. The new one is no volume, or has all blocks behind the home copies."""
+        """Converts an image that a file fills, by processes that are interrupted, each one later. The existing image
+        stays. The new one isn't a volume, or has all blocks except the home copies."""
         self.size(16384, b"HELLO\r\n" * 1490000)
         before, whole = self.read("A.IMG"), self.read("B.IMG")
         for number in range(100):

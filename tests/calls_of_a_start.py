@@ -1,10 +1,10 @@
 #!/usr/bin/env python3
-"""Counts what a start asks of the system: python3 tests/calls_of_a_start.py PROGRAM.
+"""Counts the system calls of a start: python3 tests/calls_of_a_start.py PROGRAM.
 
 No contract says in which order a start reads the files of an image, and a start that reads them by name is right, and
-slow. A start on an image whose files lie in another order than their names takes no more than twice as many calls as
-one on an image where they lie in order, and 20 more; by name it would take two calls for each file. The counting is
-that of benchmarks/starts.py. Without strace, or if it may not trace, the script says SKIPPED and succeeds."""
+slow. A start on an image whose files are in another order than their names takes at most twice as many calls as one on
+an image on which they are in order, and 20 more; by name it would take two calls for each file. The counting is that of
+benchmarks/starts.py. Without strace, or if it may not trace, the script says SKIPPED and succeeds."""
 
 import os
 import shutil
@@ -22,7 +22,7 @@ FILES, BLOCKS = 300, 4096
 
 
 def may_trace():
-    """Tells whether strace is installed and may trace."""
+    """Returns whether strace is installed and may trace."""
     if not shutil.which("strace"):
         return False
     return subprocess.run(["strace", "-o", "/dev/null", "true"], capture_output=True, check=False).returncode == 0

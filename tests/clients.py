@@ -3,15 +3,15 @@
 
 usage: tests/clients.py PROGRAM
 
-- Records that are no orders: each part of each kind of record set to what it mustn't be; inputs that end early.
-- What starts and ends a run, its exit status, and what the clients say of a run that doesn't start or dies.
+- Records that aren't orders: each part of each kind of record set to what it mustn't be; inputs that end early.
+- What starts and ends a run, its exit status, and what the clients report of a run that doesn't start or dies.
 - Rows of UUOs and of calls, each with what the reference gives for it, in both clients.
 - Scripts of four jobs, in both layouts and forms: the replies of both clients are those of `filser calls` and of the
-  model (model/machine.py); after each call the whole core is the model's, and what the answer told is all that changed;
-  at the end the images of all three have the same bytes.
+  model (model/machine.py); after each call the whole core is the model's, and what the answer returned is all that
+  changed; at the end the images of all three have the same bytes.
 
-Without a C compiler the client in C isn't tested, which is said. Prints a line for each thing that is not as it should
-be, and one line at the end.
+Without a C compiler the client in C isn't tested, and a line says so. Prints a line for each failed check, and one line
+at the end.
 """
 
 import os
@@ -42,12 +42,12 @@ SCRIPTS = [(0, "at random", 1), (1, "in turn", 1), (2, "at random", 2), (5, "apa
 
 
 def record(kind, code=0, job=0, channel=0, number=0, detail=0, count=0, words=()):
-    """The bytes of a record, and of what follows it."""
+    """Returns the bytes of a record, and of what follows it."""
     return struct.pack(f">BBBBIII{len(words)}Q", kind, code, job, channel, number, detail, count, *words)
 
 
 def answer(kind, value=0, groups=()):
-    """The bytes of an answer."""
+    """Returns the bytes of an answer."""
     return struct.pack(f">BBBBQI{len(groups)}Q", kind, 0, 0, 0, value, len(groups), *groups)
 
 
@@ -56,7 +56,7 @@ ROOM = record(5)
 
 
 class Tries:
-    """Runs of the program, each in a folder of its own, and the players of both clients."""
+    """Runs of the program, each in its own folder, and the players of both clients."""
 
     def __init__(self, program, folder):
         self.program, self.folder = program, folder
@@ -80,14 +80,14 @@ class Tries:
         self.players["c"] = [player]
 
     def same(self, what, found, wanted):
-        """Counts, and tells what is not as it should be."""
+        """Counts a check, and reports what is wrong."""
         self.count += 1
         if found != wanted:
             self.failed += 1
             print(f"{what}: {found!r} and not {wanted!r}")
 
     def image(self, name, blocks=64, layout=1, form=1):
-        """Makes an image anew, and gives its path."""
+        """Makes an image again, and returns its path."""
         path = os.path.join(self.folder, name)
         if os.path.exists(path):
             os.remove(path)
@@ -96,20 +96,20 @@ class Tries:
         return path
 
     def wire(self, image, data, words=(), **how):
-        """What `filser wire` writes for these bytes, and its status."""
+        """Returns what `filser wire` writes for these bytes, and its status."""
         done = subprocess.run([self.program, "wire", image, *words], input=data, capture_output=True, check=False,
                               timeout=LIMIT, **how)
         return done.stdout, done.returncode
 
     def play(self, client, image, lines, form=1, program=None):
-        """What the player of a client answers to lines."""
+        """Returns what the player of a client answers to lines."""
         words = [*self.players[client], program or self.program, image, str(form)]
         done = subprocess.run(words, input="\n".join([*lines, ""]), capture_output=True, text=True, check=False,
                               timeout=LIMIT)
         return done.stdout.split("\n")[:-1]
 
     def play_rows(self, name, rows, layout=1):
-        """Plays rows by each client on an image of its own, and compares each answer; and then the images."""
+        """Plays rows by each client on its own image, and compares each answer; and then the images."""
         images = []
         for client in self.players:
             image = self.image(f"{client}.IMG", layout=layout)
@@ -123,7 +123,7 @@ class Tries:
 
 
 def spoiled():
-    """Records that are no orders, each with what is wrong with it."""
+    """Yields records that aren't orders, each with what is wrong with it."""
     word = [1]
     for field in ("code", "channel", "detail"):
         yield f"LOGIN {field}", record(1, job=1, number=0o1000, count=1, words=[halves(1, 2)], **{field: 1})
@@ -160,7 +160,7 @@ def spoiled():
 
 
 def wrong_records(tries):
-    """A record that is no order is answered WRONG, changes nothing, and the next one is answered."""
+    """Tests that a record that isn't an order is answered WRONG, changes nothing, and that the next one is answered."""
     image = tries.image("W.IMG")
     fresh = [place << 36 | (0o140 if place == 0o121 else 0) for place in range(0o1000)]
     for name, data in spoiled():
@@ -182,7 +182,7 @@ def wrong_records(tries):
 
 
 def early_ends(tries):
-    """An input that ends inside a record, at each byte; and a record that announces more words than there can be."""
+    """Tests an input that ends inside a record, at each byte; and a record that announces more words than possible."""
     image = tries.image("E.IMG")
     for size in range(1, len(LOGIN)):
         found = tries.wire(image, ROOM + LOGIN[:size])
@@ -198,13 +198,13 @@ def early_ends(tries):
 
 
 def without_writes():
-    """This process can't write to a file any more, which doesn't end it."""
+    """Makes writes to a file fail in this process, without ending it."""
     signal.signal(signal.SIGXFSZ, signal.SIG_IGN)
     resource.setrlimit(resource.RLIMIT_FSIZE, (0, 0))
 
 
 def statuses(tries):
-    """The exit statuses, and what the clients say of a program that doesn't start."""
+    """Tests the exit statuses, and what the clients report of a program that doesn't start."""
     image = tries.image("S.IMG")
     tries.same("no input", tries.wire(image, b""), (b"", 0))
     refused = LOGIN + record(4, code=Code.LOOKUP, job=1, number=0o300) + record(4, code=Code.REMDIR, job=1)
@@ -215,7 +215,7 @@ def statuses(tries):
     made = LOGIN + record(2, job=1, number=0o200, count=1, words=[halves(0o10, 0o20)])
     made += record(4, code=Code.MAKDIR, job=1, number=0o200)
     found = tries.wire(image, made + LOGIN, preexec_fn=without_writes)
-    # After DEVICE there is no core any more that could be told.
+    # After DEVICE there is no longer a core to send.
     tries.same("a disk that can't be written", found, (DONE + DONE + answer(9) + answer(10), 4))
     missing = os.path.join(tries.folder, "MISSING.IMG")
     for client in tries.players:
@@ -229,7 +229,7 @@ def statuses(tries):
 
 
 def error_of(function, *arguments, **named):
-    """The error that a function of the client raises."""
+    """Returns the error that a function of the client raises."""
     try:
         function(*arguments, **named)
     except ServiceError as error:
@@ -238,7 +238,7 @@ def error_of(function, *arguments, **named):
 
 
 def refusals_of_clients(tries):
-    """What a client refuses before it sends anything, and what it says of a program that was killed."""
+    """Tests what a client refuses before it sends anything, and what it reports of a program that was killed."""
     image = tries.image("R.IMG")
     with Service(tries.program, image) as service:
         service.login(1, 0o10, 0o20, 0o1000)
@@ -270,7 +270,7 @@ def refusals_of_clients(tries):
         tries.same(f"bad arguments, {client}", tries.play(client, image, rows), wanted)
 
 
-# Programs that aren't filser: what they do, in words of a shell, and what a client says of it.
+# Programs that aren't filser: what they do, as shell commands, and what a client reports of it.
 IMPOSTORS = [
     ("order; answer; order; exit 5", ["ERROR ENDED", "ERROR ENDED", "STATUS 5"]),
     ("order; answer; order; kill -9 $$", ["ERROR ENDED", "ERROR ENDED", "STATUS -9"]),
@@ -286,7 +286,7 @@ answer() { printf '\\014%15s' '' | tr ' ' '\\000'; }
 
 
 def impostors(tries):
-    """What the clients say of a program that ends, or that writes something else than answers."""
+    """Tests what the clients report of a program that ends, or that writes something other than answers."""
     program = os.path.join(tries.folder, "impostor")
     for does, wanted in IMPOSTORS:
         with open(program, "w", encoding="ascii") as file:
@@ -298,7 +298,7 @@ def impostors(tries):
 
 
 def large_batches(tries):
-    """More orders and answers at once than both pipes hold."""
+    """Tests more orders and answers at once than both pipes can have."""
     deposits = [f"1 DEP {place % 0o1000:o} {place:o}" for place in range(20000)]
     examines = [f"1 EXA {place % 0o1000:o}" for place in range(20000)]
     image = tries.image("L.IMG")
@@ -317,7 +317,7 @@ def large_batches(tries):
 
 
 def told_areas(tries):
-    """The words that the answer to each call tells."""
+    """Tests the words that the answer to each call returns."""
     with Service(tries.program, tries.image("T.IMG", layout=2)) as service:
         service.login(1, 1, 2, 0o4000)
         service.deposit(1, 0o121, [0o2000])
@@ -341,12 +341,12 @@ def told_areas(tries):
                 (Code.OUT, 2, 0o400, set()), (Code.LOOKUP, 3, 0o300, set()), (Code.RESET, 0, 0, {0o121})]
         for code, channel, number, wanted in rows:
             told = {address for address, _ in service.call(1, code, channel, number).changes}
-            # Of what an IN or OUT may change all is told, and of the ring nothing is left out that is in its areas.
+            # All that an IN or OUT may change is returned, and of the ring nothing in its areas is omitted.
             tries.same(f"{code.name} tells", sorted(f"{place:o}" for place in told ^ wanted), [])
 
 
 def scripts(tries):
-    """Scripts of four jobs: both clients, `filser calls`, and the model."""
+    """Tests scripts of four jobs: both clients, `filser calls`, and the model."""
     for seed, order, form in SCRIPTS:
         blocks, (layout, moment) = [64, 96, 160][seed % 3], moment_of(seed)
         lines, wanted, _ = script(seed, order, blocks, layout, moment)
@@ -371,7 +371,7 @@ def scripts(tries):
 
 
 def with_changes(lines, wanted, machine):
-    """The replies to lines, each with the words of the job's core that the call changes by the model."""
+    """Returns the replies to lines, each with the words of the job's core that the call changes by the model."""
     replies = []
     for line, reply in zip(lines, wanted):
         job, name = int(line.split()[0], 8), line.split()[1]
@@ -386,14 +386,14 @@ def with_changes(lines, wanted, machine):
 
 
 def rows(tries):
-    """Rows of UUOs and of calls."""
+    """Tests rows of UUOs and of calls."""
     tries.play_rows("UUOs", lines_of(UUO_ROWS))
     tries.play_rows("a full disk", lines_of(FULL_DISK_ROWS))
     tries.play_rows("calls", lines_of(CALL_ROWS), layout=2)
 
 
 class Recorder(Service):
-    """A service that keeps its orders as lines of a call script, each with its answer."""
+    """A service that records its orders as lines of a call script, each with its answer."""
 
     def send(self):
         orders, self.kept = self._bytes, getattr(self, "kept", [])
@@ -413,7 +413,7 @@ class Recorder(Service):
 
 
 def uuos_by_calls(tries):
-    """The orders of the rows of UUOs, played by `filser calls`: the same answers and the same image."""
+    """Tests the orders of the rows of UUOs, played by `filser calls`: the same answers and the same image."""
     by_wire, by_calls = tries.image("WIRE.IMG"), tries.image("CALLS.IMG")
     with Recorder(tries.program, by_wire) as service:
         player = Player(service)
@@ -431,7 +431,7 @@ def uuos_by_calls(tries):
 
 
 def shown_use(tries):
-    """The use that filser.h shows."""
+    """Tests the use that filser.h shows."""
     if "c" not in tries.players:
         return
     image = tries.image("USE.IMG")

@@ -1,5 +1,5 @@
-/* Plays lines by the client in C, as clients_player.py does by the client in Python; the head of that file says what
-   the lines are.
+/* Plays lines by the client in C, as clients_player.py does by the client in Python; the head of that file describes
+   the lines.
 
    usage: clients_player PROGRAM IMAGE FORM */
 #include "filser.h"
@@ -95,7 +95,7 @@ static enum filser_error add(const struct line *line) {
     return FILSER_BAD_ARGUMENT;
 }
 
-/* Prints the answer to the order of a line, and follows it in the copy of a core. */
+/* Prints the answer to the order of a line, and repeats its changes in the copy of a core. */
 static void print_reply(const struct line *line, const struct filser_answer *answer) {
     struct core *core = &cores[line->job];
     if (answer->kind == FILSER_DONE && strcmp(line->name, "LOGIN") == 0) {
@@ -113,7 +113,7 @@ static void print_reply(const struct line *line, const struct filser_answer *ans
         print_answer(answer->kind, answer->value);
 }
 
-/* Prints which words of a core have changed, and which were told otherwise. */
+/* Prints which words of a core have changed, and which the answer returned wrongly. */
 static enum filser_error print_changes(unsigned job, const struct filser_change *told, size_t count) {
     struct filser_answer answer;
     struct core *core = &cores[job];

@@ -5,7 +5,7 @@ usage: clients_player.py PROGRAM IMAGE FORM
 
 A line of a call script is answered as `filser calls` answers it. After a call the whole core of the job is examined:
 its words that have changed follow, each as ADDRESS=WORD, and UNTOLD or MISTOLD with an address if the answer to the
-call didn't tell such a word as it is. Numbers are octal, except in AT, ROOM and BATCH. Other lines:
+call didn't return such a word as it is. Numbers are octal, except in AT, ROOM and BATCH. Other lines:
 
     AT DATE MINUTE      the moment of the calls that follow
     ROOM                the blocks that are left
@@ -32,17 +32,17 @@ BLOCK_ALONE = {"MAKDIR", "REMDIR", "QUOTA"}
 
 
 def text_of(kind, value):
-    """An answer as a line of `filser calls`."""
+    """Returns an answer as a line of `filser calls`."""
     return TEXTS.get(kind) or FORMATS[kind].format(value)
 
 
 def changes_of(before, after):
-    """The words that have changed, each with its address."""
+    """Returns the words that have changed, each with its address."""
     return [f"{place:o}={new:012o}" for place, (old, new) in enumerate(zip(before, after)) if old != new]
 
 
 class Player:
-    """What a run of lines has come to."""
+    """The state of a run of lines."""
 
     def __init__(self, service):
         self.service = service
@@ -66,7 +66,7 @@ class Player:
         return self.service.add_call(job, Code[name], channel, number, *self.moment)
 
     def text(self, fields, answer):
-        """The answer to the order of a line, as `filser calls` has it."""
+        """Returns the answer to the order of a line, as `filser calls` has it."""
         job, name = int(fields[0], 8), fields[1]
         if name == "LOGIN" and answer.kind == Kind.DONE:
             self.memory = [0] * int(fields[3], 8)
@@ -79,7 +79,7 @@ class Player:
         return text_of(answer.kind, answer.value)
 
     def order(self, fields):
-        """One line of a call script."""
+        """Plays one line of a call script."""
         self.add(fields)
         answer = self.service.send()[0]
         replies = [self.text(fields, answer)]
@@ -94,7 +94,7 @@ class Player:
         return " ".join(replies)
 
     def batch(self, lines):
-        """Lines whose orders are sent at once."""
+        """Plays lines whose orders are sent at once."""
         for fields in lines:
             self.service.add_room() if fields == ["ROOM"] else self.add(fields)
         answers = self.service.send()
@@ -102,7 +102,7 @@ class Player:
                          for fields, answer in zip(lines, answers))
 
     def uuo(self, job, word, address, pc):
-        """A UUO of the machine."""
+        """Plays a UUO of the machine."""
         before = self.accumulators + self.memory[16:]
         hint, self.hint = self.hint, None
         outcome = self.service.uuo(job, word, address, self.accumulators, self.memory, pc, *self.moment, changed=hint)
@@ -117,7 +117,7 @@ class Player:
         (self.accumulators if address < 16 else self.memory)[address] = word
 
     def line(self, fields, rest):
-        """What a line is answered; None if it isn't."""
+        """Plays a line, and returns its answer, or None if it has none."""
         if fields[0] == "AT":
             self.moment = int(fields[1]), int(fields[2])
         elif fields[0] == "ROOM":

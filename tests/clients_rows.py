@@ -1,4 +1,4 @@
-"""Rows for the clients of `filser wire`: lines, and what they are answered by the description of the calls.
+"""Rows for the clients of `filser wire`: lines, and their answers by the description of the calls.
 
 A row is a line of clients_player.py and, after a bar, its answer. A UUO is written as in MACRO-10, as in `IN 2,400`, or
 with the number of the word and its address after it; it is one of job 1. Numbers are octal.
@@ -267,12 +267,12 @@ CALL_ROWS = """
 
 
 def word_of(operation, channel, address):
-    """The word of a UUO."""
+    """Returns the word of a UUO."""
     return OPERATIONS[operation] << 27 | channel << 23 | address
 
 
 def line_of(text):
-    """A line of the player: a UUO as its word, its address and the place of it."""
+    """Returns a line of the player: a UUO as its word, its address and its place."""
     found = re.fullmatch(r"([A-Z]+) (\d+),(\d+)(?: (\d+) (\d+))?", text)
     if not found:
         return text
@@ -282,7 +282,7 @@ def line_of(text):
 
 
 def lines_of(rows):
-    """The lines of rows, each with its answer; none for a line that has no answer."""
+    """Returns the lines of rows, each with its answer; none for a line that has no answer."""
     pairs = []
     for row in rows.split("\n"):
         if row.strip() and not row.strip().startswith("#"):

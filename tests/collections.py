@@ -3,7 +3,7 @@
 
 usage: tests/collections.py PROGRAM
 
-Prints a line for each thing that is not as it should be, and one line at the end.
+Prints a line for each failed check, and one line at the end.
 """
 
 import os
@@ -18,7 +18,7 @@ FILES = 1000
 
 
 class Tries:
-    """Runs of the program in a folder of their own."""
+    """Runs of the program in their own folder."""
 
     def __init__(self, program, folder):
         self.program = program
@@ -45,14 +45,14 @@ class Tries:
         return subprocess.run([self.program, *words], input=given, capture_output=True, cwd=self.folder)
 
     def so(self, name, is_so):
-        """Counts a thing that is to be so."""
+        """Counts a check that must hold."""
         self.count += 1
         if not is_so:
             self.failed += 1
             print(f"collections: {name}")
 
     def expect(self, words, given, wanted, status):
-        """A run prints this, and ends so. Answers what it tells on the standard error."""
+        """Checks that a run prints this, and has this status. Returns what it reports on the standard error."""
         ran = self.run(words, given)
         is_so = ran.stdout == wanted and ran.returncode == status
         self.so(f"{' '.join(words)[:80]}: {ran.stdout[:200]}, status {ran.returncode}", is_so)
@@ -69,7 +69,7 @@ def lines(*parts):
 
 
 def four_commands(tries):
-    """The first session of a collection: init, import, check, export. The import makes the directory."""
+    """Tests the first session of a collection: init, import, check, export. The import makes the directory."""
     tries.write("a/foo.txt", b"HELLO\r\n")
     tries.write("a/data.bin", bytes(range(256)))
     tries.write("a/empty", b"")
@@ -85,7 +85,7 @@ def four_commands(tries):
                  lines("out/10,20/DATA.BIN: bytes OK", "out/10,20/EMPTY: text OK", "out/10,20/FOO.TXT: text OK"), 0)
     for name, path in (("DATA.BIN", "a/data.bin"), ("EMPTY", "a/empty"), ("FOO.TXT", "a/foo.txt")):
         tries.so(f"{name} comes back", tries.read(f"out/10,20/{name}") == tries.read(path))
-    # Nothing that is there is written over, on the host or on the image.
+    # Nothing that exists is overwritten, on the host or on the image.
     told = tries.expect(["export", "A.IMG", "out"], b"",
                         lines(*(f"out/10,20/{n}: ?Can't write" for n in ("DATA.BIN", "EMPTY", "FOO.TXT"))), 1)
     tries.so("it tells why", told.count(b"File exists") == 3)
@@ -102,7 +102,7 @@ def four_commands(tries):
 
 
 def names(tries):
-    """Which name a file gets, and what is refused."""
+    """Tests which name a file gets, and what is refused."""
     tries.image("N.IMG")
     given = [f"long/{name}" for name in ("Makefile", "a.html", "read me.txt", "readme2.txt", ".profile", "x.tar.gz",
                                          "---", "foo.")]
@@ -119,7 +119,7 @@ def names(tries):
               "long/readme2.txt: README.TXT ?File name already exists", "long/.profile: PROFIL OK",
               "long/x.tar.gz: XTAR.GZ OK", "long/---: ?Bad name", "long/foo.: FOO. OK"), 1)
     tries.so("both are named", told == b"filser: long/readme2.txt: long/read me.txt has the same name\n")
-    # A path that can't be read, or that would forge a line, stops no other.
+    # A path that can't be read, or that would forge a line, doesn't stop the others.
     tries.write("odd/a\nb", b"X")
     told = tries.expect(["import", "N.IMG", "10,22", "odd/none", "odd", "odd/a\nb", "a/foo.txt"], b"",
                         lines("odd/none: ?Can't read", "odd: ?Can't read", "odd/a?b: ?Bad name",
@@ -128,7 +128,7 @@ def names(tries):
 
 
 def encodings(tries):
-    """What bytes are taken for, and what comes out."""
+    """Tests how bytes are interpreted, and what comes out."""
     tries.image("E.IMG")
     tries.write("e/t1.txt", b"HELLA")  # five characters that are also the bytes of a word
     for length in range(10):
@@ -154,7 +154,7 @@ def encodings(tries):
     tries.expect(["export", "E.IMG", "e-words", "10,22", "--words"], b"", lines("e-words/10,22/T1.TXT: words OK"), 0)
     tries.so("its two words", tries.read("e-words/10,22/T1.TXT") ==
              (0x48454C4C0).to_bytes(8, "big") + (0x410000001).to_bytes(8, "big"))
-    # A text that was copied has mode 17, and a text with bit 35 set has no bytes that bring it back but words.
+    # A text that was copied has mode 17, and a text with bit 35 set can be restored only from words.
     tries.expect(["run", "E.IMG"], lines("LOGIN [10,20]", "COPY C.TXT=T1.TXT"), lines("Job 1 [10,20]", "OK"), 0)
     ran = tries.run(["export", "E.IMG", "e-copy", "10,20"])
     tries.so("a copy has mode 17, but no bytes make its word, so it is text", b"C.TXT: text OK" in ran.stdout)
@@ -164,7 +164,7 @@ def encodings(tries):
 
 
 def dates(tries):
-    """Dates come along, in the range of the volume."""
+    """Tests that dates are stored, in the range of the volume."""
     tries.image("D.IMG")
     tries.image("D2.IMG", 4096, "--layout", "2")
     for name, when in (("d/old.txt", 12_000_000), ("d/new.txt", 1_700_000_000)):
@@ -188,8 +188,8 @@ def dates(tries):
 
 
 def odd_names(tries):
-    """Names of a volume that no path may have: a file of the host gets none that leads elsewhere. All files except the
-    first have no words and mode 17."""
+    """Tests names of a volume that no path may have: no file of the host gets one that leads elsewhere. All files
+    except the first have no words and mode 17."""
     tries.image("O.IMG")
     tries.expect(["import", "O.IMG", "10,20", "a/foo.txt"], b"", lines("a/foo.txt: FOO.TXT OK"), 0)
     for name, ext in ((0o160000000000, 0), (0o161600000000, 0), (0o170000000000, 0o160000), (0o410041000000, 0o410000)):
@@ -208,7 +208,7 @@ def odd_names(tries):
 
 
 def rooms(tries):
-    """Files that find no room stop no other, and folders that can't be made are told."""
+    """Tests that files that find no room don't stop the others, and that folders that can't be made are reported."""
     tries.image("R.IMG", 64)
     tries.write("r/big.bin", bytes([200] * 60_000))
     tries.write("r/huge.bin", bytes([200] * 9_000_000))
@@ -233,7 +233,7 @@ def rooms(tries):
 
 
 def arguments(tries):
-    """Wrong words open nothing."""
+    """Tests that wrong words open nothing."""
     before = tries.read("A.IMG")
     for words in (["import", "A.IMG", "10,20"], ["import", "A.IMG", "10", "a/foo.txt"], ["export", "A.IMG"],
                   ["import", "A.IMG", "10,20", "--text", "--words", "a/foo.txt"],
@@ -246,7 +246,7 @@ def arguments(tries):
 
 
 def thousand(tries):
-    """A thousand files in and out, byte for byte, in one run each."""
+    """Tests a thousand files in and out, byte for byte, in one run each."""
     chance = random.Random(1964)
     wanted = {}
     for n in range(FILES):
@@ -267,7 +267,7 @@ def thousand(tries):
 
 
 def kills(tries, paths, wanted):
-    """An import that is stopped in the middle: what was answered is there, and another run brings the rest."""
+    """Tests an import that is stopped in the middle: what was answered is there, and another run stores the rest."""
     for part in range(3):
         tries.image("K.IMG", 16384)
         words = [tries.program, "import", "K.IMG", "10,20", *paths]

@@ -1,6 +1,6 @@
 #!/bin/sh
-# Runs the two emulators of examples/, each on a new image, and compares what they print. Without a C compiler only the one
-# in Python is run. If SIMH is installed, its PDP-10 runs the programs of examples/simh.
+# Runs the two emulators of examples/, each on a new image, and compares what they print. Without a C compiler only the
+# one in Python is run. If SIMH is installed, its PDP-10 runs the programs of examples/simh.
 #
 # usage: tests/example_emulators.sh PROGRAM
 set -eu

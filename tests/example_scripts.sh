@@ -1,6 +1,6 @@
 #!/bin/sh
-# Runs the call scripts and sessions of examples/, each on a new image of 64 blocks, and compares what they print, and
-# their exit status, with what is stored beside them.
+# Runs the call scripts and sessions of examples/, each on a new image of 64 blocks, and compares their output and exit
+# status with what is stored with them.
 #
 # usage: tests/example_scripts.sh PROGRAM
 set -eu
@@ -26,7 +26,7 @@ new() {
     fi
 }
 
-# try NAME COMMAND KIND STATUS: the input NAME.KIND, served by `filser COMMAND`, has to end with this status.
+# try NAME COMMAND KIND STATUS: the input NAME.KIND, served by `filser COMMAND`, must end with this status.
 try() {
     status=0 well=ok
     "$program" "$2" "$image" <"$examples/$1.$3" >"$room/out" || status=$?

@@ -1,15 +1,14 @@
 #!/usr/bin/env python3
-"""Tests what the program tells if the host fails it, and that nothing lands in a file that its words name.
+"""Tests what the program reports if the host fails, and that nothing lands in a file that its words name.
 
 usage: tests/host_faults.py PROGRAM
 
-A run that ends with status 4 tells why: an output that is full, a root directory that can't be opened, want of memory,
-a lock that the system doesn't give, a sync that fails, an image whose length changes. Words that are refused or ask for
-help print nothing into a file that one of them names. `convert` hands on permission bits, a failed `init` removes its
-own file alone, and names are told with their control characters escaped. An input without an end is refused, and 512
-KiB of stack are enough. Some calls are made to fail by strace; without
-it, or if it may not trace, those cases are SKIPPED, which is said. Prints a line for each thing that is not as it
-should be, and one line at the end.
+A run that ends with status 4 reports why: an output that is full, a root directory that can't be opened, lack of
+memory, a lock that the system doesn't give, a sync that fails, an image whose length changes. Words that are refused or
+ask for help print nothing into a file that one of them names. `convert` copies permission bits, a failed `init` removes
+only its own file, and names are reported with their control characters escaped. An endless input is refused, and 512
+KiB of stack are enough. Some calls are made to fail by strace; without it, or if it may not trace, those cases are
+SKIPPED, and a line says so. Prints a line for each failed check, and one line at the end.
 """
 
 import fcntl
@@ -41,12 +40,12 @@ BROKEN = "Input/output error (os error 5)"
 
 
 def tells(name, *reasons):
-    """What is told of a file, or of another part of the host: a line for each reason."""
+    """Returns what is reported of a file, or of another part of the host: a line for each reason."""
     return "".join(f"filser: {name}: {reason}\n" for reason in reasons).encode()
 
 
 class Tries:
-    """Runs of the program, each case in a folder of its own, which has an image A.IMG with a file on it."""
+    """Runs of the program, each case in its own folder, which has an image A.IMG with a file on it."""
 
     def __init__(self, program):
         self.program = program
@@ -56,7 +55,7 @@ class Tries:
         self.may_trace = may_trace()
 
     def enter(self, folder):
-        """From now on runs are in this folder, which is new."""
+        """Makes runs use this folder, which is new."""
         os.mkdir(folder)
         self.folder = folder
         self.run(["init", "A.IMG", "64"])
@@ -75,35 +74,35 @@ class Tries:
             file.write(data)
 
     def mode(self, name):
-        """The permission bits of a file."""
+        """Returns the permission bits of a file."""
         return os.stat(self.path(name)).st_mode & 0o7777
 
     def judge(self, good, what):
-        """Counts, and says what is not as it should be."""
+        """Counts a check, and reports what is wrong."""
         self.count += 1
         if not good:
             self.failed += 1
             print(f"{os.path.basename(self.folder)}: {what}")
 
     def skip(self, what):
-        """Says what can't be tried here."""
+        """Reports what can't be tested here."""
         print(f"{os.path.basename(self.folder)}: SKIPPED, {what}")
 
     def words(self, words, faults, log):
-        """The words of a run in which calls fail as strace says it, with a log of what it traced."""
+        """Returns the words of a run in which calls fail as strace is told, with a log of what it traced."""
         if not faults:
             return [self.program, *words]
         return ["strace", "-f", "-o", self.path(log), *faults, self.program, *words]
 
     def run(self, words, data=b"", faults=(), log="LOG", **how):
-        """What a run prints and tells, and its status. A stream that leads to a file is empty here."""
+        """Returns what a run prints and reports, and its status. A stream that leads to a file is empty here."""
         streams = {"stdout": subprocess.PIPE, "stderr": subprocess.PIPE, **how}
         done = subprocess.run(self.words(words, faults, log), input=data, cwd=self.folder, check=False, timeout=LIMIT,
                               **streams)
         return done.stdout or b"", done.stderr or b"", done.returncode
 
     def expect(self, words, printed, told, status, **how):
-        """A run prints this, tells this, and has this status; None is anything."""
+        """Checks that a run prints this, reports this, and has this status; None is anything."""
         out, err, code = self.run(words, **how)
         good = code == status and printed in (None, out) and told in (None, err)
         self.judge(good, f"{words}: status {code} and not {status}; {out!r} and not {printed!r}; tells {err!r} and not "
@@ -111,36 +110,36 @@ class Tries:
         return out, err
 
     def expect_kept(self, name, words, printed, told, status, **how):
-        """The same, and a file has the bytes that it had."""
+        """Checks the same, and that a file still has its bytes."""
         was = self.read(name)
         out, err = self.expect(words, printed, told, status, **how)
         self.judge(self.read(name) == was, f"{words}: {name} has other bytes")
         return out, err
 
     def appending(self, name):
-        """A stream that leads to the end of a file."""
+        """Returns a stream that leads to the end of a file."""
         return open(self.path(name), "ab")
 
 
 def limits(what, bytes_allowed):
-    """What gives a child this limit."""
+    """Returns what gives a child this limit."""
     return lambda: resource.setrlimit(what, (bytes_allowed, bytes_allowed))
 
 
 def may_trace():
-    """Whether strace is installed and may trace."""
+    """Returns whether strace is installed and may trace."""
     if not shutil.which("strace"):
         return False
     return subprocess.run(["strace", "-o", "/dev/null", "true"], capture_output=True, check=False).returncode == 0
 
 
 def failing(call, error, when="1+"):
-    """What strace takes to make a call fail."""
+    """Returns what strace needs to make a call fail."""
     return ["-e", f"trace={call}", "-e", f"inject={call}:error={error}:when={when}"]
 
 
 def an_output_that_is_full(tries):
-    """An answer that can't be written is told, and what was done stays."""
+    """Tests that an answer that can't be written is reported, and that what was done stays."""
     told = tells("standard output", FULL)
     for words, data in [(["list", "A.IMG"], b""), (["list", "A.IMG", "7,7"], b""), (["check", "A.IMG"], b""),
                         (["get", "A.IMG", "10,20", "HELLO.TXT"], b""), (["run", "A.IMG"], LOGIN),
@@ -155,13 +154,13 @@ def an_output_that_is_full(tries):
     with open("/dev/full", "wb") as full, tries.appending("A.IMG") as errors:
         for words in (["--help", "A.IMG"], ["run", "A.IMG", "--help"]):
             tries.expect_kept("A.IMG", words, None, None, 0, stdout=full, stderr=errors)
-    # where nothing is printed, nothing fails
+    # if nothing is printed, nothing fails
     with open("/dev/full", "wb") as full:
         tries.expect(["init", "B.IMG", "64"], None, b"", 0, stdout=full)
 
 
 def a_root_that_is_not_opened(tries):
-    """The root directory holds the places of missing streams: without it there is no run."""
+    """Tests that there is no run without the root directory, which takes the places of missing streams."""
     if not tries.may_trace:
         tries.skip("there is no strace that may trace")
         return
@@ -174,7 +173,8 @@ def a_root_that_is_not_opened(tries):
 
 
 def too_little_memory(tries):
-    """Whatever memory a run has, it tells why it ends with status 4, and where it has enough it tells nothing."""
+    """Tests that a run reports why it ends with status 4, whatever memory it has, and reports nothing if it has
+    enough."""
     want = b"filser: out of memory\n"
     tales = {}
     for words, data in [(["run", "A.IMG"], LOGIN), ([], LOGIN), (["get", "A.IMG", "10,20", "HELLO.TXT"], b"")]:
@@ -197,7 +197,8 @@ def too_little_memory(tries):
 
 
 def words_that_are_refused(tries):
-    """Wrong words print nothing into a file that one of them names, and else they are told as ever."""
+    """Tests that wrong words print nothing into a file that one of them names, and that they are otherwise reported as
+    usual."""
     os.symlink("A.IMG", tries.path("LINK.IMG"))
     os.link(tries.path("A.IMG"), tries.path("OTHER.IMG"))
     for words in [["run", "A.IMG", "--date", "99999"], ["run", "A.IMG", "--date", "x"], ["get", "A.IMG", "9,9", "FOO"],
@@ -215,7 +216,7 @@ def words_that_are_refused(tries):
 
 
 def words_that_ask_for_help(tries):
-    """So it is with help and the version."""
+    """Tests the same with help and the version."""
     for words in [["--help", "A.IMG"], ["run", "A.IMG", "--help"], ["--version", "A.IMG"], ["run", "--help", "A.IMG"]]:
         shown, _ = tries.expect(words, None, b"", 0)
         tries.judge(shown != b"", f"{words}: nothing is shown")
@@ -235,7 +236,7 @@ def words_that_ask_for_help(tries):
 
 
 def a_new_name_that_a_stream_leads_to(tries):
-    """`convert` prints nothing into the file that has the new name."""
+    """Tests that `convert` prints nothing into the file that has the new name."""
     shutil.copy(tries.path("A.IMG"), tries.path("NEW.IMG"))
     words = ["convert", "A.IMG", "NEW.IMG"]
     tries.expect_kept("NEW.IMG", words, b"?Image exists\n", b"", 3)
@@ -251,20 +252,20 @@ def a_new_name_that_a_stream_leads_to(tries):
 
 
 def a_sync_that_fails(tries):
-    """After a fault of a device the reason is told, and what to do before the next start."""
+    """Tests that after a device fault the reason is reported, and what to do before the next start."""
     if not tries.may_trace:
         tries.skip("there is no strace that may trace")
         return
     told = tells("A.IMG", BROKEN, HINT)
-    # a file that can't be opened is no device that failed
+    # a file that can't be opened isn't a device that failed
     tries.expect(["check", "NONE.IMG"], FAULT, tells("NONE.IMG", "No such file or directory (os error 2)"), 4)
-    # every start syncs once, so that it goes on from what is on the disk
+    # every start syncs once, so that it continues from what is on the disk
     first = failing("fdatasync", "EIO")
     for words in (["get", "A.IMG", "10,20", "HELLO.TXT"], ["check", "A.IMG"], ["convert", "A.IMG", "N.IMG"],
                   ["migrate", "A.IMG"], ["run", "A.IMG"]):
         tries.expect_kept("A.IMG", words, FAULT, told, 4, data=LOGIN, faults=first)
     tries.judge(not os.path.lexists(tries.path("N.IMG")), "N.IMG is there")
-    # what asks for no other sync meets no fault after it
+    # what makes no other sync meets no fault after it
     later = failing("fdatasync", "EIO", "2+")
     tries.expect(["get", "A.IMG", "10,20", "HELLO.TXT"], HELLO, b"", 0, faults=later)
     tries.expect(["run", "A.IMG"], JOB + FAULT, told, 4, data=LOGIN + MAKDIR, faults=later)
@@ -272,7 +273,7 @@ def a_sync_that_fails(tries):
 
 
 def an_image_whose_length_changes(tries):
-    """That is told as what it is."""
+    """Tests that such a change is reported as what it is."""
     image = tries.read("A.IMG")
     for changed in (image + b"\0", image[:1024]):
         tries.write("A.IMG", image)
@@ -289,7 +290,7 @@ def an_image_whose_length_changes(tries):
 
 
 def a_lock_that_is_not_given(tries):
-    """A run wants a lock, and tries an interrupted call again."""
+    """Tests that a run needs a lock, and retries an interrupted call."""
     with open(tries.path("A.IMG"), "rb") as other:
         fcntl.flock(other, fcntl.LOCK_EX)
         told = tells("A.IMG", "in use by another process")
@@ -310,7 +311,7 @@ def a_lock_that_is_not_given(tries):
 
 
 def names_with_control_characters(tries):
-    """They are told escaped, in the names of files, in arguments, and in what is unknown."""
+    """Tests that they are reported escaped: in the names of files, in arguments, and in what is unknown."""
     missing = "No such file or directory (os error 2)"
     for name, shown in [("A\x1b[31m\n.IMG", "A\\u{1b}[31m\\n.IMG"), ("\t\r\x7f", "\\t\\r\\u{7f}"),
                         ("\u009b31m", "\\u{9b}31m"), ("Ä '\\.IMG", "Ä '\\.IMG")]:
@@ -322,7 +323,8 @@ def names_with_control_characters(tries):
 
 
 def permission_bits(tries):
-    """A converted image has those of the image, whatever the mask; a new one those that the mask leaves."""
+    """Tests that a converted image has those of the image, whatever the mask, and a new one those that the mask
+    leaves."""
     for mask in (0o000, 0o022, 0o077):
         for mode in (0o600, 0o640, 0o644, 0o666, 0o660):
             os.chmod(tries.path("A.IMG"), mode)
@@ -342,7 +344,7 @@ def permission_bits(tries):
 
 
 def a_file_that_came_in_its_place(tries):
-    """A failed `init` removes the file that it made, and no other that has its name meanwhile."""
+    """Tests that a failed `init` removes the file that it made, and no other that has its name meanwhile."""
     if not tries.may_trace:
         tries.skip("there is no strace that may trace")
         return
@@ -364,8 +366,8 @@ def a_file_that_came_in_its_place(tries):
 
 
 def an_input_without_an_end(tries):
-    """An input of `put` is read only as far as a file can hold it, or up to a byte that isn't text. A list that comes
-    to have more than 16 MiB takes places for 32 MiB, half of which it never touches."""
+    """Tests that an input of `put` is read only up to the length of a file, or up to a byte that isn't text. A list
+    that grows beyond 16 MiB takes places for 32 MiB, half of which it never touches."""
     inputs = [
         (["yes"], [], 1 << 25, b"?No room\n", "more than 10485760 bytes, which no file can hold"),
         (["yes"], ["--words"], 1 << 26, b"?No room\n", "more than 16777216 bytes, which no file can hold"),
@@ -385,7 +387,7 @@ def an_input_without_an_end(tries):
 
 
 def a_small_stack(tries):
-    """512 KiB of stack are enough for every command."""
+    """Tests that 512 KiB of stack are enough for every command."""
     small = {"preexec_fn": limits(resource.RLIMIT_STACK, STACK)}
     tries.expect(["init", "B.IMG", "512"], b"", b"", 0, **small)
     tries.expect(["run", "B.IMG"], b"Job 1 [10,20]\nOK\n", b"", 0, data=MADE, **small)

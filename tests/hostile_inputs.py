@@ -1,18 +1,17 @@
 #!/usr/bin/env python3
-"""Serves images that were spoiled on purpose, and inputs that make no sense.
+"""Serves images that were spoiled on purpose, and random inputs.
 
 usage: tests/hostile_inputs.py PROGRAM [COUNT]
 
-Spoiled images: an image of a few files gets one to three of its words changed, in places that mean something, in form 1
+Spoiled images: an image of a few files gets one to three of its words changed, in places that have a meaning, in form 1
 and in form 2. Each start ends, and says that the image is a volume, or why not. A refused image keeps its bytes, except
-for a commit that recovery finishes. A served image has each file read, is filled to its last block and emptied, and is
-still a volume then.
+for a commit that recovery finishes. Each file of a served image is read; the image is filled to its last block and
+emptied, and is then still a volume.
 
-Inputs: random bytes, and lines that were cut and put together anew, on images of both layouts in turn. Each line is
-answered, and a line that means nothing changes nothing.
+Inputs: random bytes, and lines that were cut and joined at random, on images of both layouts in turn. Each line is
+answered, and a line without a meaning changes nothing.
 
-COUNT images and COUNT inputs (200 if not given), the same in every run. The last line says how many were as they should
-be.
+COUNT images and COUNT inputs (200 if not given), the same in every run. The last line says how many passed.
 """
 
 import os
@@ -35,7 +34,7 @@ LETTERS = "ABCDEFGHIJKLMNOPQRSTUVWXYZ"
 
 
 class Program:
-    """Runs of the program in a folder of its own."""
+    """Runs of the program in their own folder."""
 
     def __init__(self, program, folder):
         self.program = program
@@ -44,7 +43,7 @@ class Program:
         self.failed = 0
 
     def run(self, words, data=b""):
-        """What a run prints, and its status."""
+        """Returns what a run prints, and its status."""
         done = subprocess.run(
             [self.program, *words], input=data, capture_output=True, cwd=self.folder, check=False, timeout=LIMIT
         )
@@ -62,7 +61,7 @@ class Program:
             file.write(data)
 
     def expect(self, good, what):
-        """Counts, and says what is not as it should be."""
+        """Counts a check, and reports what is wrong."""
         self.count += 1
         if not good:
             self.failed += 1
@@ -71,20 +70,20 @@ class Program:
 
 
 def names(count):
-    """So many names of files that the images don't have."""
+    """Returns this many names of files that the images don't have."""
     return [f"Z{LETTERS[n // 26]}{LETTERS[n % 26]}" for n in range(count)]
 
 
 def taken(program):
-    """The bytes of the image that was made, which is removed."""
+    """Returns the bytes of the image that was made, which is removed."""
     image = program.read("G.IMG")
     os.remove(program.path("G.IMG"))
     return image
 
 
 def small_image(program, layout):
-    """64 blocks with three directories and seven files, one of them without words. In layout 2 two have late dates, and
-    two directories have quotas."""
+    """Returns 64 blocks with three directories and seven files, one of them without words. In layout 2 two have late
+    dates, and two directories have quotas."""
     late = ["--date", "4096"] if layout == 2 else []
     program.run(["init", "G.IMG", "64", "--layout", str(layout)])
     program.run(["run", "G.IMG"], b"LOGIN [10,20]\nMAKDIR [10,20]\nMAKDIR [11,5]<377>\nMAKDIR [11,7]\n")
@@ -98,7 +97,7 @@ def small_image(program, layout):
 
 
 def large_image(program):
-    """512 blocks with a file that lies in so many pieces that its pointers don't fit its prime block."""
+    """Returns 512 blocks with a file in so many pieces that its pointers don't fit its prime block."""
     program.run(["init", "G.IMG", "512"])
     lines = ["LOGIN [10,20]", "MAKDIR [10,20]"]
     program.run(["run", "G.IMG"], "\n".join(lines + [""]).encode())
@@ -111,8 +110,8 @@ def large_image(program):
 
 
 def structure(image):
-    """The places of an image whose words mean something: block and place of each word that isn't zero, but for blocks
-    that are full of text, and the words behind them."""
+    """Returns the places of an image whose words have a meaning: block and place of each word that isn't zero, except
+    in blocks that are full of text, and the words after them."""
     places = []
     for block in range(1, len(image) // BLOCK):
         words = [image[block * BLOCK + 8 * place : block * BLOCK + 8 * place + 8] for place in range(128)]
@@ -124,7 +123,7 @@ def structure(image):
 
 
 def spoiled(image, places, chance):
-    """A copy of an image with one to three words changed, or a block damaged."""
+    """Returns a copy of an image with one to three words changed, or a block damaged."""
     image = bytearray(image)
     if chance.random() < 0.1:
         for place in range(128):
@@ -153,7 +152,7 @@ def spoiled(image, places, chance):
 
 
 def packed(image):
-    """The same image in form 2, or nothing where a block of it is damaged, which form 2 has no bytes for."""
+    """Returns the same image in form 2, or nothing if a block of it is damaged, for which form 2 has no bytes."""
     words = [int.from_bytes(image[at : at + 8], "big") for at in range(0, len(image), 8)]
     if any(word >> 36 for word in words):
         return None
@@ -161,12 +160,12 @@ def packed(image):
 
 
 def is_open(image):
-    """Whether the gate is open, so that a start may end a change."""
+    """Returns whether the gate is open, so that a start may finish a commit."""
     return image[3 * BLOCK : 4 * BLOCK] == (0o252525252525).to_bytes(8, "big") * 128
 
 
 def lists(text):
-    """Each directory that is listed, with the names of its files that a line can spell."""
+    """Returns each directory that is listed, with the names of its files that a line can spell."""
     found, files = [], []
     for line in text.split("\n"):
         owner = OWNER.match(line)
@@ -180,7 +179,7 @@ def lists(text):
 
 
 def use(program, what, blocks):
-    """Reads each file of an image that is served, fills it, empties it, and checks it."""
+    """Reads each file of an image that is served, fills the image, empties it, and checks it."""
     text, status = program.run(["list", "T.IMG"])
     if not program.expect(status == 0, f"{what}: list has status {status}"):
         return
@@ -204,7 +203,7 @@ def use(program, what, blocks):
 
 
 def same_in_form_2(program, what, image, outcome):
-    """Starts an image in form 2 as well: it comes out the same, and the same is left of it."""
+    """Starts an image in form 2 as well: the result is the same, and so is what is left of it."""
     data = packed(image)
     if data:
         program.write("P.IMG", data)
@@ -213,7 +212,7 @@ def same_in_form_2(program, what, image, outcome):
 
 
 def images(program, count):
-    """Spoiled images: served, or refused."""
+    """Tests spoiled images: they are served, or refused."""
     served = 0
     kinds = [(small_image(program, 1), 64), (small_image(program, 2), 64), (large_image(program), 512)]
     kinds = [(image, blocks, structure(image)) for image, blocks in kinds]
@@ -251,7 +250,7 @@ CALLS = [
 
 
 def spliced(lines, chance):
-    """Lines that were cut and put together anew, in between some as they were."""
+    """Returns lines that were cut and joined at random, with some unchanged lines in between."""
     made = []
     for _ in range(chance.randrange(1, 12)):
         one, other = chance.choice(lines), chance.choice(lines)
@@ -261,20 +260,21 @@ def spliced(lines, chance):
 
 
 def noise(chance):
-    """Bytes of all kinds, and lines of 255 and of 256 of them."""
+    """Returns bytes of all kinds, and lines of 255 and of 256 of them."""
     data = bytes(chance.choice([10, 32, chance.randrange(256)]) for _ in range(chance.randrange(400)))
     return data + chance.choice([b"", b"\n" + b"X" * 255 + b"\n", b"\n" + b"X" * 256 + b"\r\n"])
 
 
 def said(data):
-    """How many lines there are: an empty one is none, and a carriage return before a line feed is dropped."""
+    """Returns how many lines there are: an empty one isn't a line, and a carriage return before a line feed is
+    dropped."""
     lines = data.split(b"\n")
     lines = [line[:-1] if line.endswith(b"\r") and number + 1 < len(lines) else line for number, line in enumerate(lines)]
     return sum(1 for line in lines if line)
 
 
 def inputs(program, count):
-    """Inputs that make no sense, as sessions and as call scripts."""
+    """Tests random inputs, as sessions and as call scripts."""
     kinds = [small_image(program, 1), small_image(program, 2)]
     for number in range(count):
         chance, image = random.Random(1000000 + number), kinds[number % 2]

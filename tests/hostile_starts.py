@@ -8,13 +8,13 @@ Each shape is made at four sizes, each twice the one before, up to images of LAR
 - one prime block: a directory with a block for each block of the disk, all of whose names lead to one prime block;
 - a loop: the same chain, whose last block leads back to its first;
 - twin names: the same chain, whose last name is that of the first block;
-- one directory: a master directory as long, all of whose entries lead to one directory;
+- one directory: a master directory of the same length, all of whose entries lead to one directory;
 - short runs: a file of a quarter of the disk's blocks, no two of them neighbours; a start, and a get.
 
 A refusal has to be the one that the image deserves. A start on n blocks takes at most 7,000 * n * log n instructions
 (log to base 2; a block has up to 42 entries), and twice the size at most 2.4 times as many. They are counted by
-valgrind, which gives the same number in each run; without valgrind the sizes are tried alone. The last line says how
-many were as they should be.
+valgrind, which gives the same number in each run; without valgrind only the sizes are tried. The last line says how
+many passed.
 """
 
 import math
@@ -60,12 +60,12 @@ class Image:
         return int.from_bytes(self.data[at : at + 8], "big")
 
     def put(self, block, words):
-        """Gives a block these words, and zeros behind them."""
+        """Gives a block these words, and zeros after them."""
         data = b"".join(word.to_bytes(8, "big") for word in words)
         self.data[block * BLOCK : (block + 1) * BLOCK] = data.ljust(BLOCK, b"\0")
 
     def chain(self, first, entry, last_leads_to=0):
-        """Makes a chain of every block from the first on, but the last block of the disk. Gives its blocks."""
+        """Makes a chain of every block from the first, except the last block of the disk. Returns its blocks."""
         chain = [first, *range(self.directory + 1, self.blocks - 1)]
         for place, block in enumerate(chain):
             following = chain[place + 1] if place + 1 < len(chain) else last_leads_to
@@ -81,12 +81,12 @@ class Image:
 
 
 def scattered(number):
-    """A number of 18 bits for each, not in order, and none twice."""
+    """Returns a number of 18 bits for each, not in order, and none twice."""
     return (number * 7919 + 1) % (1 << 18)
 
 
 def name(number):
-    """A name for each number, not in order."""
+    """Returns a name for each number, not in order."""
     return (0o414141 + (number >> 18) << 18) + scattered(number)
 
 
@@ -124,7 +124,7 @@ def one_directory(image):
 
 
 def short_runs(image):
-    """Makes a file of a quarter of the blocks beside files of one block each. Gives what it holds."""
+    """Makes a file of a quarter of the blocks besides files of one block each. Returns its contents."""
     count = image.blocks // 4
     names = [f"F{number:04o}" for number in range(2 * count)]
     lines = ["LOGIN [10,20]"] + [f"COPY {name}=A" for name in names]
@@ -138,7 +138,7 @@ def short_runs(image):
 
 
 class Counts:
-    """What was as it should be."""
+    """Counts of checks that passed and failed."""
 
     def __init__(self):
         self.count = 0
@@ -154,14 +154,14 @@ class Counts:
             print(what)
 
     def cost(self, image, words, wanted, what):
-        """The instructions of a run, which has to print what is wanted; 0 if nothing counts them."""
+        """Returns the instructions of a run, which must print what is wanted; 0 if nothing counts them."""
         done = image.run(*words, counter=self.counter)
         self.expect(done.stdout == wanted, f"{what}: printed {done.stdout[:80]!r}, not {wanted[:80]!r}")
         counted = COUNTED.search(done.stderr)
         return int(counted[1].replace(b",", b"")) if counted else 0
 
     def growth(self, what, sizes, costs):
-        """The costs are within the bound, and each is at most so many times the one before."""
+        """Checks that the costs are within the bound, and that each is at most this many times the one before."""
         for size, cost in zip(sizes, costs):
             self.expect(cost <= MOST * size * math.log2(size), f"{what}, {size} blocks: {cost} instructions")
         ratios = [after / before for before, after in zip(costs, costs[1:]) if before]

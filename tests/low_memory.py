@@ -6,10 +6,9 @@ usage: tests/low_memory.py PROGRAM [COUNT]
 The model is model/machine.py, and model/players.py decides what the jobs do. Volumes of both layouts are served in
 turn, at a moment that fits. For each of COUNT seeds (10 if not given) the program gets as many pages of memory as it
 takes to start, one more, and so on, up to those with which it serves the whole script. Then it is served one line at a
-time, each with no more memory than the process has, and once more with ample memory if it asks for some. After a
-NOMEMORY everything must be as before, so each later answer must be the model's again; calls that take no memory must
-never be answered NOMEMORY. At the end the program is started anew, and its room and each word of each file must be the
-model's.
+time, each with no more memory than the process has, and again with ample memory if it needs some. After a NOMEMORY
+everything must be unchanged, so each later answer must be the model's again; calls that take no memory must never be
+answered NOMEMORY. At the end the program is started again, and its room and each word of each file must be the model's.
 """
 
 import copy
@@ -25,23 +24,24 @@ from model.players import JOBS, dated, make, moment_of, run, script, wrong_files
 BLOCKS = 160
 PAGE = 4096
 AMPLE = 1 << 28
-# The calls and the answers that take no memory, so that they want none.
+# The calls and the answers that take no memory.
 FREE_CALLS = {"DEP", "EXA", "OPEN", "INBUF", "OUTBUF", "USETI", "USETO", "GETSTS", "RESET"}
 FREE_ANSWERS = {"DATE", "NOJOB", "NOCHANNEL", "ADDRESS", "REFUSED 5"}
 
 
 def fresh_machine(seed):
-    """The model of the volume that a seed makes."""
+    """Returns the model of the volume that a seed makes."""
     return Machine(BLOCKS, *moment_of(seed))
 
 
 def calls(program, seed):
-    """The words of a run that serves a script, at the moment of its seed."""
+    """Returns the words of a run that serves a script, at the moment of its seed."""
     return [program, "calls", "J.IMG", *dated(moment_of(seed)[1])]
 
 
 def serve(program, folder, seed, lines, limit):
-    """The lines that the program prints for a script, if it may have this many bytes of memory; and its status."""
+    """Returns the lines that the program prints for a script, if it may have this many bytes of memory; and its
+    status."""
     make(program, folder, BLOCKS, seed)
     done = subprocess.run(calls(program, seed), input="\n".join(lines + [""]).encode(), capture_output=True,
                           cwd=folder, check=False, timeout=60,
@@ -50,13 +50,13 @@ def serve(program, folder, seed, lines, limit):
 
 
 def may_want(machine, line):
-    """Whether a line may be answered NOMEMORY."""
+    """Returns whether a line may be answered NOMEMORY."""
     return line.split()[1] not in FREE_CALLS and copy.deepcopy(machine).line(line) not in FREE_ANSWERS
 
 
 def replay(seed, lines, found):
-    """The model behind the events that were answered with something else than NOMEMORY, how many weren't, and the first
-    answer that isn't the model's."""
+    """Returns the model after the events that were answered with something other than NOMEMORY, how many weren't, and
+    the first answer that isn't the model's."""
     machine, refused = fresh_machine(seed), 0
     for place, (line, got) in enumerate(zip(lines, found)):
         if got == "NOMEMORY" and may_want(machine, line):
@@ -69,7 +69,7 @@ def replay(seed, lines, found):
 
 
 def wrong_image(program, folder, machine):
-    """What isn't the model's in the image that is left."""
+    """Returns what isn't the model's in the image that is left."""
     text, _ = run(program, folder, ["check", "J.IMG"])
     if text != f"Volume of {BLOCKS} blocks, room {machine.room()}\n".encode():
         return [f"check prints {text!r}, and the model has room {machine.room()}"]
@@ -77,15 +77,15 @@ def wrong_image(program, folder, machine):
 
 
 def ended(machine):
-    """The model when the program has ended: what is still written is dropped."""
+    """Ends the model's run as the program's ended: what is still being written is dropped."""
     for job in JOBS:
         machine.line(f"{job} RESET")
     return machine
 
 
 def judge(program, folder, seed, lines, limit):
-    """How many events were refused memory, and what isn't the model's. Where there is none for the text of an answer,
-    the run ends with status 4: the event behind the last answer was served or wasn't."""
+    """Returns how many events were refused memory, and what isn't the model's. If there is none for the text of an
+    answer, the run ends with status 4: the event after the last answer was served or wasn't."""
     found, status = serve(program, folder, seed, lines, limit)
     machine, refused, wrong = replay(seed, lines, found)
     if status == 4 and len(found) < len(lines):
@@ -100,7 +100,7 @@ def judge(program, folder, seed, lines, limit):
 
 
 def ask(process, line, limit):
-    """What the program answers to a line, where it may have so many bytes of memory."""
+    """Returns what the program answers to a line, if it may have this many bytes of memory."""
     resource.prlimit(process.pid, resource.RLIMIT_DATA, (limit, resource.RLIM_INFINITY))
     process.stdin.write(line.encode() + b"\n")
     process.stdin.flush()
@@ -108,18 +108,19 @@ def ask(process, line, limit):
 
 
 def memory_of(process):
-    """How many bytes of memory a process has, as the limit counts them: of its heap and of what it maps for itself."""
+    """Returns how many bytes of memory a process has, as the limit counts them: of its heap and of what it maps for
+    itself."""
     with open(f"/proc/{process.pid}/status", encoding="ascii") as lines:
         return next(int(line.split()[1]) * 1024 for line in lines if line.startswith("VmData:"))
 
 
 def judge_lines(program, folder, seed, lines):
-    """How many events were refused more memory than the program had, and what isn't the model's."""
+    """Returns how many events were refused more memory than the program had, and what isn't the model's."""
     make(program, folder, BLOCKS, seed)
     machine, refused, wrong = fresh_machine(seed), 0, []
     with subprocess.Popen(calls(program, seed), cwd=folder, stdin=subprocess.PIPE, stdout=subprocess.PIPE) as process:
         for place, line in enumerate(lines):
-            got = ask(process, line, memory_of(process) if place else AMPLE)  # it has started behind the first
+            got = ask(process, line, memory_of(process) if place else AMPLE)  # it has started after the first
             if got == "NOMEMORY" and may_want(machine, line):
                 refused += 1
                 got = ask(process, line, AMPLE)
@@ -132,7 +133,7 @@ def judge_lines(program, folder, seed, lines):
 
 
 def least(low, high, serves):
-    """The least number of pages that is enough: `high` is, and `low` isn't."""
+    """Returns the least number of pages that is enough: `high` is, and `low` isn't."""
     while high - low > 1:
         middle = (low + high) // 2
         low, high = (low, middle) if serves(middle) else (middle, high)
@@ -140,8 +141,8 @@ def least(low, high, serves):
 
 
 def try_seed(program, folder, seed):
-    """The limits that were tried with a script, how many events were refused, how many more were and then were served
-    when they were asked again, and what isn't the model's."""
+    """Returns the limits that were tried with a script, how many events were refused, how many more were and were then
+    served when they were repeated, and what isn't the model's."""
     lines, wanted, _ = script(seed, "in turn", BLOCKS, *moment_of(seed))
     starts = least(0, AMPLE // PAGE,
                    lambda pages: serve(program, folder, seed, lines[:1], pages * PAGE)[0] == wanted[:1])

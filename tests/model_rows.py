@@ -3,7 +3,7 @@
 
 usage: tests/model_rows.py [WORD]
 
-The model is model/machine.py; no program takes part. The top of crates/scenarios/stdin says what the lines of a row mean.
+The model is model/machine.py; no program is used. The top of crates/scenarios/stdin says what the lines of a row mean.
 A row is played with each of its alternatives. Of a row that is stopped, 0, 1, .. of its events are played before the
 start that follows. The model has no blocks, so a row whose disk is spoiled or fails is skipped, and so is one with
 lines of a session other than LOGIN, MAKDIR and QUOTA. With WORD, only rows with this word in their titles are played.
@@ -42,11 +42,11 @@ class Skipped(Exception):
 
 
 class Stop(Exception):
-    """The events before a stop are played."""
+    """Raised after the events before a stop were played."""
 
 
 def rows_of(path):
-    """The kind of each row that is played, its title, and its lines."""
+    """Returns the kind of each row that is played, its title, and its lines."""
     parts, rows = {}, []
     with open(path, encoding="ascii") as file:
         for line in file.read().split("\n"):
@@ -63,12 +63,12 @@ def rows_of(path):
 
 
 def alternatives(lines):
-    """The numbers from which on a line has another step."""
+    """Returns the numbers from which a line has another step."""
     return [int(number) for line in lines for number in re.findall(r" ~(\d+)", line)]
 
 
 def step(line, alternative):
-    """The step of a line: of several alternatives, the last one with a number up to this."""
+    """Returns the step of a line: of several alternatives, the last one with a number up to this."""
     chosen, *others = re.split(r" ~(?=\d)", line)
     for other in others:
         number, _, text = other.partition(" ")
@@ -84,7 +84,7 @@ class Session:
         self.machine, self.has_job = machine, False
 
     def line(self, text):
-        """What a line prints."""
+        """Returns what a line prints."""
         word = text.split(" ")[0]
         if word not in COMMANDS and re.fullmatch(r"[A-Z]+", word):
             raise Skipped
@@ -190,14 +190,14 @@ class Play:
             self.machine.directories[ppn] = (0o775, files)
 
     def charge(self, text):
-        """The quota of a directory and what counts against it."""
+        """Returns the quota of a directory and what counts against it."""
         ppn = tuple(int(half, 8) for half in text.strip("[]").split(","))
         if ppn not in self.machine.directories:
             return "None"
         return f"{self.machine.quotas.get(ppn, 0)} {self.machine.charge(ppn)}"
 
     def calls(self, fields, wanted):
-        """The calls that a line stands for."""
+        """Returns the calls that a line stands for."""
         job, call, places = fields[0], fields[1], fields[2:]
         if call in ("DEPS", "EXAS"):
             words = [int(word, 8) for word in places[1:]]
@@ -220,13 +220,13 @@ class Play:
         self.expect(line, wanted, lambda: self.machine.line(line))
 
     def restart(self):
-        """The service is started anew: the files are those that are published, and nobody has logged in."""
+        """Starts the service again: the files are those that are published, and nobody has logged in."""
         self.talk()
         self.machine.jobs, self.most = {}, None
 
 
 def played(title, lines, alternative, most=None):
-    """What isn't the row's, and how many events come before its first start anew."""
+    """Returns what isn't the row's, and how many events come before its first restart."""
     play, events = Play(title, alternative, most), 0
     parts = [[]]
     for line in lines:
@@ -247,7 +247,7 @@ def played(title, lines, alternative, most=None):
 
 
 def row(kind, title, lines):
-    """What isn't a row's, however it is played."""
+    """Returns what isn't a row's, however it is played."""
     if kind == "ROW":
         numbers = range(max(alternatives(lines), default=0) + 1)
         return [what for number in numbers for what in played(title, lines, number)[0]]

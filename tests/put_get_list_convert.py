@@ -1,9 +1,9 @@
 #!/usr/bin/env python3
-"""Tests put, get, delete, list, check, convert, migrate and quotas: what is printed, the exit status, and the bytes left.
+"""Tests put, get, delete, list, check, convert, migrate and quotas: the output, the exit status, and the bytes left.
 
 usage: tests/put_get_list_convert.py PROGRAM
 
-Prints a line for each thing that is not as it should be, and one line at the end.
+Prints a line for each failed check, and one line at the end.
 """
 
 import os
@@ -30,13 +30,13 @@ HELLO = b"HELLO\r\n"
 
 
 def words_of(text):
-    """The words of a table."""
+    """Returns the words of a table."""
     fields = text.split()
     return [(int(b), int(p), int(w, 8)) for b, p, w in zip(fields[::3], fields[1::3], fields[2::3])]
 
 
 def image_of(changes=(), damaged=()):
-    """The bytes of V1 with these words changed, and with these blocks damaged."""
+    """Returns the bytes of V1 with these words changed, and with these blocks damaged."""
     image = bytearray(64 * BLOCK)
     for block, place, word in words_of(V1) + list(changes):
         at = block * BLOCK + 8 * place
@@ -47,12 +47,12 @@ def image_of(changes=(), damaged=()):
 
 
 def read_to_end(terminal):
-    """What is written to a pseudo terminal until all who write to it have ended."""
+    """Returns what is written to a pseudo terminal until all who write to it have ended."""
     text = b""
     while True:
         try:
             part = os.read(terminal, 4096)
-        except OSError:  # so the system says that nobody has it any more
+        except OSError:  # by which the system reports that nobody has it open
             part = b""
         if not part:
             return text
@@ -60,12 +60,12 @@ def read_to_end(terminal):
 
 
 def homes(first, second):
-    """The words that name these layouts in the home copies."""
+    """Returns the words that name these layouts in the home copies."""
     return [(1, 1, first), (2, 1, second)]
 
 
 class Tries:
-    """Runs of the program in a folder of their own."""
+    """Runs of the program in their own folder."""
 
     def __init__(self, program, folder):
         self.program = program
@@ -85,12 +85,12 @@ class Tries:
             return file.read()
 
     def run(self, words, data=b""):
-        """What a run prints, what it tells, and its status."""
+        """Returns what a run prints, what it reports, and its status."""
         done = subprocess.run([self.program, *words], input=data, capture_output=True, cwd=self.folder, check=False)
         return done.stdout, done.stderr, done.returncode
 
     def run_at_terminal(self, words):
-        """The same of a run whose standard error is a terminal, and which has no input."""
+        """Returns the same for a run whose standard error is a terminal, and which has no input."""
         terminal, errors = pty.openpty()
         with subprocess.Popen([self.program, *words], stdin=subprocess.DEVNULL, stdout=subprocess.PIPE, stderr=errors,
                               cwd=self.folder) as running:
@@ -101,7 +101,7 @@ class Tries:
         return printed, told, running.returncode
 
     def expect(self, words, data, outputs, status, telling=b""):
-        """A run prints one of these, tells this among others, and has this status."""
+        """Checks that a run prints one of these, reports this among others, and has this status."""
         self.count += 1
         printed, told, code = self.run(words, data)
         if printed not in outputs or code != status or telling not in told:
@@ -110,8 +110,8 @@ class Tries:
                   f"{told[:80]!r}")
 
     def expect_told(self, words, output, status, at_terminal, elsewhere):
-        """A run prints this and has this status; it tells a terminal this, and that where there is none. What it makes
-        is removed after each."""
+        """Checks that a run prints this and has this status; it reports this on a terminal, and that if there is none.
+        What it makes is removed after each."""
         for run, wanted in [(self.run, elsewhere), (self.run_at_terminal, at_terminal)]:
             self.count += 1
             before = os.listdir(self.folder)
@@ -124,14 +124,14 @@ class Tries:
                 os.remove(self.path(name))
 
     def same(self, name, data):
-        """A file of the host's has these bytes."""
+        """Checks that a file of the host has these bytes."""
         self.count += 1
         if self.read(name) != data:
             self.failed += 1
             print(f"{name} has changed")
 
     def holds(self, name, length, at, data):
-        """A file of the host's has so many bytes, and these at a place of it."""
+        """Checks that a file of the host has this many bytes, and these at a place of it."""
         self.count += 1
         found = self.read(name)
         if len(found) != length or found[at : at + len(data)] != data:
@@ -140,7 +140,7 @@ class Tries:
 
 
 def check(tries):
-    """What `check` says of V1, and of V1 with one change."""
+    """Tests what `check` prints for V1, and for V1 with one change."""
     well = ["Volume of 64 blocks, room 45"]
     table = [
         ("none", image_of(), well, 0),
@@ -173,7 +173,7 @@ def check(tries):
     for name, image, lines, status in table:
         tries.write("C.IMG", image)
         tries.expect(["check", "C.IMG"], b"", [f"{line}\n".encode() for line in lines], status)
-    # An image whose change was cut short is recovered: the log has block 15 as it is in V1, and the gate is open.
+    # An image whose commit was interrupted is recovered: the log has block 15 as it is in V1, and the gate is open.
     log = [(4, 0, 0o545747000000), (4, 1, 1), (4, 2, 0o17)]
     log += [(5, place, word) for block, place, word in words_of(V1) if block == 15]
     tries.write("C.IMG", image_of(OPEN_GATE + log, damaged=[15]))
@@ -186,7 +186,7 @@ def check(tries):
 
 
 def row(tries):
-    """A file is put, copied, listed, deleted, and deleted once more."""
+    """Tests that a file is put, copied, listed, deleted, and deleted again."""
     tries.expect(["run", "D.IMG"], b"LOGIN [10,20]\nMAKDIR [10,20]\n", [b"Job 1 [10,20]\nOK\n"], 0)
     tries.expect(["put", "D.IMG", "10,20", "FOO.TXT", "--date", "4095"], HELLO, [b"OK\n"], 0)
     tries.expect(["get", "D.IMG", "10,20", "FOO.TXT"], b"", [HELLO], 0)
@@ -204,7 +204,7 @@ def row(tries):
 
 
 def deletes(tries):
-    """A file is deleted, and deleted once more; a new one has the room again."""
+    """Tests that a file is deleted, and deleted again; a new one has the room again."""
     tries.write("DEL.IMG", image_of())
     for output, status in [(b"OK\n", 0), (b"?File not found\n", 1)]:
         tries.expect(["delete", "DEL.IMG", "[10,20]", "foo.txt"], b"", [output], status)
@@ -218,7 +218,7 @@ def deletes(tries):
 
 
 def lists(tries):
-    """Directories are listed, one, or all in the order of their numbers."""
+    """Tests that directories are listed, one, or all in the order of their numbers."""
     tries.write("L.IMG", image_of())
     one = b"FOO    TXT     1  <057>   4-Jan-1975\nTotal 1 blocks in 1 files [10,20]\n"
     tries.expect(["list", "L.IMG", "10,20"], b"", [one], 0)
@@ -231,17 +231,18 @@ def lists(tries):
 
 
 def tabs(*fields):
-    """A line of a list as a table."""
+    """Returns a line of a list as a table."""
     return "\t".join(fields).encode() + b"\n"
 
 
 def dated(year, month, day):
-    """The number of a date, as the disk has it."""
+    """Returns the number of a date, as the disk has it."""
     return str(((year - 1964) * 12 + month - 1) * 31 + day - 1)
 
 
 def days(tries):
-    """A date is a number, or the text of a day as `list --tsv` or DIRECTORY prints it; a PPN may have brackets."""
+    """Tests that a date is a number, or the text of a day as `list --tsv` or DIRECTORY prints it; a PPN may have
+    brackets."""
     put = ["put", "Y.IMG", "[10,20]", "DAY", "--date"]
     months = "Jan Feb Mar Apr May Jun Jul Aug Sep Oct Nov Dec".split()
     tries.write("Y.IMG", image_of())
@@ -253,7 +254,7 @@ def days(tries):
         texts = [dated(year, month, day), "+" + dated(year, month, day), iso, f"{day}-{name}-{year}",
                  f"{day:02}-{name.upper()}-{year}", f"{day}-{name.lower()}-{year}"]
         for text in texts:
-            # The day before is put first, so that each text is seen to count.
+            # The day before is put first, so that each text has an effect.
             tries.expect(put + ["0"], HELLO, [b"OK\n"], 0)
             tries.expect(put + [text], HELLO, [b"OK\n"], 0)
             seen = tabs("10,20", "DAY", "", "057", "00", iso, "00:00", "2", "1")
@@ -267,7 +268,7 @@ def days(tries):
 
 
 def tables(tries):
-    """Directories are listed as tables, one, or all in the order of their numbers."""
+    """Tests that directories are listed as tables, one, or all in the order of their numbers."""
     foo = tabs("10,20", "FOO", "TXT", "057", "00", "1975-01-04", "00:00", "2", "1")
     tries.write("T.IMG", image_of())
     tries.expect(["list", "--tsv", "T.IMG", "10,20"], b"", [foo], 0)
@@ -303,7 +304,7 @@ def tables(tries):
 
 
 def back(tries):
-    """50 files of 0 to 40,000 bytes, put and got back."""
+    """Tests 50 files of 0 to 40,000 bytes, put and read back."""
     tries.expect(["init", "B.IMG", "512"], b"", [b""], 0)
     tries.expect(["run", "B.IMG"], b"LOGIN [10,20]\nMAKDIR [10,20]\n", [b"Job 1 [10,20]\nOK\n"], 0)
     for number in range(50):
@@ -319,7 +320,8 @@ def back(tries):
 
 
 def octets_of(data):
-    """The words of bytes of eight bits, eight bytes each: four in a word, and in the last one how many count."""
+    """Returns the words of bytes of eight bits, eight bytes each: four in a word, and in the last one how many
+    count."""
     groups = [data[place : place + 4] for place in range(0, len(data), 4)]
     words = [int.from_bytes(group.ljust(4, b"\0"), "big") << 4 for group in groups]
     if words:
@@ -328,7 +330,7 @@ def octets_of(data):
 
 
 def octets(tries):
-    """Files of any bytes, and files of words that have none."""
+    """Tests files of any bytes, and files of words that have none."""
     tries.expect(["init", "O.IMG", "512"], b"", [b""], 0)
     tries.expect(["run", "O.IMG"], b"LOGIN [10,20]\nMAKDIR [10,20]\n", [b"Job 1 [10,20]\nOK\n"], 0)
     file = ["O.IMG", "10,20", "ANY.BIN"]
@@ -358,14 +360,14 @@ def octets(tries):
 
 
 def converts(tries):
-    """Images of form 2, and of either form from the other."""
+    """Tests images of form 2, and conversions of either form to the other."""
     tries.expect(["init", "W.IMG", "64", "--form", "2"], b"", [b""], 0)
     tries.expect(["run", "W.IMG"], b"", [b"?Not a volume\n"], 3)
     lines = b"LOGIN [10,20]\nMAKDIR [10,20]\n"
     tries.expect(["run", "W.IMG", "--form", "2"], lines, [b"Job 1 [10,20]\nOK\n"], 0)
     tries.expect(["check", "W.IMG", "--form", "2"], b"", [b"Volume of 64 blocks, room 47\n"], 0)
     tries.holds("W.IMG", 36864, 0, b"")
-    # There and back: a damaged block is zeros then, and nothing else has changed.
+    # There and back: a damaged block then has zeros, and nothing else has changed.
     damaged = image_of(damaged=[30])
     tries.write("V.IMG", damaged)
     done = [b"Converted 64 blocks\n"]
@@ -378,13 +380,13 @@ def converts(tries):
     tries.expect(["convert", "P.IMG", "U.IMG", "--form", "2"], b"", done, 0)
     tries.same("U.IMG", image_of())
     tries.expect(["run", "U.IMG"], b"LOGIN [10,20]\nDIRECTORY\n", [b"Job 1 [10,20]\n" + listed[0]], 0)
-    # A change that was cut short is ended first.
+    # An interrupted commit is finished first.
     log = [(4, 0, 0o545747000000), (4, 1, 1), (4, 2, 0o17)]
     log += [(5, place, word) for block, place, word in words_of(V1) if block == 15]
     tries.write("O.IMG", image_of(OPEN_GATE + log, damaged=[15]))
     tries.expect(["convert", "O.IMG", "Q.IMG"], b"", done, 0)
     tries.expect(["check", "Q.IMG", "--form", "2"], b"", [b"Volume of 64 blocks, room 45\n"], 0)
-    # What is refused: a file that is there, before anything else; then the image.
+    # What is refused: a file that exists, before anything else; then the image.
     packed = tries.read("P.IMG")
     for image in ["V.IMG", "NONE.IMG", "P.IMG"]:
         tries.expect(["convert", image, "P.IMG"], b"", [b"?Image exists\n"], 3)
@@ -400,7 +402,8 @@ def converts(tries):
 
 
 def migrates(tries):
-    """A migrated image has layout 2, with the same words elsewhere but for the log, and then later dates."""
+    """Tests that a migrated image has layout 2, with the same words elsewhere except for the log, and then later
+    dates."""
     done, rest = [b"Layout 2\n"], image_of()[14 * BLOCK :]
     tries.write("M.IMG", image_of())
     tries.expect(["put", "M.IMG", "10,20", "BAR", "--date", "4096"], HELLO, [b"?Date out of range\n"], 1)
@@ -425,7 +428,7 @@ def migrates(tries):
     tries.expect(["migrate", "L2.IMG"], b"", [b"?Not a volume\n"], 3)
     tries.expect(["migrate", "L2.IMG", "--form", "2"], b"", done, 0)
     tries.expect(["put", "L2.IMG", "10,20", "BAR", "--date", "4096", "--form", "2"], HELLO, [b"OK\n"], 0)
-    # The first valid copy tells the layout: one of layout 2 is left as it is, and so is the copy behind it.
+    # The first valid copy decides the layout: an image of layout 2 stays as it is, and so does the copy after it.
     for first, second, left in [(1, 2, (2, 2)), (2, 1, (2, 1)), (3, 2, (3, 2)), (0, 1, (2, 2))]:
         tries.write("C.IMG", image_of(homes(first, second)))
         tries.expect(["migrate", "C.IMG"], b"", done, 0)
@@ -443,7 +446,7 @@ def migrates(tries):
 
 
 def layouts(tries):
-    """A new image has the layout that is asked for, and 1 if none is."""
+    """Tests that a new image has the requested layout, and 1 if none is requested."""
     for words, layout, printed in [([], 1, b"?Date out of range\n"), (["--layout", "1"], 1, b"?Date out of range\n"),
                                    (["--layout", "2"], 2, b"OK\n")]:
         tries.expect(["init", "I.IMG", "64", *words], b"", [b""], 0)
@@ -458,12 +461,12 @@ def layouts(tries):
 
 
 def quotas(tries):
-    """A quota limits what a directory has, by whatever way it comes there, and is kept with the image."""
+    """Tests that a quota limits what a directory has, whichever way it comes there, and is stored with the image."""
     full, session = [b"?No room\n"], ["run", "LIMIT.IMG"]
     tries.expect(["init", "LIMIT.IMG", "64", "--layout", "2"], b"", [b""], 0)
     tries.expect(session, b"LOGIN [1,2]\nMAKDIR [10,20]\nQUOTA [10,20] 10\n", [b"Job 1 [1,2]\nOK\nOK\n"], 0)
     tries.holds("LIMIT.IMG", 64 * BLOCK, 15 * BLOCK + 24, (0o775000000012).to_bytes(8, "big"))
-    # The directory has a block, and a file of eight blocks has nine: no file more, and no new version of this one.
+    # The directory has a block, and a file of eight blocks has nine: no more files, and no new version of this one.
     tries.expect(["put", "LIMIT.IMG", "10,20", "FOO"], b"A" * 5121, full, 1)
     tries.expect(["put", "LIMIT.IMG", "10,20", "FOO"], b"A" * 5120, [b"OK\n"], 0)
     before = tries.read("LIMIT.IMG")
@@ -478,12 +481,12 @@ def quotas(tries):
     tries.expect(["put", "LIMIT2.IMG", "10,20", "BAR", "--form", "2"], b"", full, 1)
     tries.expect(["run", "LIMIT2.IMG", "--form", "2"], b"LOGIN [1,2]\nQUOTA [10,20] 0\n", [b"Job 1 [1,2]\nOK\n"], 0)
     tries.expect(["put", "LIMIT2.IMG", "10,20", "BAR", "--form", "2"], b"", [b"OK\n"], 0)
-    # A name or a protection costs nothing, and another directory has to have room for the whole file.
+    # A name or a protection costs nothing, and another directory must have room for the whole file.
     tries.expect(session, b"LOGIN [1,2]\nRENAME BAR[10,20]=FOO[10,20]\nPROTECT BAR[10,20]<155>\nMAKDIR [11,5]\n"
                  b"QUOTA [11,5] 9\nRENAME BAR[11,5]=BAR[10,20]\nQUOTA [11,5] 10\nRENAME BAR[11,5]=BAR[10,20]\n",
                  [b"Job 1 [1,2]\nOK\nOK\nOK\nOK\n?No room\nOK\nOK\n"], 1)
     tries.expect(["put", "LIMIT.IMG", "10,20", "FOO"], b"A" * 5120, [b"OK\n"], 0)
-    # A quota below what is there hinders nobody who reads or deletes.
+    # A quota below the charge doesn't stop anybody from reading or deleting.
     tries.expect(session, b"LOGIN [1,2]\nQUOTA [10,20] 1\n", [b"Job 1 [1,2]\nOK\n"], 0)
     tries.expect(["get", "LIMIT.IMG", "10,20", "FOO"], b"", [b"A" * 5120], 0)
     tries.expect(session, b"LOGIN [10,20]\nDELETE FOO\n", [b"Job 1 [10,20]\nOK\n"], 0)
@@ -499,21 +502,22 @@ def quotas(tries):
 
 
 def progress(tries):
-    """A conversion of many blocks tells a terminal how far it is, and nobody else; one of few blocks tells nothing."""
+    """Tests that a conversion of many blocks shows its progress on a terminal, and nowhere else; one of few blocks
+    shows none."""
     convert = ["convert", "H.IMG", "N.IMG"]
     steps = b"".join(b"\rfilser: convert: %d %%" % percent for percent in range(101))
     for blocks, told in [(8191, b""), (8192, steps + b"\r\n"), (16384, steps + b"\r\n")]:
         tries.expect(["init", "H.IMG", str(blocks)], b"", [b""], 0)
         tries.expect_told(convert, b"Converted %d blocks\n" % blocks, 0, told, b"")
         os.remove(tries.path("H.IMG"))
-    # What is refused makes no new file, and nothing is told of it.
+    # What is refused makes no new file, and no progress of it is shown.
     tries.write("H.IMG", bytes(8192 * BLOCK))
     tries.expect_told(convert, b"?Not a volume\n", 3, b"", b"")
     tries.expect(["check", "N.IMG"], b"", [b"?Device fault\n"], 4)
 
 
 def refusals(tries):
-    """What is refused, and that nothing changes then."""
+    """Tests what is refused, and that nothing changes then."""
     put = ["put", "R.IMG", "10,20"]
     get = ["get", "R.IMG", "10,20"]
     tries.write("R.IMG", image_of())
@@ -524,7 +528,7 @@ def refusals(tries):
         tries.expect(put + ["FOO.TXT", "--words"], data, [b"?Bad words\n"], 1)
     tries.expect(put + ["FOO.TXT"], b"A" * 40000, [b"?No room\n"], 1)
     tries.expect(put + ["NEW", "--words"], b"\0" * 48 * BLOCK, [b"?No room\n"], 1)
-    # What found room was written to free blocks, 19 to 62, where it means nothing; no other block has changed.
+    # What found room was written to free blocks, 19 to 62, where it has no meaning; no other block has changed.
     tries.holds("R.IMG", len(before), 0, before[: 19 * BLOCK])
     tries.holds("R.IMG", len(before), 63 * BLOCK, before[63 * BLOCK :])
     tries.write("R.IMG", before)
@@ -546,12 +550,12 @@ def refusals(tries):
     tries.expect(["run", "R.IMG"], b"LOGIN [10,20]\nPROTECT FOO.TXT<777>\n", [b"Job 1 [10,20]\nOK\n"], 0)
     tries.expect(get + ["FOO.TXT"], b"", [b"?Protection failure\n"], 1)
     tries.expect(put + ["FOO.TXT"], HELLO, [b"?Protection failure\n"], 1)
-    # The start is refused before the input is looked at.
+    # The start is refused before the input is read.
     tries.write("S.IMG", image_of([(15, 1, 0o53)]))
     tries.expect(["put", "S.IMG", "10,20", "FOO.TXT"], b"\0", [b"?Bad directory block 15\n"], 3)
     tries.expect(["get", "S.IMG", "10,20", "FOO.TXT"], b"", [b"?Bad directory block 15\n"], 3)
     tries.expect(["list", "S.IMG"], b"", [b"?Bad directory block 15\n"], 3)
-    # A null is no character of a text, and no end of one.
+    # A null isn't a character of a text, and doesn't end one.
     word = 0
     for character in b"H\0LLO":
         word = 128 * word + 2 * character

@@ -6,8 +6,8 @@ usage: tests/random_kills.py PROGRAM [TIMES [SEED]]
 A process of `filser calls` writes FOO.DAT over and over, each version with one block more than the last, and each word
 of a version is its number. It is killed by SIGKILL within some 40 milliseconds. Then `filser check` must accept the
 image, `filser run` must list one file, and `filser get --words` must give a version with as many blocks, whole: that of
-the last answered CLOSE, or the next one. Half of the TIMES the image has layout 1, then layout 2. The last line is
-'N passed, M failed'. This is no part of the gate, since it depends on the clock.
+the last answered CLOSE, or the next one. Half of the TIMES the image has layout 1, then layout 2. The last line is 'N
+passed, M failed'. This isn't part of the gate, since it depends on the clock.
 """
 import pathlib
 import random
@@ -23,12 +23,12 @@ def octal(number):
 
 
 def opening():
-    """The lines with which a process begins."""
+    """Returns the lines with which a process begins."""
     return ["1 LOGIN 10,20 100000", "1 DEP 200 17", "1 DEP 201 446353000000", "1 OPEN 1 200"]
 
 
 def version(number, blocks):
-    """The lines that write a version: so many blocks of words that are this number."""
+    """Returns the lines that write a version: this many blocks of words that are this number."""
     lines = ["1 DEP 300 465757000000", "1 DEP 301 444164000000", "1 DEP 302 0", "1 DEP 303 0", "1 ENTER 1 300"]
     lines += [f"1 DEP {octal(0o1000 + place)} {octal(number)}" for place in range(128)]
     lines += ["1 DEP 400 777600000777", "1 DEP 401 0"]
@@ -36,13 +36,13 @@ def version(number, blocks):
 
 
 def run(program, words, given=b""):
-    """What a run of the program prints, and its status."""
+    """Returns what a run of the program prints, and its status."""
     done = subprocess.run([program, *words], input=given, stdout=subprocess.PIPE, stderr=subprocess.STDOUT)
     return done.stdout, done.returncode
 
 
 def killed(program, image, first, rng):
-    """Serves versions of 1, 2, 3 .. blocks until it is killed; says how many were answered."""
+    """Serves versions of 1, 2, 3 .. blocks until it is killed; returns how many were answered."""
     lines = opening()
     ends = []
     for blocks in range(1, MOST_BLOCKS + 1):
@@ -59,7 +59,7 @@ def killed(program, image, first, rng):
 
 
 def look(program, image, first, answered, before):
-    """Why the files aren't as they should be, or nothing; and the version that is there."""
+    """Returns why the files aren't valid, or nothing; and the version that is there."""
     said, status = run(program, ["check", image])
     if status != 0:
         return f"check says {said!r}", before
@@ -80,7 +80,7 @@ def look(program, image, first, answered, before):
 
 
 def kill_often(program, layout, times, rng):
-    """Kills a process so often on an image of this layout. Returns how often it went wrong."""
+    """Kills a process this many times on an image of this layout. Returns how often a check failed."""
     failed = 0
     with tempfile.TemporaryDirectory() as room:
         image = f"{room}/A.IMG"

@@ -1,12 +1,11 @@
 #!/usr/bin/env python3
-"""Tests what the program refuses, and what it says of a host that fails.
+"""Tests what the program refuses, and what it reports if the host fails.
 
 usage: tests/refusals_and_faults.py PROGRAM
 
-The program gets images that were written by hand and files that are no images; hosts that refuse a call; an input that
-breaks off; and arguments that no command takes. Each run is judged by what it prints, by its standard error, by its exit
-status, and by the bytes that the image has then. Prints a line for each thing that is not as it should be, and one line
-at the end.
+The program gets images that were written by hand and files that aren't images; hosts that refuse a call; an input that
+breaks off; and arguments that no command takes. Each run is judged by what it prints, by its standard error, by its
+exit status, and by the bytes that the image then has. Prints a line for each failed check, and one line at the end.
 """
 
 import ctypes
@@ -42,7 +41,7 @@ V1 = """1 0 465154634562  1 1 1  1 2 100  1 3 1  1 4 11  1 5 17
 17 5 2  17 6 1  17 16 000001000022
 18 0 442131446236  18 1 064240000000"""
 
-# A log of one put: the block of V1's master directory, as it is.
+# A log of one put: the block of V1's master directory, unchanged.
 LOG = """4 0 545747000000  4 1 1  4 2 17
 5 1 1  5 2 000010000020  5 3 775000000000  5 4 20"""
 
@@ -56,13 +55,13 @@ HELLO = b"HELLO\r\n"
 
 
 def words_of(text):
-    """The words of a table."""
+    """Returns the words of a table."""
     fields = text.split()
     return [(int(b), int(p), int(w, 8)) for b, p, w in zip(fields[::3], fields[1::3], fields[2::3])]
 
 
 def image_of(text, changes=()):
-    """The bytes of an image of 64 blocks with the words of a table, and then with these."""
+    """Returns the bytes of an image of 64 blocks with the words of a table, and then with these."""
     image = bytearray(64 * BLOCK)
     for block, place, word in words_of(text) + list(changes):
         at = block * BLOCK + 8 * place
@@ -71,40 +70,41 @@ def image_of(text, changes=()):
 
 
 def logged():
-    """V1 with the log behind a closed gate."""
+    """Returns V1 with the log after a closed gate."""
     return image_of(V1, words_of(LOG))
 
 
 def interrupted():
-    """The same behind an open gate, with the block of the master directory damaged: the next start has to write."""
+    """Returns the same with an open gate, and with the block of the master directory damaged: the next start has to
+    write."""
     return image_of(V1, words_of(LOG) + OPEN_GATE + [(15, 0, 1 << 63)])
 
 
 def line_of(words):
-    """A run's words as they are typed."""
+    """Returns a run's words as they are typed."""
     return " ".join(["filser", *words])
 
 
 def tells(name, what):
-    """What is told of a file, or of another part of the host."""
+    """Returns what is reported of a file, or of another part of the host."""
     return f"filser: {name}: {what}\n".encode()
 
 
 def tells_fault(name, what):
-    """What is told of a device that failed in a task on an image: the reason, and what to do then."""
+    """Returns what is reported of a device that failed in a task on an image: the reason, and what to do then."""
     hint = "after a device fault let the host drop its cache (restart it) before the next start"
     return tells(name, what) + tells(name, hint)
 
 
 def tells_lines(count, first):
-    """What is told of lines that were refused."""
+    """Returns what is reported of lines that were refused."""
     if count == 1:
         return tells("standard input", f"line {first} was refused")
     return tells("standard input", f"{count} lines were refused, the first is line {first}")
 
 
 def as_another():
-    """From now on this process is of somebody who may do with a file what all may."""
+    """Makes this process run as a user who may do with a file what everybody may."""
     if os.getuid() == 0:
         os.setgroups([])
         os.setgid(NOBODY)
@@ -112,7 +112,7 @@ def as_another():
 
 
 def without_writes():
-    """From now on this process can't write to a file, which doesn't end it."""
+    """Makes writes to a file fail in this process, without ending it."""
     signal.signal(signal.SIGXFSZ, signal.SIG_IGN)
     resource.setrlimit(resource.RLIMIT_FSIZE, (0, 0))
 
@@ -140,7 +140,7 @@ def without_reads():
 
 
 class Tries:
-    """Runs of the program, each case in a folder of its own."""
+    """Runs of the program, each case in its own folder."""
 
     def __init__(self, program):
         self.program = program
@@ -149,7 +149,7 @@ class Tries:
         self.failed = 0
 
     def enter(self, folder):
-        """From now on runs are in this folder, which is new and open to all."""
+        """Makes runs use this folder, which is new and open to all."""
         os.mkdir(folder)
         os.chmod(folder, 0o755)
         self.folder = folder
@@ -162,21 +162,22 @@ class Tries:
             file.write(data)
 
     def judge(self, good, what):
-        """Counts, and says what is not as it should be."""
+        """Counts a check, and reports what is wrong."""
         self.count += 1
         if not good:
             self.failed += 1
             print(f"{os.path.basename(self.folder)}: {what}")
 
     def run(self, words, data, host=None, stream=None):
-        """What a run prints, what it tells, and its status: over these bytes, or this stream, and under this host."""
+        """Returns what a run prints, what it reports, and its status: over these bytes, or this stream, and under this
+        host."""
         given = {"input": data} if stream is None else {"stdin": stream}
         done = subprocess.run([self.program, *words], capture_output=True, cwd=self.folder, check=False, timeout=LIMIT,
                               preexec_fn=host, **given)
         return done.stdout, done.stderr, done.returncode
 
     def may_filter(self):
-        """Whether the system takes a filter of calls from a process that asks for one."""
+        """Returns whether the system accepts a filter of calls from a process that requests one."""
         try:
             self.run(["--version"], b"", host=without_reads)
         except subprocess.SubprocessError:
@@ -184,52 +185,53 @@ class Tries:
         return True
 
     def expect(self, words, data, output, status, told=b"", **how):
-        """A run prints this, tells this, and has this status."""
+        """Checks that a run prints this, reports this, and has this status."""
         printed, said, code = self.run(words, data, **how)
         self.judge((printed, said, code) == (output, told, status),
                    f"{line_of(words)}: status {code} and not {status}; {printed!r} and not {output!r}; "
                    f"tells {said!r} and not {told!r}")
 
     def expect_failed(self, told, host=None):
-        """A run on the image ends before its start, since the host fails, and this is told of it."""
+        """Checks that a run on the image ends before its start, since the host fails, and that this is reported of
+        it."""
         self.expect(["run", "V.IMG"], LOGIN, FAULT, 4, tells("V.IMG", told), host=host)
 
     def expect_faulty(self, told, host):
-        """A start ends with a fault of the device, and this is told of it."""
+        """Checks that a start ends with a device fault, and that this is reported of it."""
         self.expect(["run", "V.IMG"], LOGIN, FAULT, 4, tells_fault("V.IMG", told), host=host)
 
     def expect_unmade(self, name, told, host):
-        """Making an image fails with the device, and nothing is left at its place."""
+        """Checks that making an image fails because of the device, and that nothing is left at its place."""
         self.expect(["init", name, "64"], b"", FAULT, 4, tells(name, told), host=host)
         self.judge(not os.path.lexists(self.path(name)), f"{name} is there")
 
     def expect_refused(self, image, output):
-        """A run on a file of these bytes is refused with this text, and leaves them as they are."""
+        """Checks that a run on a file of these bytes is refused with this text, and leaves them unchanged."""
         self.write("V.IMG", image)
         self.expect(["run", "V.IMG"], LOGIN, output, 3)
         self.same("V.IMG", image)
 
     def expect_mistaken(self, words, told):
-        """Words are refused: nothing is printed, what is told begins so, and no file is made."""
+        """Checks that words are refused: nothing is printed, the report begins like this, and no file is made."""
         printed, said, code = self.run(words, b"")
         self.judge((printed, code) == (b"", 2) and said.startswith(told),
                    f"{line_of(words)}: status {code} and not 2; {printed!r}; tells {said!r} and not {told!r}")
         self.judge(not os.listdir(self.folder), f"{line_of(words)}: it made {os.listdir(self.folder)}")
 
     def expect_shown(self, words, text):
-        """What is asked to be seen is printed, this among it, and nothing is told."""
+        """Checks that what was requested is printed, this among it, and that nothing is reported."""
         printed, said, code = self.run(words, b"")
         self.judge((said, code) == (b"", 0) and text in printed,
                    f"{line_of(words)}: status {code} and not 0; {printed[:80]!r} without {text!r}; tells {said!r}")
 
     def same(self, name, data):
-        """A file of the host's has these bytes."""
+        """Checks that a file of the host has these bytes."""
         with open(self.path(name), "rb") as file:
             self.judge(file.read() == data, f"{name} has other bytes")
 
 
 def files_on_an_image(tries):
-    """An image is checked, a file is put there and got back, and its directory listed."""
+    """Tests that an image is checked, a file is put there and read back, and its directory listed."""
     tries.write("V1.IMG", image_of(V1))
     tries.expect(["check", "V1.IMG"], b"", b"Volume of 64 blocks, room 45\n", 0)
     tries.expect(["put", "V1.IMG", "10,20", "BAR.TXT", "--date", "4095"], HELLO, b"OK\n", 0)
@@ -240,7 +242,7 @@ def files_on_an_image(tries):
 
 
 def a_directory_in_place_of_an_image(tries):
-    """A directory of the host's is no image, and its name is taken."""
+    """Tests that a directory of the host isn't an image, and that its name is taken."""
     os.mkdir(tries.path("V.IMG"))
     tries.expect_failed("Is a directory (os error 21)")
     told = tells("V.IMG", "File exists (os error 17)")
@@ -249,13 +251,13 @@ def a_directory_in_place_of_an_image(tries):
 
 
 def images_of_an_odd_size(tries):
-    """An image with a byte more, or one less, is refused by its size alone."""
+    """Tests that an image with a byte more, or one less, is refused by its size alone."""
     for image in [image_of(V1) + b"\0", image_of(V1)[:-1]]:
         tries.expect_refused(image, b"?Not a volume\n")
 
 
 def an_image_that_is_not_read(tries):
-    """An image that the host doesn't open, and one that it opens and doesn't read."""
+    """Tests an image that the host doesn't open, and one that it opens and doesn't read."""
     denied = "Permission denied (os error 13)"
     os.mkdir(tries.path("KEPT"))
     os.chmod(tries.path("KEPT"), 0o555)
@@ -275,8 +277,8 @@ def an_image_that_is_not_read(tries):
 
 
 def an_image_that_is_only_read(tries):
-    """An image that can't be written is served where nothing has to be, and else not; a host that lets it be written
-    has it recovered first."""
+    """Tests that an image that can't be written is served if nothing has to be written, and otherwise not; a host that
+    lets it be written recovers it first."""
     whole, image = logged(), interrupted()
     tries.write("V.IMG", whole)
     tries.expect(["run", "V.IMG"], LOGIN, JOB, 0, host=without_writes)
@@ -289,12 +291,12 @@ def an_image_that_is_only_read(tries):
 
 
 def an_image_that_is_made_and_not_written(tries):
-    """Of an image that is made and then can't be written nothing is left."""
+    """Tests that of an image that is made and then can't be written nothing is left."""
     tries.expect_unmade("V.IMG", "File too large (os error 27)", without_writes)
 
 
 def an_image_in_use(tries):
-    """An image that is locked isn't served, and is as it was; one that no longer is, is served."""
+    """Tests that an image that is locked isn't served, and stays as it was; one that is no longer locked is served."""
     image = interrupted()
     tries.write("V.IMG", image)
     with open(tries.path("V.IMG"), "rb") as other:
@@ -315,13 +317,13 @@ def an_input_that_breaks_off(tries):
         far.sendall(b"LOGIN [10,20]\nFOO\nDIR")
         far.close()
         told = tells("standard input", "line 3: Connection reset by peer (os error 104)")
-        # The run has status 4, so it isn't told which line was refused.
+        # The run has status 4, so it doesn't report which line was refused.
         tries.expect([], None, JOB + b"?Command error\n", 4, told, stream=near)
 
 
 def records_that_break_off(tries):
-    """The records of `wire` aren't lines, so the fault alone is told, after the answer to the one that was whole: ROOM,
-    which has the 48 blocks that a new volume of 64 has left."""
+    """Tests that the records of `wire` aren't lines, so only the fault is reported, after the answer to the one that
+    was whole: ROOM, which has the 48 blocks that a new volume of 64 has left."""
     tries.write("V.IMG", image_of(FRESH))
     far, near = socket.socketpair()
     with near:
@@ -334,7 +336,7 @@ def records_that_break_off(tries):
 
 
 def an_image_is_made(tries):
-    """A new image has the bytes of a new volume, and is served."""
+    """Tests that a new image has the bytes of a new volume, and is served."""
     tries.expect(["init", "V.IMG", "64"], b"", b"", 0)
     tries.same("V.IMG", image_of(FRESH))
     tries.expect(["run", "V.IMG"], LOGIN + b"DIRECTORY\n", JOB + b"?No such directory\n", 1, tells_lines(1, 2))
@@ -342,7 +344,7 @@ def an_image_is_made(tries):
 
 
 def names_where_no_image_is_made(tries):
-    """A new image gets no name that is taken, and none in a folder that isn't there."""
+    """Tests that a new image gets no name that is taken, and none in a folder that doesn't exist."""
     tries.write("V.IMG", image_of(FRESH))
     told = tells("V.IMG", "File exists (os error 17)")
     for blocks in ["128", "64"]:
@@ -353,7 +355,7 @@ def names_where_no_image_is_made(tries):
 
 
 def an_image_is_served(tries):
-    """The image written out by hand is served in place."""
+    """Tests that the image written by hand is served in place."""
     image = image_of(V1)
     tries.write("V1.IMG", image)
     listing = JOB + b"FOO    TXT     1  <057>   4-Jan-1975\nTotal 1 blocks in 1 files [10,20]\n"
@@ -366,7 +368,7 @@ def an_image_is_served(tries):
 
 
 def a_script_is_served(tries):
-    """A call script is served: what was not done has status 1, and the image is as it was."""
+    """Tests that a call script is served: if something was not done it has status 1, and the image stays as it was."""
     image = image_of(V1)
     tries.write("V1.IMG", image)
     lines = b"1 LOGIN 10,20 1000\n1 DEP 200 17\n1 EXA 200"
@@ -379,7 +381,8 @@ def a_script_is_served(tries):
 
 
 def lines_that_are_refused(tries):
-    """How many lines were refused, and the number of the first: by the line feeds before it, so empty lines count."""
+    """Tests the number of refused lines, and the number of the first: by the line feeds before it, so empty lines
+    count."""
     image = image_of(V1)
     tries.write("V1.IMG", image)
     error, job, absent = b"?Command error\n", JOB, b"?File not found\n"
@@ -396,14 +399,14 @@ def lines_that_are_refused(tries):
         ("calls", b"1 EXA 0\n\nFOO\n1 EXA 0\n", b"NOJOB\nSYNTAX\nNOJOB\n", tells_lines(3, 1)),
     ]:
         tries.expect([kind, "V1.IMG"], lines, printed, 1 if told else 0, told)
-    # A file that begins like a refusal is none.
+    # A file that begins like a refusal isn't one.
     tries.expect(["put", "V1.IMG", "10,20", "Q"], b"?File not found\n", b"OK\n", 0)
     tries.expect(["run", "V1.IMG"], LOGIN + b"TYPE Q\n", job + absent, 0)
 
 
 def inputs_that_are_no_file(tries):
-    """Why the input of `put` can't be a file: the first byte that isn't text, a length that isn't one of words, or the
-    first word that is too large. Bytes are decimal, and places are counted from 1."""
+    """Tests the reports why the input of `put` can't be a file: the first byte that isn't text, a length that isn't one
+    of words, or the first word that is too large. Bytes are decimal, and places are counted from 1."""
     image = image_of(V1)
     tries.write("V1.IMG", image)
     put = ["put", "V1.IMG", "10,20", "BAR"]
@@ -427,13 +430,13 @@ def inputs_that_are_no_file(tries):
         tries.expect(put + ["--words"], data, b"?Bad words\n", 1, tells("standard input", told))
     tries.same("V1.IMG", image)
     tries.expect(put + ["--words"], largest, b"OK\n", 0)
-    # Another refusal has no reason beside its text.
+    # Another refusal has no reason besides its text.
     tries.expect(["put", "V1.IMG", "10,77", "BAR"], HELLO, b"?No such directory\n", 1)
     tries.expect(["get", "V1.IMG", "10,20", "NONE"], b"", b"?File not found\n", 1)
 
 
 def dates_past_the_volume(tries):
-    """A date that no call takes is told before anything is served, and nothing changes."""
+    """Tests that a date that no call accepts is reported before anything is served, and that nothing changes."""
     image = image_of(V1)
     tries.write("V1.IMG", image)
     for date, number in [("4096", 4096), ("1975-01-05", 4096), ("1-Feb-2052", 32767)]:
@@ -445,13 +448,13 @@ def dates_past_the_volume(tries):
         tries.expect(["run", "V1.IMG", *dated], LOGIN + b"TYPE FOO.TXT\n", JOB + refused, 1, told + tells_lines(1, 2))
         tries.expect(["run", "V1.IMG", *dated], b"", b"", 0, told)
     tries.same("V1.IMG", image)
-    # Of a file that is no volume nothing of the kind is told.
+    # For a file that isn't a volume nothing of the kind is reported.
     tries.write("V.IMG", b"")
     tries.expect(["run", "V.IMG", "--date", "4096"], LOGIN, b"?Not a volume\n", 3)
 
 
 def spoiled_images(tries):
-    """V1 with a word or two changed is refused, by the block that they are in."""
+    """Tests that V1 with a word or two changed is refused, by the block that they are in."""
     for changes, output in [
         ([(14, 0, 0o777777600000)], b"?Bad table block 14\n"),
         ([(14, 0, 0o777777000000), (17, 16, 0o000001000020)], b"?Block 16 reached twice\n"),
@@ -464,7 +467,7 @@ def spoiled_images(tries):
 
 
 def files_that_are_no_images(tries):
-    """A file that isn't there, files that are no image, and a gate that is open over no log."""
+    """Tests a file that doesn't exist, files that aren't images, and a gate that is open over no log."""
     tries.expect_failed("No such file or directory (os error 2)")
     tries.expect_refused(b"", b"?Not a volume\n")
     tries.expect_refused(b"FILSER", b"?Not a volume\n")
@@ -472,14 +475,14 @@ def files_that_are_no_images(tries):
 
 
 def a_fresh_volume(tries):
-    """Without words the input is served on a new volume."""
+    """Tests that without words the input is served on a new volume."""
     tries.expect([], LOGIN, JOB, 0)
     tries.expect([], b"", b"", 0)
     tries.expect([], b"FOO\n", b"?Command error\n", 1, tells_lines(1, 1))
 
 
 def streams_that_are_missing(tries):
-    """Without an input or an output nothing is served, and without a standard error nothing is told."""
+    """Tests that without an input or an output nothing is served, and without a standard error nothing is reported."""
     closed = tells("standard input or output", "it is closed")
     tries.expect([], b"", b"", 4, closed, host=lambda: os.close(0))
     tries.expect([], b"", b"", 4, closed, host=lambda: os.close(1))
@@ -488,7 +491,7 @@ def streams_that_are_missing(tries):
 
 
 def arguments(tries):
-    """What goes to the standard error, and what is asked to be seen."""
+    """Tests what goes to the standard error, and what is shown on request."""
     tries.expect_mistaken(["init", "NONE.IMG", "63"], b"error: ")
     tries.expect_mistaken(["check", os.fsdecode(b"\xff.IMG")], b"?Bad argument\nfilser: an argument isn't UTF-8\n")
     tries.expect(["--version"], b"", b"filser 0.1.0\n", 0)
@@ -496,7 +499,7 @@ def arguments(tries):
 
 
 def expect_argument(tries, words, argument, text):
-    """Words are refused, and it is told which argument is at fault, and what it should be."""
+    """Checks that words are refused, with a report of the argument at fault and the form that it needs."""
     wanted = {
         "PPN": "two octal numbers of 1 to 6 digits, neither of them zero, as 10,20 or [10,20]",
         "NAME": "1 to 6 letters and digits, and at most 3 more after a full stop, as FOO.TXT",
@@ -507,7 +510,7 @@ def expect_argument(tries, words, argument, text):
 
 
 def names_that_name_no_file(tries):
-    """A directory or a file that no name stands for."""
+    """Tests directories and files that no name stands for."""
     for owner in ["0,20", "20,0", "10", "10,", "10,x", "10,8", "10,20,30", "1000000,1", "[10,20", "10,20]", "[[10,20]]",
                   "[]", "", " 10,20", "[10,20] ", "(10,20)"]:
         expect_argument(tries, ["get", "V.IMG", owner, "FOO"], "PPN", owner)
@@ -519,7 +522,7 @@ def names_that_name_no_file(tries):
 
 
 def texts_that_name_no_day(tries):
-    """Dates that are neither a number nor a day of the calendar, whose months have 31 days each."""
+    """Tests dates that are neither a number nor a day of the calendar, whose months have 31 days each."""
     for text in ["1963-12-31", "2052-02-02", "2053-01-01", "1975-13-01", "1975-00-10", "1975-01-00", "1975-01-32",
                  "1975-1-04", "1975-01-4", "75-01-04", "01975-01-04", "1975-01-04-", "1975-01", "1975/01/04",
                  "4-Foo-1975", "4-January-1975", "32-Jan-1975", "0-Jan-1975", "004-Jan-1975", "4-Jan-75", "4-1-1975",
@@ -530,7 +533,7 @@ def texts_that_name_no_day(tries):
 
 
 def numbers_out_of_range(tries):
-    """Numbers that are too small, too large, or not decimal."""
+    """Tests numbers that are too small, too large, or not decimal."""
     for words, number, argument in [
         (["init", "V.IMG"], "63", "<BLOCKS>"),
         (["init", "V.IMG"], "131073", "<BLOCKS>"),
@@ -547,7 +550,7 @@ def numbers_out_of_range(tries):
 
 
 def words_that_no_command_takes(tries):
-    """Words that are too few or too many, and a command that there isn't."""
+    """Tests words that are too few or too many, and a command that doesn't exist."""
     missing = b"error: the following required arguments were not provided:\n  "
     tries.expect_mistaken(["init", "V.IMG"], missing + b"<BLOCKS>\n")
     tries.expect_mistaken(["run"], missing + b"<IMAGE>\n")
@@ -556,7 +559,7 @@ def words_that_no_command_takes(tries):
 
 
 def help_and_version(tries):
-    """What shows help, and what shows the version."""
+    """Tests what shows help, and what shows the version."""
     for words in [["help"], ["-h"], ["--help"]]:
         tries.expect_shown(words, b"\nUsage: filser [")
     tries.expect_shown(["run", "--help"], b"\nUsage: filser run ")
@@ -599,7 +602,7 @@ def main():
         print("usage: tests/refusals_and_faults.py PROGRAM", file=sys.stderr)
         return 2
     with tempfile.TemporaryDirectory() as folder:
-        # Another user may not come to where the program is, so a copy of it is run.
+        # Another user may not be able to reach the program, so a copy of it is run.
         os.chmod(folder, 0o755)
         program = shutil.copy(sys.argv[1], os.path.join(folder, "filser"))
         os.chmod(program, 0o755)

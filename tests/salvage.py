@@ -3,10 +3,10 @@
 
 usage: tests/salvage.py PROGRAM [COUNT]
 
-An image is damaged block by block, by a reader of the layout of its own: what is whole comes out byte for byte, each
-fault is told at the file that it costs, and no byte of the image changes. COUNT images (200) are spoiled at random: the
-program ends with a status of its own, and what it says is OK are the bytes of a file that was put. Prints a line for
-each thing that is not as it should be, and one line at the end.
+An image is damaged block by block, by an independent reader of the layout: what is whole comes out byte for byte, each
+fault is reported with the file that it costs, and no byte of the image changes. COUNT images (200) are spoiled at
+random: the program ends with a status of its own, and what it reports as OK are the bytes of a file that was put.
+Prints a line for each failed check, and one line at the end.
 """
 
 import os
@@ -49,7 +49,7 @@ class Image:
             file.write(self.data)
 
     def chain(self, first):
-        """The entries of a chain of directory blocks, three words each, and the numbers of its blocks."""
+        """Returns the entries of a chain of directory blocks, three words each, and the numbers of its blocks."""
         entries, blocks = [], []
         while first:
             words = self.words(first)
@@ -59,22 +59,22 @@ class Image:
         return entries, blocks
 
     def directories(self):
-        """The first block of each directory, by its PPN."""
+        """Returns the first block of each directory, by its PPN."""
         return {entry[0]: entry[2] for entry in self.chain(self.words(1)[5])[0]}
 
     def files(self, ppn):
-        """The prime block of each file of a directory, by its name and extension."""
+        """Returns the prime block of each file of a directory, by its name and extension."""
         return {(entry[0], entry[1] >> 18): entry[2] for entry in self.chain(self.directories()[ppn])[0]}
 
     def data_blocks(self, prime):
-        """The data blocks of a file without extensions."""
+        """Returns the data blocks of a file without extensions."""
         words = self.words(prime)
         pointers = words[16:16 + words[6]]
         return [(word & 0o777777) + i for word in pointers for i in range(word >> 18)]
 
 
 def sixbit(text):
-    """Six characters as a word."""
+    """Returns six characters as a word."""
     word = 0
     for character in text.ljust(6):
         word = word * 64 + ord(character) - 32
@@ -95,7 +95,7 @@ ENCODED = {"FOO.TXT": "text", "DATA.BIN": "bytes", "S": "text"}
 
 
 class Tries:
-    """Runs of the program in a folder of their own."""
+    """Runs of the program in their own folder."""
 
     def __init__(self, program, folder):
         self.program = program
@@ -107,7 +107,7 @@ class Tries:
         return os.path.join(self.folder, *names)
 
     def so(self, what, is_so):
-        """Counts a thing that is to be so."""
+        """Counts a check that must hold."""
         self.count += 1
         if not is_so:
             self.failed += 1
@@ -126,7 +126,7 @@ class Tries:
         return Image(self.path(name))
 
     def hosts(self):
-        """The files of the host that are put."""
+        """Returns the files of the host that are put."""
         for name, data in GIVEN.items():
             with open(self.path(name), "wb") as file:
                 file.write(data)
@@ -166,7 +166,7 @@ def without(*names):
 
 
 def whole_image(tries):
-    """An image that stands gives all its files, in both layouts; --list and a PPN choose."""
+    """Tests that an image without faults gives all its files, in both layouts; --list and a PPN select."""
     image = tries.make("A.IMG")
     listed = tries.run(["list", "A.IMG", "10,20"]).stdout
     tries.so(f"the order of the names: {listed!r}", listed.index(b"DATA") < listed.index(b"FOO") < listed.index(b"S  "))
@@ -187,13 +187,13 @@ def whole_image(tries):
     tries.run(["salvage", "Q.IMG", "dated"])
     changed = os.stat(tries.path("dated", "10,20", "FOO.TXT")).st_mtime
     tries.so(f"the date of a file: {changed}", changed == 946602060)
-    # Nothing that is there is written over.
+    # Nothing that exists is overwritten.
     done = tries.run(["salvage", "Q.IMG", "dated"])
     tries.so(f"again: {done.stdout!r}", done.stdout == b"dated/10,20/FOO.TXT: ?Can't write\n" and done.returncode == 1)
 
 
 def damaged_blocks(tries):
-    """Each damaged block costs the file that it is of, and no other."""
+    """Tests that each damaged block costs its own file, and no other."""
     fresh = tries.make("B.IMG")
     primes = fresh.files(PPN)
     foo = primes[name_of("FOO", "TXT")]
@@ -232,7 +232,7 @@ def damaged_blocks(tries):
 
 
 def losses_told(tries):
-    """A check that is refused tells on the standard error which files are lost; no other command does."""
+    """Tests that a check that is refused reports on the standard error which files are lost; no other command does."""
     fresh = tries.make("N.IMG")
     primes = fresh.files(PPN)
     foo, small = primes[name_of("FOO", "TXT")], primes[name_of("S", "")]
@@ -275,7 +275,8 @@ def losses_told(tries):
 
 
 def tangled_image(tries):
-    """A check gives its search up if the same blocks are read again and again, and tells 100 faults at most."""
+    """Tests that a check abandons its search if the same blocks are read again and again, and reports at most 100
+    faults."""
     image = tries.make("T.IMG", 2048)
     chain = list(range(500, 1000))
     for place, block in enumerate(chain):
@@ -302,7 +303,8 @@ def tangled_image(tries):
 
 
 def shared_blocks(tries):
-    """A block that is in two files costs both; one that no directory names costs none of those that one names."""
+    """Tests that a block that is in two files costs both; one that no directory names costs no file that a directory
+    names."""
     fresh = tries.make("C.IMG")
     primes = fresh.files(PPN)
     foo, small = primes[name_of("FOO", "TXT")], primes[name_of("S", "")]
@@ -313,7 +315,7 @@ def shared_blocks(tries):
     twice = f"?Block {block} reached twice"
     wanted = {line("DATA.BIN"), line("FOO.TXT", text=twice), line("S", text=twice), WHOLE[3]}
     tries.salvage("a block of two files", fresh, wanted, 1, saved=without("10,20/FOO.TXT", "10,20/S"))
-    # What a file holds is taken for no file: here its words are a prime block that claims another file's block.
+    # The contents of a file aren't taken for a file: here its words are a prime block that claims another file's block.
     image = tries.make("D.IMG")
     other = image.files(OTHER)[name_of("FOO", "TXT")]
     data = image.files(PPN)[name_of("DATA", "BIN")]
@@ -329,7 +331,7 @@ def shared_blocks(tries):
 
 
 def deleted_files(tries):
-    """A file that was deleted isn't found, nor the version that another replaced."""
+    """Tests that a deleted file isn't found, nor the version that another replaced."""
     image = tries.make("E.IMG")
     tries.run(["delete", "E.IMG", "10,20", "FOO.TXT"])
     tries.run(["put", "E.IMG", "10,20", "S"], b"NEWER")
@@ -341,7 +343,7 @@ def deleted_files(tries):
 
 
 def logs(tries):
-    """What the log still owes counts; a log that isn't good is told."""
+    """Tests that what the log still owes counts, and that a log that isn't good is reported."""
     before = tries.make("F.IMG")
     tries.run(["delete", "F.IMG", "10,20", "FOO.TXT"])
     after = Image(tries.path("F.IMG"))
@@ -360,7 +362,7 @@ def logs(tries):
 
 
 def odd_images(tries):
-    """Images that are cut off, empty, or not there."""
+    """Tests images that are truncated, empty, or missing."""
     image = tries.make("G.IMG")
     last = max(n for prime in image.files(PPN).values() for n in (prime, *image.data_blocks(prime)))
     last = max(last, *(n for prime in image.files(OTHER).values() for n in (prime, *image.data_blocks(prime))))
@@ -376,7 +378,7 @@ def odd_images(tries):
 
 
 def spoiled_images(tries, count):
-    """Images that are spoiled at random."""
+    """Tests images that are spoiled at random."""
     fresh = tries.make("H.IMG", 64)
     given = set(GIVEN.values())
     chance = random.Random(1964)

@@ -1,7 +1,7 @@
 #!/bin/sh
-# Starts the program in ways that it isn't meant to be started in: with standard streams that are closed or lead to the
-# image, beside another process, on files that are no images, and with no space left for a new image. No image may be
-# spoiled. Compares what is printed, the standard error, the exit status and the image's bytes.
+# Starts the program in ways in which it isn't meant to be started: with standard streams that are closed or lead to the
+# image, with another process on the image, on files that aren't images, and with no space left for a new image. No
+# image may be spoiled. Compares what is printed, the standard error, the exit status and the image's bytes.
 #
 # usage: tests/streams_and_locks.sh PROGRAM
 set -eu
@@ -20,7 +20,7 @@ failed=0
 closed='filser: standard input or output: it is closed'
 fault='?Device fault'
 
-# judge NAME WANTED: the way of starting ended with this status, and the image is as it was.
+# judge NAME WANTED: this run ended with this status, and the image is as it was.
 judge() {
     well=ok
     cmp -s A.IMG before || well='the image has changed'
@@ -32,7 +32,7 @@ judge() {
     echo "$1: $well"
 }
 
-# want FILE [LINE ..]: these lines are to be in the file.
+# want FILE [LINE ..]: these lines must be in the file.
 want() {
     file=wanted-$1
     shift
@@ -42,7 +42,7 @@ want() {
     done
 }
 
-# fresh: nothing was printed or told yet.
+# fresh: nothing was printed or reported yet.
 fresh() {
     status=0
     : >out
@@ -164,7 +164,7 @@ want err
 : >err
 judge 'the other process' 0
 
-# The image is cut short while it is open: it isn't written then.
+# The image is truncated while it is open: it isn't written then.
 fresh
 "$program" run A.IMG <pipe >out 2>err &
 exec 3>pipe

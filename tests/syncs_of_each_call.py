@@ -75,7 +75,7 @@ LINES = [
 ]
 
 class Counts:
-    """Counts the syncs of runs in a folder with an image."""
+    """Counts of the syncs of runs in a folder with an image."""
 
     def __init__(self, program, folder):
         self.program, self.folder, self.failed, self.lines = program, folder, 0, 0
@@ -87,7 +87,7 @@ class Counts:
             print(what)
 
     def run(self, *words, data=b""):
-        """Runs the program untraced; it has to succeed."""
+        """Runs the program untraced; it must succeed."""
         done = subprocess.run([self.program, *words], input=data, capture_output=True, cwd=self.folder, check=False,
                               timeout=LIMIT)
         self.judge(done.returncode == 0, f"{' '.join(words)}: status {done.returncode}, {done.stdout!r}")
@@ -125,7 +125,8 @@ class Counts:
         return counts
 
     def expect(self, words, rows):
-        """Compares the answers and the syncs of a run with these rows. The start's syncs come on top of the first."""
+        """Compares the answers and the syncs of a run with these rows. The start's syncs are added to those of the
+        first."""
         answers, counts = self.traced(words, [line for line, _, _ in rows])
         self.lines += len(rows)
         self.judge(len(counts) == len(rows) + 1, f"{' '.join(words)}: {len(counts) - 1} answers to {len(rows)} lines")
@@ -149,7 +150,7 @@ class Counts:
         os.remove(os.path.join(self.folder, "J.IMG"))
 
 def may_trace():
-    """Tells whether strace is installed and may trace."""
+    """Returns whether strace is installed and may trace."""
     if not shutil.which("strace"):
         return False
     return subprocess.run(["strace", "-o", "/dev/null", "true"], capture_output=True, check=False).returncode == 0

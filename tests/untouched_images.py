@@ -1,12 +1,12 @@
 #!/usr/bin/env python3
-"""Tests that the program changes no byte that it was not asked to change.
+"""Tests that the program changes no byte that it should not change.
 
 usage: tests/untouched_images.py PROGRAM
 
 Every subcommand is run to its end with ample memory. Subcommands that only read, images that a start refuses, `init`
-over a file that is there, `migrate` of an image of layout 2, and `convert` of an image leave the bytes of each file as
-they were; `convert` prints the number of blocks and makes an image with the same files. An image that may only be read
-can be read. Prints a line for each thing that is not as it should be, and one line at the end.
+over an existing file, `migrate` of an image of layout 2, and `convert` of an image leave the bytes of each file
+unchanged; `convert` prints the number of blocks and makes an image with the same files. An image that may only be read
+can be read. Prints a line for each failed check, and one line at the end.
 """
 
 import os
@@ -31,11 +31,11 @@ class Runs:
         self.failed = 0
 
     def path(self, name):
-        """Where a file of the folder is."""
+        """Returns where a file of the folder is."""
         return os.path.join(self.folder, name)
 
     def files(self):
-        """The bytes of each file of the folder."""
+        """Returns the bytes of each file of the folder."""
         found = {}
         for name in sorted(os.listdir(self.folder)):
             if os.path.isfile(self.path(name)):
@@ -56,8 +56,8 @@ class Runs:
             print(what)
 
     def run(self, words, status, printed, data=b"", before=None):
-        """Runs the program, whose status and output have to be these; an output of None may be anything. `before` is
-        done in its process first."""
+        """Runs the program, whose status and output must be these; an output of None may be anything. `before` is done
+        in its process first."""
         done = subprocess.run([self.program, *words], input=data, capture_output=True, cwd=self.folder, check=False,
                               timeout=LIMIT, preexec_fn=before)
         shown = " ".join(words)
@@ -66,7 +66,7 @@ class Runs:
         return done.stdout
 
     def leaves(self, words, status, printed, data=b"", before=None):
-        """The same of a run that leaves all files as they were, and makes none."""
+        """Checks the same for a run that leaves all files unchanged, and makes none."""
         was = self.files()
         stdout = self.run(words, status, printed, data, before)
         self.judge(self.files() == was, f"{' '.join(words)}: a file has changed")
@@ -74,7 +74,7 @@ class Runs:
 
 
 def whole_runs(runs, form):
-    """Every subcommand on an image of a form. That of form 2 has layout 2."""
+    """Tests every subcommand on an image of a form. That of form 2 has layout 2."""
     image = f"FORM{form}.IMG"
     named = ["--form", str(form)]
     runs.run(["init", *named, "--layout", str(form), image, "64"], 0, b"")
@@ -99,7 +99,7 @@ def whole_runs(runs, form):
 
 
 def conversions(runs, image, form):
-    """A conversion leaves the image that is there, and its copy has the same files."""
+    """Tests that a conversion leaves the existing image unchanged, and that its copy has the same files."""
     copy = f"COPY{form}.IMG"
     before = runs.files()
     runs.run(["convert", "--form", str(form), image, copy], 0, b"Converted 64 blocks\n")
@@ -118,7 +118,7 @@ def conversions(runs, image, form):
 
 
 def taken_names(runs):
-    """A new image isn't made where something is."""
+    """Tests that a new image isn't made if something is there."""
     runs.write("NOTES.TXT", b"not an image\n")
     runs.write("EMPTY.TXT", b"")
     os.mkdir(runs.path("FOLDER"))
@@ -128,7 +128,7 @@ def taken_names(runs):
 
 
 def spoiled(image):
-    """Images that a start refuses, made of a good one in form 1, and the line that each is refused with."""
+    """Yields images that a start refuses, made from a good one in form 1, and the line with which each is refused."""
     both = bytearray(image)
     for block in (1, 2):
         both[block * 1024 + 8 : block * 1024 + 16] = (7).to_bytes(8, "big")
@@ -144,7 +144,7 @@ def spoiled(image):
 
 
 def refusals(runs):
-    """An image that is refused stays as it was, whatever was to be done with it."""
+    """Tests that an image that is refused stays as it was, whatever was to be done with it."""
     with open(runs.path("FORM1.IMG"), "rb") as file:
         image = file.read()
     tasks = [(["run"], []), (["calls"], []), (["wire"], []), (["put"], ["10,20", "A.TXT"]),
@@ -157,7 +157,7 @@ def refusals(runs):
 
 
 def as_another():
-    """From now on this process is of somebody who may do with a file what all may."""
+    """Makes this process run as a user who may do with a file what everybody may."""
     if os.getuid() == 0:
         os.setgroups([])
         os.setgid(NOBODY)
@@ -165,7 +165,7 @@ def as_another():
 
 
 def without_leave_to_write(runs):
-    """An image that may only be read can be read, and nothing else is done with it."""
+    """Tests that an image that may only be read can be read, and that nothing else is done with it."""
     os.chmod(runs.folder, 0o755)
     os.chmod(runs.path("FORM1.IMG"), 0o444)
     for words, printed in ((["get", "FORM1.IMG", "10,20", "HELLO.TXT"], HELLO),

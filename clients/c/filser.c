@@ -35,7 +35,7 @@ struct bytes {
     size_t length, room;
 };
 
-/* What is left of an order once it is written: what its answer changes in the copy of a core. */
+/* What is left of an order after it is written: what its answer changes in the copy of a core. */
 struct order {
     unsigned kind, job;
     uint32_t number;
@@ -144,7 +144,7 @@ enum filser_error filser_add_examine(struct filser *service, unsigned job, uint3
     return add_order(service, parts, address, count, NULL, 0);
 }
 
-/* Tells whether a call has these parts: one that it doesn't use is 0. */
+/* Returns whether a call has these parts: one that it doesn't use is 0. */
 static bool is_call(enum filser_code code, unsigned channel, uint32_t number) {
     switch (code) {
     case FILSER_MAKDIR:
@@ -182,7 +182,7 @@ enum filser_error filser_add_room(struct filser *service) {
 
 /* The exchange. */
 
-/* Writes as `write` does, without the signal that ends a process which writes where nobody reads. */
+/* Writes as `write` does, without the signal that ends a process that writes where nobody reads. */
 static ssize_t write_quietly(int file, const void *data, size_t length) {
     sigset_t broken, before, pending;
     sigemptyset(&broken);
@@ -202,8 +202,8 @@ static ssize_t write_quietly(int file, const void *data, size_t length) {
     return count;
 }
 
-/* Writes what the pipe takes of the orders, and gives how much is written by now: all if nobody reads any more, for
-   then the answers end. */
+/* Writes what the pipe takes of the orders, and returns how much is written so far: all if nobody reads any longer,
+   because then the answers end. */
 static size_t write_orders(struct filser *service, size_t written) {
     ssize_t count = write_quietly(service->to, service->sending.data + written, service->sending.length - written);
     if (count >= 0) return written + (size_t)count;
@@ -220,7 +220,7 @@ static enum filser_error read_answers(struct filser *service) {
     return count < 0 && (errno == EAGAIN || errno == EWOULDBLOCK || errno == EINTR) ? FILSER_OK : FILSER_ENDED;
 }
 
-/* Steps over the whole answers that were read after `*place`, and counts them and the words that they tell. */
+/* Steps over the complete answers that were read after `*place`, and counts them and the words that they return. */
 static enum filser_error count_answers(const struct bytes *held, size_t *place, size_t *answers, size_t *words) {
     while (held->length - *place >= RECORD_BYTES) {
         const unsigned char *record = held->data + *place;
@@ -234,7 +234,7 @@ static enum filser_error count_answers(const struct bytes *held, size_t *place, 
     return FILSER_OK;
 }
 
-/* Writes the orders, and reads meanwhile until each is answered. */
+/* Writes the orders, and meanwhile reads until each is answered. */
 static enum filser_error exchange(struct filser *service, size_t *words) {
     size_t written = write_orders(service, 0), place = 0, answers = 0;
     while (answers < service->order_count) {
@@ -253,7 +253,7 @@ static enum filser_error exchange(struct filser *service, size_t *words) {
     return FILSER_OK;
 }
 
-/* Takes memory for answers, if it isn't there; there are some. */
+/* Allocates memory for answers, of which there is at least one, and returns whether there was any. */
 static bool reserve_answers(struct filser *service, size_t answers, size_t words) {
     free(service->answers);
     free(service->changes);
@@ -290,7 +290,7 @@ static enum filser_error new_copy(struct core *core, size_t size) {
     return FILSER_OK;
 }
 
-/* Follows in the copy of a core what an order has done. */
+/* Repeats in the copy of a core what an order has done. */
 static enum filser_error copy_order(struct filser *service, const struct order *order,
                                     const struct filser_answer *answer) {
     struct core *core = &service->cores[order->job];
@@ -325,7 +325,7 @@ enum filser_error filser_send(struct filser *service, const struct filser_answer
     return error;
 }
 
-/* Sends one order, which was added or wasn't, and gives its answer. */
+/* Sends one order, which was added or wasn't, and returns its answer. */
 static enum filser_error send_one(struct filser *service, enum filser_error error, struct filser_answer *answer) {
     const struct filser_answer *answers;
     size_t count;
@@ -377,7 +377,7 @@ enum filser_error filser_room(struct filser *service, uint64_t *blocks) {
 
 /* The process. */
 
-/* Gives the same end of a pipe under a number that is no standard stream's and that no program inherits. */
+/* Returns the same end of a pipe under a number that isn't a standard stream's and that no program inherits. */
 static int move_up(int file) {
     int moved = fcntl(file, F_DUPFD_CLOEXEC, 3);
     close(file);
@@ -424,7 +424,7 @@ static bool run_program(struct filser *service, const char *program, const char 
     return true;
 }
 
-/* Keeps the line that the program has printed in place of an answer. */
+/* Stores the line that the program has printed instead of an answer. */
 static void keep_printed(struct filser *service) {
     struct pollfd end = {service->from, POLLIN, 0};
     close(service->to);
@@ -450,7 +450,7 @@ enum filser_error filser_start(const char *program, const char *image, int form,
     return FILSER_NOT_STARTED;
 }
 
-/* Waits for the program, and gives its exit status. */
+/* Waits for the program, and returns its exit status. */
 static int wait_for(pid_t child) {
     int status;
     if (child < 0) return 127;
@@ -494,7 +494,7 @@ const char *filser_error_text(enum filser_error error) {
 
 /* UUOs. */
 
-/* The operation codes of UUOs that are no call's own. */
+/* The operation codes of UUOs that have no call of their own. */
 enum { INIT = 041, CALLI = 047, STATO = 061, STATZ = 063, INPUT = 066, OUTPUT = 067 };
 enum { CALLI_RESET = 0, CALLI_EXIT = 012 };
 
@@ -516,7 +516,7 @@ static size_t list_calls(struct call *calls, const struct call *wanted, size_t c
     return count;
 }
 
-/* Lists the calls of a CALLI, and gives how many there are. */
+/* Lists the calls of a CALLI, and returns how many there are. */
 static size_t calli_calls(const struct uuo *uuo, struct call calls[CHANNELS]) {
     if (uuo->address == CALLI_RESET) return list_calls(calls, &(struct call){FILSER_RESET, 0, 0, 0}, 1);
     if (uuo->address != CALLI_EXIT || uuo->channel != 0) return 0;
@@ -525,7 +525,7 @@ static size_t calli_calls(const struct uuo *uuo, struct call calls[CHANNELS]) {
     return CHANNELS;
 }
 
-/* Lists the calls that do a UUO, and gives how many there are: none if the service doesn't do it. */
+/* Lists the calls that do a UUO, and returns how many there are: none if the service doesn't do it. */
 static size_t uuo_calls(const struct uuo *uuo, struct call calls[CHANNELS]) {
     struct call one = {(enum filser_code)uuo->operation, uuo->channel, uuo->address, 0};
     switch (uuo->operation) {
@@ -551,14 +551,14 @@ static size_t uuo_calls(const struct uuo *uuo, struct call calls[CHANNELS]) {
     return list_calls(calls, &one, 1);
 }
 
-/* The word of the machine at an address of the job's core. */
+/* Returns the word of the machine at an address of the job's core. */
 static uint64_t *word_at(const struct filser_machine *machine, uint32_t address) {
     if (address < ACCUMULATORS) return &machine->accumulators[address];
     if (machine->words != NULL) return &machine->words[address];
     return &machine->pages[address / PAGE_WORDS][address % PAGE_WORDS];
 }
 
-/* Collects deposits of those words in a row that differ from the copy. */
+/* Collects deposits of the runs of words that differ from the copy. */
 static enum filser_error add_runs(struct filser *service, unsigned job, const uint64_t *found, uint32_t first,
                                   size_t count) {
     const uint64_t *copy = service->cores[job].words + first;
@@ -594,7 +594,7 @@ static enum filser_error check_machine(const struct filser *service, const struc
     return FILSER_OK;
 }
 
-/* Tells whether the machine has a memory as large as the job's core. */
+/* Returns whether the machine has a memory as large as the job's core. */
 static bool is_large_enough(const struct filser_machine *machine, size_t size) {
     if (machine->accumulators == NULL || machine->size < size) return false;
     if (machine->words != NULL) return true;
@@ -605,9 +605,9 @@ static bool is_large_enough(const struct filser_machine *machine, size_t size) {
 
 /* Collects deposits of the words of the machine that differ from the service's core.
 
-   This is right whatever a call reads, and needs no knowledge of it: the copy is what the core of the service holds,
-   since only deposits and the words that answers tell change it, so after these deposits the core is the machine's
-   memory. An unchanged page costs one comparison. */
+   This is right whatever a call reads, and doesn't depend on it: the copy has what the core of the service has, since
+   only deposits and the words that answers return change that core, so after these deposits it is the machine's memory.
+   An unchanged page costs one comparison. */
 static enum filser_error add_changes(struct filser *service, const struct filser_machine *machine) {
     struct core *core = &service->cores[machine->job];
     uint32_t first = ACCUMULATORS, past = (uint32_t)core->size;
@@ -627,7 +627,7 @@ static enum filser_error add_changes(struct filser *service, const struct filser
 }
 
 /* Collects the calls of a UUO. OPEN reads three words; the first one of an INIT is its effective address, so that takes
-   the place of the instruction in the service's copy, and is put right before the next UUO. */
+   the place of the instruction in the service's copy, and is corrected before the next UUO. */
 static enum filser_error add_calls(struct filser *service, const struct filser_machine *machine, const struct uuo *uuo,
                                    struct call *calls, size_t count) {
     enum filser_error error = FILSER_OK;
@@ -643,8 +643,8 @@ static enum filser_error add_calls(struct filser *service, const struct filser_m
     return error;
 }
 
-/* Puts what the answers tell into the machine's memory, and gives the answer to the UUO: that of its first call that
-   isn't done, or of its last. A channel that isn't open is as good as closed. */
+/* Puts the words of the answers into the machine's memory, and returns the answer to the UUO: that of its first call
+   that isn't done, or of its last. A channel that isn't open counts as closed. */
 static struct filser_answer take_answers(const struct filser_machine *machine, const struct filser_answer *answers,
                                          const struct call *calls, size_t count) {
     struct filser_answer result = {FILSER_DONE, 0, 0, NULL};
@@ -664,8 +664,8 @@ static void owe(struct core *core, uint32_t address) {
     core->owed = address;
 }
 
-/* Puts what a monitor puts into the machine's memory beside what a call does. A GETSTS into a word that isn't there is
-   an address check. */
+/* Puts what a monitor puts into the machine's memory besides what a call does. A GETSTS into a word that doesn't exist
+   is an address check. */
 static void settle(struct core *core, const struct filser_machine *machine, const struct uuo *uuo,
                    struct filser_answer *answer) {
     if (uuo->operation == INIT) owe(core, uuo->pc);
@@ -684,7 +684,7 @@ static void settle(struct core *core, const struct filser_machine *machine, cons
     }
 }
 
-/* Gives how far the machine goes on after a UUO that is answered so. */
+/* Returns how far the machine continues after a UUO with this answer. */
 static int advance_of(const struct uuo *uuo, const struct filser_answer *answer) {
     bool done = answer->kind == FILSER_DONE, has_status = answer->kind == FILSER_VALUE;
     switch (uuo->operation) {

@@ -1,9 +1,9 @@
 /* A client for `filser wire`: the disk of a PDP-10 emulator, served by a process over two pipes. C99 and POSIX.
 
-   A service has an image to itself. Jobs log in, each with a core of its own; filser_deposit and filser_examine move
-   words, filser_call makes a call of the monitor, and filser_uuo does a UUO of a running machine on the machine's own
-   memory. Orders that are collected by filser_add_login and its kin are sent by one write, by filser_send. There is no
-   global state, so several services may run at once; one service is used by one thread at a time. docs/EMULATORS.md
+   A service has an image to itself. Jobs log in, each with its own core; filser_deposit and filser_examine move words,
+   filser_call makes a call of the monitor, and filser_uuo does a UUO of a running machine on the machine's own memory.
+   Orders that are collected by filser_add_login and similar functions are sent by one write, by filser_send. There is
+   no global state, so several services may run at once; only one thread at a time may use a service. docs/EMULATORS.md
    describes the wire. The client in Python, in clients/python, has the same functions.
 
    A program that runs one UUO, OPEN 1,210:
@@ -44,24 +44,24 @@
 #include <stddef.h>
 #include <stdint.h>
 
-/* Why nothing was answered. What the service refuses is no error of the client, but an answer. */
+/* Why there was no answer. A refusal of the service isn't an error of the client, but an answer. */
 enum filser_error {
     FILSER_OK = 0,
     FILSER_BAD_ARGUMENT,  /* an argument is outside its range, and nothing was sent */
     FILSER_BAD_WORD,      /* a word has more than 36 bits, and nothing was sent */
     FILSER_NOT_LOGGED_IN, /* the job isn't logged in, and nothing was sent */
-    FILSER_NOT_SENT,      /* orders were collected and are not sent yet */
+    FILSER_NOT_SENT,      /* orders were collected and haven't been sent yet */
     FILSER_SHORT_MEMORY,  /* the machine's memory is smaller than the job's core, or lacks a page; nothing was sent */
     FILSER_OUT_OF_MEMORY, /* this process has no memory. If it was collecting or comparing, nothing was sent; else an
                              order may have been done whose answer is lost: stop the service */
     FILSER_NOT_STARTED,   /* the program ended before its first answer: see filser_printed and filser_stop */
     FILSER_ENDED,         /* the program ended, or its streams failed: stop the service */
-    FILSER_NOT_AN_ANSWER  /* the program wrote something that is no answer: stop the service */
+    FILSER_NOT_AN_ANSWER  /* the program wrote something that isn't an answer: stop the service */
 };
 
-/* What an answer says. */
+/* The kinds of answers. */
 enum filser_kind {
-    FILSER_WRONG = 0, /* the record was no order, and nothing was done: the functions below send none such */
+    FILSER_WRONG = 0, /* the record wasn't an order, and nothing was done: the functions below send no such record */
     FILSER_DONE = 1,
     FILSER_VALUE = 2,   /* the value is a status */
     FILSER_REFUSED = 3, /* the value is the error code */
@@ -69,7 +69,7 @@ enum filser_kind {
     FILSER_NO_CHANNEL = 5,
     FILSER_ADDRESS_CHECK = 6,
     FILSER_NO_JOB = 7,
-    FILSER_NO_MEMORY = 8, /* of the service; nothing was done, and the call may be made again */
+    FILSER_NO_MEMORY = 8, /* of the service; nothing was done, and the call may be repeated */
     FILSER_DEVICE = 9,    /* the disk failed: start again */
     FILSER_FAILED = 10,   /* it had failed before */
     FILSER_DATE_RANGE = 11,
@@ -103,7 +103,7 @@ struct filser_change {
     uint64_t word;
 };
 
-/* An answer. Its changes belong to the service, and are there until the next orders are collected or sent. */
+/* An answer. Its changes belong to the service, and are valid until the next orders are collected or sent. */
 struct filser_answer {
     enum filser_kind kind;
     uint64_t value;
@@ -111,12 +111,12 @@ struct filser_answer {
     const struct filser_change *changes;
 };
 
-/* A machine that has come to a UUO. What isn't named in an initializer is 0, as it should be. */
+/* A machine that has reached a UUO. What an initializer doesn't name is 0, which is the right default. */
 struct filser_machine {
     unsigned job;
     uint64_t *accumulators; /* 16 words: addresses 0 to 17 (octal) */
     uint64_t *words;        /* the memory from address 0, of which the first 16 words aren't used; or NULL */
-    uint64_t *const *pages; /* if words is NULL: the pages of 512 words; all that the job's core reaches are there */
+    uint64_t *const *pages; /* if words is NULL: the pages of 512 words; all that the job's core needs must exist */
     size_t size;            /* the number of words of the memory, at least that of the job's core */
     uint32_t pc;            /* the address of the UUO, which matters to INIT */
     unsigned date, minute;  /* the moment of the call */
@@ -126,9 +126,9 @@ struct filser_machine {
     uint32_t first_changed, last_changed;
 };
 
-/* What a UUO did: the machine goes on `advance` words after the UUO (1, 2 if it skips, 3 or 4 after an INIT; 0 if this
-   is no UUO that the service does, and nothing was sent), and the kind and value of the answer. It was done if the kind
-   is FILSER_DONE or FILSER_VALUE. */
+/* What a UUO did: the machine continues `advance` words after the UUO (1, 2 if it skips, 3 or 4 after an INIT; 0 if
+   this isn't a UUO that the service does, and nothing was sent), and the kind and value of the answer. It was done if
+   the kind is FILSER_DONE or FILSER_VALUE. */
 struct filser_outcome {
     int advance;
     enum filser_kind kind;
@@ -137,15 +137,15 @@ struct filser_outcome {
 
 struct filser;
 
-/* Starts the program, found as by a shell, and waits until it serves the image in this form, 1 or 2. A service is there
-   for filser_printed and filser_stop also after an error, and NULL only if there is no memory. */
+/* Starts the program, found as a shell finds it, and waits until it serves the image in this form, 1 or 2. Even after
+   an error there is a service for filser_printed and filser_stop; it is NULL only if there is no memory. */
 enum filser_error filser_start(const char *program, const char *image, int form, struct filser **service);
 
-/* Ends the exchange, waits for the program, frees the service, and gives the exit status: 127 if the program couldn't
+/* Ends the exchange, waits for the program, frees the service, and returns the exit status: 127 if the program couldn't
    be run, or minus the signal that ended it. NULL has status 0. */
 int filser_stop(struct filser *service);
 
-/* Gives the line that a program printed which didn't start, as "?Not a volume"; else an empty text. */
+/* Returns the line that a program printed that didn't start, such as "?Not a volume"; otherwise an empty text. */
 const char *filser_printed(const struct filser *service);
 
 const char *filser_error_text(enum filser_error error);
@@ -160,8 +160,8 @@ enum filser_error filser_add_call(struct filser *service, unsigned job, enum fil
                                   uint32_t number, unsigned date, unsigned minute);
 enum filser_error filser_add_room(struct filser *service);
 
-/* Sends what was collected, and gives the answers in the same order. They are read while the orders are written, so
-   they may be as many as memory holds. */
+/* Sends what was collected, and returns the answers in the same order. They are read while the orders are written, so
+   there may be as many as memory has room for. */
 enum filser_error filser_send(struct filser *service, const struct filser_answer **answers, size_t *count);
 
 /* The same as single orders, each sent at once; the answer may be NULL. They are refused while collected orders

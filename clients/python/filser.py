@@ -1,14 +1,15 @@
 """A client for `filser wire`: the disk of a PDP-10 emulator, served by a process over two pipes.
 
-A service has an image to itself. Jobs log in, each with a core of its own; `deposit` and `examine` move words, `call`
-makes a call of the monitor, and `uuo` does a UUO of a running machine on the machine's own memory:
+A service has an image to itself. Jobs log in, each with its own core; `deposit` and `examine` move words, `call` makes
+a call of the monitor, and `uuo` does a UUO of a running machine on the machine's own memory:
 
     with Service("filser", "DISK.IMG") as service:
         service.login(1, 0o10, 0o20, 0o10000)
         outcome = service.uuo(1, instruction, address, accumulators, memory, pc)
         pc += outcome.advance
 
-Words are whole numbers below 2^36. Orders that are collected by `add_login` and its kin are sent by one write:
+Words are whole numbers below 2^36. Orders that are collected by `add_login` and similar functions are sent by one
+write:
 
     service.add_deposit(1, 0o300, [sixbit("FOO"), sixbit("DAT"), 0, 0])
     service.add_call(1, Code.LOOKUP, 1, 0o300)
@@ -37,9 +38,9 @@ CHUNK = 512
 
 
 class Kind(enum.IntEnum):
-    """What an answer says."""
+    """The kinds of answers."""
 
-    WRONG = 0  # the record was no order, and nothing was done
+    WRONG = 0  # the record wasn't an order, and nothing was done
     DONE = 1
     VALUE = 2  # the value is a status
     REFUSED = 3  # the value is the error code
@@ -47,7 +48,7 @@ class Kind(enum.IntEnum):
     NO_CHANNEL = 5
     ADDRESS_CHECK = 6
     NO_JOB = 7
-    NO_MEMORY = 8  # of the service; nothing was done, and the call may be made again
+    NO_MEMORY = 8  # of the service; nothing was done, and the call may be repeated
     DEVICE = 9  # the disk failed: start again
     FAILED = 10  # it had failed before
     DATE_RANGE = 11
@@ -77,7 +78,7 @@ class Code(enum.IntEnum):
 
 
 class Error(enum.Enum):
-    """Why nothing was answered."""
+    """Why there was no answer."""
 
     BAD_ARGUMENT = "an argument is outside its range, and nothing was sent"
     BAD_WORD = "a word has more than 36 bits, and nothing was sent"
@@ -106,7 +107,7 @@ class Answer(namedtuple("Answer", "kind value changes")):
 
     @property
     def words(self):
-        """The words that an EXAMINE has read."""
+        """Returns the words that an EXAMINE has read."""
         return [word for _, word in self.changes]
 
 
@@ -115,7 +116,7 @@ Outcome.__doc__ = """What a UUO did: the machine goes on `advance` words after t
 an INIT; 0 if this is no UUO that the service does, and nothing was sent), and the kind and value of the answer. It was
 done if `kind` is `Kind.DONE` or `Kind.VALUE`."""
 
-# What is left of an order once it is written: what its answer changes in the copy of a core.
+# What is left of an order after it is written: what its answer changes in the copy of a core.
 Sent = namedtuple("Sent", "kind job number words")
 
 WITHOUT_NUMBER = {Code.RESET, Code.GETSTS, Code.RELEAS}
@@ -131,7 +132,7 @@ SAME_CALL = CODES - {Code.RESET, Code.MAKDIR, Code.REMDIR, Code.QUOTA}
 
 
 def sixbit(text):
-    """Up to six characters as a word.
+    """Returns up to six characters as a word.
 
     >>> oct(sixbit("DSK"))
     '0o446353000000'
@@ -143,7 +144,7 @@ def sixbit(text):
 
 
 def halves(left, right):
-    """A word of two halves.
+    """Returns a word of two halves.
 
     >>> oct(halves(0o10, 0o20))
     '0o10000020'
@@ -152,7 +153,7 @@ def halves(left, right):
 
 
 def iowd(count, first):
-    """A word of a command list: `count` words from the address `first`.
+    """Returns a word of a command list: `count` words from the address `first`.
 
     >>> oct(iowd(2, 0o500))
     '0o777776000477'
@@ -161,7 +162,7 @@ def iowd(count, first):
 
 
 def date_number(year, month, day):
-    """The number of a date.
+    """Returns the number of a date.
 
     >>> date_number(1975, 1, 4)
     4095
@@ -170,7 +171,7 @@ def date_number(year, month, day):
 
 
 def order(kind, code=0, job=0, channel=0, number=0, detail=0, words=()):
-    """The bytes of an order.
+    """Returns the bytes of an order.
 
     >>> order(3, job=1, number=0o121, detail=1).hex()
     '03000100000000510000000100000000'
@@ -180,7 +181,7 @@ def order(kind, code=0, job=0, channel=0, number=0, detail=0, words=()):
 
 
 def split_answer(held):
-    """The first answer in bytes, and how many bytes it has; none if it isn't whole.
+    """Returns the first answer in bytes, and how many bytes it has; none if it isn't complete.
 
     >>> split_answer(bytes.fromhex("04000000000000000000201100000000"))
     (Answer(kind=<Kind.STOPPED: 4>, value=8209, changes=[]), 16)
@@ -199,7 +200,7 @@ def split_answer(held):
 
 
 def calls_of(operation, channel, address, pc):
-    """The calls that do a UUO, each with its channel and number; none if the service doesn't do it.
+    """Returns the calls that do a UUO, each with its channel and number; none if the service doesn't do it.
 
     >>> calls_of(0o66, 2, 0o400, 0)
     [(<Code.IN: 46>, 2, 256)]
@@ -223,7 +224,7 @@ def calls_of(operation, channel, address, pc):
 
 
 def advance_of(operation, address, answer):
-    """How far the machine goes on after a UUO that is answered so."""
+    """Returns how far the machine continues after a UUO with this answer."""
     done = answer.kind == Kind.DONE
     if operation == INIT:
         return 4 if done else 3
@@ -239,8 +240,8 @@ def advance_of(operation, address, answer):
 
 
 def answer_of(calls, answers):
-    """The answer to a UUO: that of its first call that isn't done, or of its last. A channel that isn't open is as good
-    as closed."""
+    """Returns the answer to a UUO: that of its first call that isn't done, or of its last. A channel that isn't open
+    counts as closed."""
     for (code, _, _), answer in zip(calls, answers):
         if answer.kind == Kind.NO_CHANNEL and code in (Code.CLOSE, Code.RELEAS):
             answer = Answer(Kind.DONE, 0, [])
@@ -274,7 +275,7 @@ class Service:
             raise self._not_started() from error
 
     def _not_started(self):
-        """The error of a program that has printed a line in place of an answer."""
+        """Returns the error of a program that has printed a line instead of an answer."""
         self._process.stdin.close()
         os.set_blocking(self._process.stdout.fileno(), True)
         text = bytes(self._held) + self._process.stdout.read()
@@ -287,7 +288,7 @@ class Service:
         self.stop()
 
     def stop(self):
-        """Ends the exchange, waits for the program, and gives its exit status."""
+        """Ends the exchange, waits for the program, and returns its exit status."""
         self._has_ended = True
         self._process.stdin.close()
         status = self._process.wait()
@@ -334,8 +335,8 @@ class Service:
         self._sent.append(sent)
 
     def send(self):
-        """Sends what was collected, and gives the answers in the same order. They are read while the orders are
-        written, so they may be as many as memory holds."""
+        """Sends what was collected, and returns the answers in the same order. They are read while the orders are
+        written, so there may be as many as memory has room for."""
         data, sent = b"".join(self._bytes), self._sent
         self._bytes, self._sent = [], []
         try:
@@ -374,7 +375,7 @@ class Service:
         return self.send()[0]
 
     def room(self):
-        """The number of blocks that are left."""
+        """Returns the number of blocks that are left."""
         self._check_sent()
         self.add_room()
         return self.send()[0].value
@@ -382,7 +383,7 @@ class Service:
     # UUOs of a running machine.
 
     def uuo(self, job, instruction, address, accumulators, memory, pc=0, date=0, minute=0, changed=None):
-        """Does a UUO, and gives an `Outcome`.
+        """Does a UUO, and returns an `Outcome`.
 
         `instruction` is its word, `address` its effective address and `pc` its own address, which matters to INIT.
         `accumulators` has 16 words, and `memory` at least as many as the job's core; its first 16 aren't used. Both are
@@ -406,15 +407,15 @@ class Service:
 
     def _add_calls(self, job, calls, status, pc, moment):
         """Collects the calls of a UUO. OPEN reads three words; the first one of an INIT is its effective address, so
-        that takes the place of the instruction in the service's copy, and is put right before the next UUO."""
+        that takes the place of the instruction in the service's copy, and is corrected before the next UUO."""
         for code, channel, number in calls:
             if status is not None and code == Code.OPEN:
                 self.add_deposit(job, pc, [status])
             self.add_call(job, code, channel, number, moment >> 16, moment & 0xFFFF)
 
     def _settle(self, job, instruction, address, pc, answer, accumulators, memory):
-        """Puts what a monitor puts into the machine's memory beside what a call does, and gives the answer to the UUO.
-        A GETSTS into a word that isn't there is an address check."""
+        """Puts what a monitor puts into the machine's memory besides what a call does, and returns the answer to the
+        UUO. A GETSTS into a word that doesn't exist is an address check."""
         operation = instruction >> 27
         if operation == INIT:
             self._owed[job] = pc
@@ -431,8 +432,8 @@ class Service:
     def _add_changes(self, job, accumulators, memory, changed):
         """Collects deposits of the words that differ from the service's core.
 
-        This is right whatever a call reads, and needs no knowledge of it: the copy is what the core of the service
-        holds, since only deposits and the words that answers tell change it, so after these deposits the core is the
+        This is right whatever a call reads, and doesn't depend on it: the copy has what the core of the service has,
+        since only deposits and the words that answers return change that core, so after these deposits it is the
         machine's memory. An unchanged chunk costs one comparison."""
         copy = self._cores.get(job)
         if copy is None:
@@ -454,7 +455,7 @@ class Service:
     # The exchange.
 
     def _copy(self, sent, answer):
-        """Follows in the copy of a core what an order has done."""
+        """Repeats in the copy of a core what an order has done."""
         copy = self._cores.get(sent.job)
         if sent.kind == 1 and answer.kind == Kind.DONE:
             self._cores[sent.job] = array("Q", bytes(8 * sent.number))
@@ -467,7 +468,7 @@ class Service:
                 copy[address] = word
 
     def _exchange(self, data, count):
-        """Writes orders, and reads this number of answers meanwhile."""
+        """Writes orders, and meanwhile reads this number of answers."""
         if self._has_ended:
             raise ServiceError(Error.ENDED)
         rest, answers = self._write(memoryview(data)), []
@@ -487,8 +488,8 @@ class Service:
         return answers
 
     def _write(self, data):
-        """Writes what the pipe takes, and gives the rest: nothing if nobody reads any more, for then the answers
-        end."""
+        """Writes what the pipe takes, and returns the rest: nothing if nobody reads any longer, because then the
+        answers end."""
         try:
             return data[os.write(self._process.stdin.fileno(), data) :] if data else data
         except BlockingIOError:
@@ -497,14 +498,14 @@ class Service:
             return data[len(data) :]
 
     def _read(self):
-        """Reads what there is."""
+        """Reads what is available."""
         data = os.read(self._process.stdout.fileno(), 1 << 16)
         if not data:
             raise ServiceError(Error.ENDED)
         self._held += data
 
     def _split(self, answers):
-        """Takes the whole answers out of the bytes that were read."""
+        """Takes the complete answers out of the bytes that were read."""
         place, held = 0, memoryview(self._held)
         try:
             while True:
@@ -538,7 +539,8 @@ def _put(accumulators, memory, address, word):
 
 
 def _differences(words, copy, first, past):
-    """The runs of words from `first` to before `past` that differ from the copy: each its address and its words."""
+    """Returns the runs of words from `first` to before `past` that differ from the copy: each its address and its
+    words."""
     runs = []
     for start in range(first, past, CHUNK):
         stop = min(start + CHUNK, past)

@@ -1,6 +1,7 @@
 """Three programs of PDP-10 machine code: an address, a word, and what the word is in MACRO-10. All is octal.
 
-Word 120 is .JBSA: in the left half the first free address, where rings come, in the right one where the program starts.
+Word 120 is .JBSA: the left half has the first free address, at which rings are set up, the right one the address at
+which the program starts.
 """
 
 LINE = "THE QUICK BROWN FOX JUMPS OVER THE LAZY DOG\r\n"
@@ -8,7 +9,8 @@ LINES = 30
 
 
 def words_of(program):
-    """The words of a program by their addresses; a word in quotes is the text of LINE, five characters to a word."""
+    """Returns the words of a program by their addresses; a word in quotes is the text of LINE, five characters to a
+    word."""
     words = {}
     for line in program.strip().split("\n"):
         address, word = line.split()[:2]
@@ -20,7 +22,7 @@ def words_of(program):
 
 
 def ascii_words(text):
-    """The words of a text and of the null after it."""
+    """Returns the words of a text and of the null after it."""
     text = (text + "\0").ljust((len(text) + 5) // 5 * 5, "\0")
     return [sum(ord(character) << 29 - 7 * place for place, character in enumerate(text[at : at + 5]))
             for at in range(0, len(text), 5)]

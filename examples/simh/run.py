@@ -3,7 +3,7 @@
 
 usage: examples/simh/run.py PROGRAM
 
-The programs are in programs.py. README.md beside this file says how the simulator hands their UUOs over.
+The programs are in programs.py. README.md in this folder explains how the simulator hands over their UUOs.
 """
 
 import os
@@ -25,8 +25,8 @@ CORE = 0o4000
 MOST_UUOS = 1000
 
 # The page after the programs' memory is the user process table. A UUO puts its word, with the effective address in the
-# right half, into word 424 of it and the address of the next instruction into word 425, and goes on where one of the
-# words 430 to 437 says, by the mode and the traps. Here all of these lead to a HALT.
+# right half, into word 424 of it and the address of the next instruction into word 425, and continues at the address
+# that one of the words 430 to 437 has, by the mode and the traps. Here all of these lead to a HALT.
 TABLE = 0o10000
 UUO_WORD, UUO_NEXT, NEW_PC = TABLE + 0o424, TABLE + 0o425, TABLE + 0o430
 HANDLER = 0o20000
@@ -34,8 +34,8 @@ HALT = 0o254200000000
 
 
 class Simulator:
-    """A process of `pdp10` at a pseudo terminal, for while the machine runs the simulator reads what is typed at it as
-    the machine's console. So nothing may be typed then."""
+    """A process of `pdp10` at a pseudo terminal: while the machine runs, the simulator reads what is typed there as the
+    machine's console. So nothing may be typed then."""
 
     GROUP = 64  # commands that are typed at once: a terminal doesn't hold more than 4096 characters
 
@@ -52,7 +52,7 @@ class Simulator:
         self.ask([f"deposit UBR {TABLE // 512:o}"])
 
     def type(self, commands, last):
-        """Types commands, and gives the lines that are printed up to one with this text."""
+        """Types commands, and returns the lines that are printed up to one with this text."""
         self.input.write("".join(f"{command}\n" for command in commands))
         self.input.flush()
         lines = [self.output.readline()]
@@ -61,7 +61,7 @@ class Simulator:
         return lines
 
     def ask(self, commands):
-        """The lines that are printed for commands."""
+        """Returns the lines that are printed for commands."""
         lines = []
         for place in range(0, len(commands), self.GROUP):
             lines += self.type([*commands[place : place + self.GROUP], "echo ready"], "ready")
@@ -72,12 +72,12 @@ class Simulator:
         self.ask([f"deposit {address:o} {word:o}" for address, word in words.items()])
 
     def examine(self, first, last):
-        """The words from one address to another."""
+        """Returns the words from one address to another."""
         found = (re.search(r"[0-7]+:\t([0-7]+)$", line.strip()) for line in self.ask([f"examine {first:o}-{last:o}"]))
         return [int(word[1], 8) for word in found if word]
 
     def run(self, place):
-        """Runs from a place until the machine stops, and says where a HALT has stopped it."""
+        """Runs from a place until the machine stops, and returns where a HALT has stopped it."""
         self.ask([f"deposit PC {place:o}"])
         stopped = re.search(r"HALT instruction, PC: ([0-7]+)", self.type(["cont"], ", PC: ")[-1])
         return int(stopped[1], 8) if stopped else None
@@ -91,7 +91,7 @@ class Simulator:
 
 
 def do_uuo(simulator, service):
-    """Does the UUO that the machine has come to: its word, and what the service says of it."""
+    """Does the UUO that the machine has reached: its word, and the service's outcome."""
     word, following = simulator.examine(UUO_WORD, UUO_NEXT)
     pc, before = (following & 0o777777) - 1, simulator.examine(0, CORE - 1)
     accumulators, memory = before[:16], before[:]
@@ -102,7 +102,7 @@ def do_uuo(simulator, service):
 
 
 def run_program(service, program):
-    """Runs a program up to its EXIT, and says how many UUOs it has made."""
+    """Runs a program up to its EXIT, and prints how many UUOs it has made."""
     simulator = Simulator()
     words = words_of(program)
     simulator.deposit(words)
@@ -124,7 +124,7 @@ def run_program(service, program):
 
 
 def check(program, image, name, options, wanted):
-    """Compares a file of the image with what it should be."""
+    """Compares a file of the image with its expected contents."""
     found = subprocess.run([program, "get", image, "10,20", name, *options], capture_output=True, check=True).stdout
     print(f"{name}: {len(found)} bytes, " + ("as it should be" if found == wanted else "NOT as it should be"))
     return found == wanted

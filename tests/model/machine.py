@@ -1,7 +1,7 @@
 """A model of the file machine, written independently of the program.
 
-It answers each line of a call script, and tells how many blocks are left, and what is charged to a directory. A file is
-a list of words; there are no blocks, no table and no log in it. Numbers are octal where the manual's are.
+It answers each line of a call script, and computes how many blocks are left, and what is charged to a directory. A file
+is a list of words; there are no blocks, no table and no log in it. Numbers are octal where the manual's are.
 """
 
 RIGHT = 0o777777
@@ -34,18 +34,18 @@ def halves(word):
 
 
 def up(count, size):
-    """How many pieces of a size hold so many."""
+    """Returns how many pieces of a size are needed."""
     return -(-count // size)
 
 
 def cost(words):
-    """How many blocks a version of so many words is booked for."""
+    """Returns for how many blocks a version of this many words is booked."""
     blocks = up(words, DATA)
     return blocks + 1 + up(max(0, blocks - 112), 126)
 
 
 def spliced(body, block, words):
-    """A body with these words from a block on, and zeros where it had none before."""
+    """Returns a body with these words from a block, and zeros where it had none before."""
     if not words:
         return body
     start = (block - 1) * DATA
@@ -63,7 +63,7 @@ class File:
         return self.protection << 27 | self.mode << 23 | minute << 12 | date & 0o7777
 
     def high_date(self):
-        """The right half of the word of the extension, in layout 2; dates of layout 1 make it 0."""
+        """Returns the right half of the word of the extension, in layout 2; dates of layout 1 make it 0."""
         return self.moment[0] >> 12 << 15
 
 
@@ -86,7 +86,7 @@ class Channel:
         return 5 if self.mode < 2 else 1
 
     def pointer(self):
-        """A byte pointer with nothing but its size."""
+        """Returns a byte pointer with only its size."""
         return (7 if self.mode < 2 else 36) << 24
 
     def count(self, words):
@@ -99,7 +99,7 @@ class Job:
         self.core[0o121] = 0o140
 
     def need(self, address, count):
-        """AddressCheck unless so many words lie in core."""
+        """Raises AddressCheck unless this many words are in core."""
         if address + count > len(self.core):
             address_check()
 
@@ -117,7 +117,7 @@ class Job:
 
 
 class Machine:
-    """Jobs, and directories of files, on a volume of so many blocks in a layout; all calls are made at one moment."""
+    """Jobs, and directories of files, on a volume of this many blocks in a layout; all calls are made at one moment."""
 
     def __init__(self, blocks, layout=1, moment=(0, 0)):
         tables = up(blocks, 4608)
@@ -141,7 +141,7 @@ class Machine:
         return sum(1 for output in self.outputs() if output.kind == "create" and output.place[0] == ppn)
 
     def growth(self, ppn):
-        """What a directory costs more for one more entry."""
+        """Returns the additional cost of a directory for one more entry."""
         entries = len(self.directories[ppn][1]) + self.pending(ppn)
         return max(1, up(entries + 1, 42)) - max(1, up(entries, 42))
 
@@ -154,22 +154,22 @@ class Machine:
         return self.free - booked - sum(cost(len(output.body)) for output in self.outputs())
 
     def charge(self, ppn):
-        """The blocks that count against the quota of a directory: its own, those of its files, and those of versions
-        that are written in it. A version that is only read, and is no file any more, isn't among them."""
+        """Returns the blocks that count against the quota of a directory: its own, those of its files, and those of
+        versions that are written in it. A version that is only read, and is no longer a file, isn't among them."""
         _, files = self.directories[ppn]
         own = max(1, up(len(files) + self.pending(ppn), 42))
         written = sum(cost(len(output.body)) for output in self.outputs() if output.place[0] == ppn)
         return own + sum(cost(len(file.body)) for file in files.values()) + written
 
     def is_over(self, ppn, more):
-        """Whether this many blocks more exceed what the quota of a directory has left."""
+        """Returns whether this many blocks more exceed what the quota of a directory has left."""
         quota = self.quotas.get(ppn, 0)
         return quota != 0 and more > quota - self.charge(ppn)
 
     # Events.
 
     def line(self, text):
-        """What a line of a call script is answered with."""
+        """Returns the answer to a line of a call script."""
         fields = text.split()
         number, call = int(fields[0], 8), fields[1]
         if call == "LOGIN":
@@ -235,7 +235,7 @@ class Machine:
     # Rings.
 
     def ring(self, job, channel, header, count):
-        """The core with a ring set up."""
+        """Returns the core with a ring set up."""
         core = list(job.core)
         base = core[0o121] & RIGHT
         if base + count * BUFFER > len(core):
@@ -263,7 +263,7 @@ class Machine:
         self.set_up(job, number, count, "out_header")
 
     def with_ring(self, job, channel, header):
-        """The core once a ring is there."""
+        """Returns the core after a ring was set up, if it had none."""
         return list(job.core) if job.core[header] & RIGHT else self.ring(job, channel, header, 2)
 
     def put_pointer(self, core, channel, header, a, words):
@@ -289,7 +289,7 @@ class Machine:
         return core, len(words)
 
     def last_buffer(self, job, core, channel):
-        """The current buffer, and the words that were put into it."""
+        """Returns the current buffer, and the words that were put into it."""
         header = channel.out_header
         a = core[header] & RIGHT
         job.good(core, a)
@@ -326,7 +326,7 @@ class Machine:
         return (halves(core[e + 3]) if core[e + 3] else job.ppn), core[e], core[e + 1] >> 18
 
     def coded(self, job, e, act):
-        """Does what is asked for, and leaves the code of a refusal beside the extension."""
+        """Serves the request, and leaves the code of a refusal with the extension."""
         try:
             act()
         except Answer as answer:
@@ -336,7 +336,7 @@ class Machine:
             raise
 
     def found(self, job, place):
-        """The file at a place that a job may look up, or none; by the directory's protection."""
+        """Returns the file at a place that a job may look up, or none; by the directory's protection."""
         ppn, name, extension = place
         protection, files = self.directories.get(ppn) or refused(1)
         if not job.digit(protection, ppn) & 4 and job.ppn != SYSTEM:
@@ -438,7 +438,7 @@ class Machine:
         channel.status &= ~ERRORS
 
     def follow(self, file, moved):
-        """A file that is renamed is one version with those that are read: it costs once."""
+        """Renames the versions that are read with their file: it is one version with them, and costs once."""
         for channel in self.sides():
             if channel.input and channel.input[1] is file:
                 channel.input = (channel.input[0], moved, channel.input[2])
@@ -460,7 +460,7 @@ class Machine:
     # Words.
 
     def command_list(self, job, address):
-        """The addresses that a command list names."""
+        """Returns the addresses that a command list names."""
         named = []
         for _ in range(512):
             job.need(address, 1)
@@ -479,7 +479,7 @@ class Machine:
         return address_check()
 
     def words_at(self, channel, most):
-        """Up to so many words of the body at the next block, or the end."""
+        """Returns up to this many words of the body at the next block, or the end."""
         _, file, block = channel.input
         body = channel.output.body if channel.output else file.body
         start = (block - 1) * DATA
@@ -536,7 +536,7 @@ class Machine:
         channel.status &= ~ERRORS
 
     def may_go_to(self, channel, side, block):
-        """What USETI and USETO ask of a side and of the number of its next block."""
+        """Checks what USETI and USETO require of a side and of the number of its next block."""
         if not side:
             refused(5)
         if block == 0:

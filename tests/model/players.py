@@ -1,8 +1,8 @@
 """Jobs that write, supersede, update, append to, read, rename and delete the same few files of two directories.
 
 Job 4 gives the directories quotas, and the other jobs try to. They use command lists and rings; now and then a list or
-a header makes no sense. What a job does next depends on a model of the file machine (machine.py) and on a seed, so it
-is the same in every run.
+a header is invalid. What a job does next depends on a model of the file machine (machine.py) and on a seed, so it is
+the same in every run.
 """
 
 import os
@@ -17,7 +17,7 @@ JOBS = {1: OWNER, 2: OWNER, 3: (0o10, 0o30), 4: SYSTEM}
 
 
 def sixbit(text):
-    """Up to six characters as a word."""
+    """Returns up to six characters as a word."""
     word = 0
     for character in text.ljust(6):
         word = word * 64 + ord(character) - 32
@@ -56,7 +56,7 @@ class Player:
             self.say("DEP", address + place, word)
 
     def fresh(self):
-        """A word that nobody else writes."""
+        """Returns a word that nobody else writes."""
         self.words += 1
         return self.number << 30 | self.words
 
@@ -66,7 +66,7 @@ class Player:
         self.say("DEP", 0o121, 0o4000)
 
     def look(self):
-        """Looks at some of the words that an IN has moved."""
+        """Examines some of the words that an IN has moved."""
         for address in self.looks:
             self.say("EXA", address % 0o10000)
         self.looks = None
@@ -98,7 +98,7 @@ class Player:
         self.say("OPEN", number, 0o200 + 4 * number)
 
     def block(self, number, name, directory=None):
-        """The four words of a name, with a protection for a new file."""
+        """Deposits the four words of a name, with a protection for a new file."""
         owner = OWNER if self.number > 2 else (0, 0)
         protection = self.chance.choice([0, 0, 0o047, 0o037, 0o027, 0o017, 0o057])
         self.deposit(0o300 + 4 * number, name, 0, protection << 27, word_of(directory or owner))
@@ -125,7 +125,7 @@ class Player:
         self.say("RENAME", number, 0o300 + 4 * number)
 
     def list_at(self, number, address, count):
-        """A command list of so many words, in one piece or two."""
+        """Returns a command list of this many words, in one piece or two."""
         at, first = 0o400 + 8 * number, self.chance.randrange(count) if count > 1 else 0
         pieces = [(address, first), (address + first, count - first)] if first else [(address, count)]
         self.deposit(at, *((1 << 18) - words << 18 | start - 1 for start, words in pieces), 0)
@@ -142,7 +142,7 @@ class Player:
         self.say("OUT", number, self.list_at(number, 0o1000, count))
 
     def fill(self, channel):
-        """Puts words into the current buffer of a ring that is used."""
+        """Puts words into the current buffer of a ring that is in use."""
         core, header = self.machine.jobs[self.number].core, channel.out_header
         if core[header] & USE or not core[header] & RIGHT:
             return
@@ -162,7 +162,7 @@ class Player:
         return None
 
     def follow(self, channel):
-        """Looks at the buffers of a ring, whichever an IN takes."""
+        """Examines the buffers of a ring, whichever an IN takes."""
         core, header = self.machine.jobs[self.number].core, channel.in_header
         buffer = core[header] & RIGHT
         following = core[buffer] & RIGHT if buffer < len(core) else 0
@@ -199,13 +199,14 @@ class Player:
         self.say("DEP", place, word)
 
     def directory(self, _number):
-        """A directory of its own is made, or goes, if it may; or one of job 3."""
+        """Makes or removes the job's own directory, if it may; or one of job 3."""
         owner = self.chance.choice([(0o12, self.number), JOBS[3]])
         self.deposit(0o340, word_of(owner), 0)
         self.say(self.chance.choice(["MAKDIR", "REMDIR"]), 0o340)
 
     def quota(self, _number):
-        """A directory gets a quota, if the job may give one: often so few blocks that calls are refused for it."""
+        """Gives a directory a quota, if the job may give one: often so few blocks that calls are refused because of
+        it."""
         owner = self.chance.choice([OWNER, OTHER, JOBS[3]] * 4 + [(0o12, self.number)])
         quota = self.chance.choice([0, self.chance.randrange(11), self.chance.randrange(41)])
         self.deposit(0o350, word_of(owner), word_of((quota, self.chance.choice([0, 0, 0o123456]))))
@@ -224,7 +225,7 @@ def turns(order, chance):
 
 
 def script(seed, order, blocks, layout=1, moment=(0, 0)):
-    """The lines of a script, what the model answers, and the model at the end."""
+    """Returns the lines of a script, the model's answers, and the model at the end."""
     machine = Machine(blocks, layout, moment)
     lines, wanted, chance = [], [], random.Random(seed)
 
@@ -249,24 +250,25 @@ def script(seed, order, blocks, layout=1, moment=(0, 0)):
 
 
 def run(program, folder, words, data=b""):
-    """What a run of the program prints, and its status."""
+    """Returns what a run of the program prints, and its status."""
     done = subprocess.run([program, *words], input=data, capture_output=True, cwd=folder, check=False, timeout=60)
     return done.stdout, done.returncode
 
 
 def moment_of(seed):
-    """The layout of a volume, and a moment that fits it."""
+    """Returns the layout of a volume, and a moment that fits it."""
     layout = 1 + seed % 2
     return layout, (seed * 1733 % (4096 if layout == 1 else 32768), seed * 97 % 1440)
 
 
 def dated(moment):
-    """The options of a run at this moment."""
+    """Returns the options of a run at this moment."""
     return ["--date", str(moment[0]), "--minute", str(moment[1])]
 
 
 def make(program, folder, blocks, seed):
-    """Makes J.IMG anew in the layout of the seed. Half of the volumes of layout 2 are made in it, half are migrated."""
+    """Makes J.IMG again in the layout of the seed. Half of the volumes of layout 2 are made in it, half are
+    migrated."""
     image = os.path.join(folder, "J.IMG")
     if os.path.exists(image):
         os.remove(image)
@@ -282,12 +284,12 @@ def name_of(name):
 
 
 def words_of(image, block):
-    """The words of a block of an image of form 1."""
+    """Returns the words of a block of an image of form 1."""
     return [int.from_bytes(image[1024 * block + at : 1024 * block + at + 8], "big") for at in range(0, 1024, 8)]
 
 
 def wrong_directories(folder, machine):
-    """Whether the master directory of J.IMG has other directories, protections or quotas than the model."""
+    """Returns whether the master directory of J.IMG has other directories, protections or quotas than the model."""
     with open(os.path.join(folder, "J.IMG"), "rb") as file:
         image = file.read()
     block, found = words_of(image, 1)[5], {}
@@ -301,7 +303,7 @@ def wrong_directories(folder, machine):
 
 
 def wrong_files(program, folder, machine):
-    """The directories and files that are others at the end."""
+    """Returns the directories and files that differ at the end."""
     wrong = wrong_directories(folder, machine)
     for owner, (_, files) in machine.directories.items():
         for (name, _), file in files.items():

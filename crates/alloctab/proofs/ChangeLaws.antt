@@ -11,7 +11,7 @@ use Rattle.changeset.specs.Common.{IsPutIn}
 use Rattle.alloctab.specs.Common.{digit, digit_at, flag_at, TableState, IsTable, bit, IsChanged, changed_blocks}
 use Rattle.alloctab.specs.Common.{table_words, with_changed, IsChangedBlock, SpellsTable}
 use Rattle.alloctab.proofs.WordLaws.{digit_few, table_words_spell}
-use Rattle.alloctab.proofs.TableReading.{table_bit_in, table_bit_past, table_bit_at, past_the_end}
+use Rattle.alloctab.proofs.TableBlocks.{table_bit_in, table_bit_past, table_bit_at, past_the_end}
 use Rattle.alloctab.proofs.ChangedPuts.{length-after, sum_below-le, put_after, others_after, all_after, in_after}
 use Rattle.alloctab.proofs.ChangedPuts.{after_in}
 use Rattle.spec_image.proofs.Common.{below_or_not}
@@ -32,7 +32,7 @@ pub flag_inside : (flags : List Bool) (i : ℕ) → flag_at flags i ≡ true →
 flag_inside flags i is = ⊎_elim (λ inside. inside) (λ past. absurd (let e = get_or_past flags i false past in cc))
     (below_or_not i (length flags))
 
--- as long as a changed block is to be put there is room
+-- there is room as long as a changed block has yet to be put
 pub room_left : (start : ℕ) (bits : ℕ → ℕ) (flags : List Bool) (i most : ℕ) (puts : List Put) → i < length flags
     → flag_at flags i ≡ true → length puts + sum_below (digit_at flags) (length flags) ≤ most
     → length (with_changed start bits (flag_at flags) i puts) < most

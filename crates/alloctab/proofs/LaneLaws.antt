@@ -34,7 +34,7 @@ either zero (suc (suc b)) p q = absurd (omega arith)
 either (suc zero) (suc (suc b)) p q = absurd (omega arith)
 either (suc (suc a)) b p q = absurd (omega arith)
 
--- a bit of it is set where it is clear in both words
+-- a bit of it is set if it is clear in both words
 pub bit_at_clear : (a b i : ℕ) → i < 36 → bit_at (clear_word a b) i ≡ cond (eqb (bit_at a i + bit_at b i) 0) 1 0
 bit_at_clear a b i below =
     bit_at_xor (2 ^ 36 - 1) (bit_or a b) i
@@ -54,7 +54,7 @@ none_clear a b i below is = one_from_zero (bit_at a i + bit_at b i) (sym (bit_at
 one_clear : (a b i : ℕ) → i < 36 → bit_at (clear_word a b) i ≡ 1 → bit_at a i + bit_at b i ≡ 0
 one_clear a b i below is = zero_from_one (bit_at a i + bit_at b i) (sym (bit_at_clear a b i below) ∙ is)
 
--- where the word is zero, each bit is set in one of the two
+-- if the word is zero, each bit is set in one of the two
 pub none_in_word : (a b i : ℕ) → i < 36 → clear_word a b ≡ 0 → bit_at a i + bit_at b i ≡ 0 → ⊥
 none_in_word a b i below is = none_clear a b i below (ap (λ (n : ℕ). bit_at n i) is ∙ bit_at-zero i)
 
@@ -232,7 +232,7 @@ sum_few [] few = omega arith
 sum_few (x ∷ xs) few = let one = ones_few x (few 0 (omega arith)) in
     let rest = sum_few xs (λ k below. few (suc k) (omega arith)) in omega arith
 
--- The sum that lanes make, where counts are widened and sums wrap: this one doesn't.
+-- The sum of the lanes. Counts are widened and sums may wrap, but this one doesn't.
 pub sum_fits : (plus : ℕ → ℕ → ℕ) (wide count : ℕ → ℕ) → ((a b : ℕ) → a + b < 2 ^ 64 → plus a b ≡ a + b)
     → ((n : ℕ) → n < 2 ^ 32 → wide n ≡ n) → ((n : ℕ) → count n ≡ ones n) → (xs : List ℕ) (s : ℕ)
     → ((k : ℕ) → k < length xs → get_or xs k 0 < 2 ^ 36) → s + 36 * length xs < 2 ^ 64

@@ -3,8 +3,8 @@ pub mod LaneLaws
 pub mod LowestLaws
 pub mod BitPuts
 pub mod FlagLaws
-pub mod KeptLaws
+pub mod MemoryLaws
 pub mod ChangedPuts
 pub mod SpaceLaws
-pub mod TableReading
+pub mod TableBlocks
 pub mod ChangeLaws

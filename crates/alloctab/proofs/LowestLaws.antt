@@ -36,7 +36,7 @@ lowest_is bits (suc k) n below one first = lowest_more bits k ∙ ⊎_elim
     (λ other. ap (λ (o : Option ℕ). or_else o (one_at bits k)) (lowest_is bits k n (omega arith) one first))
     (cases_eq n k)
 
--- What the lowest number is, where there is one.
+-- What the lowest number is, if there is one.
 abbrev pub IsLowest : (ℕ → ℕ) → ℕ → Option ℕ → Type 0
 IsLowest bits k None = (m : ℕ) → m < k → bits m ≡ 1 → ⊥
 IsLowest bits k (Some n) = (n < k) × (bits n ≡ 1) × ((m : ℕ) → m < n → bits m ≡ 1 → ⊥)

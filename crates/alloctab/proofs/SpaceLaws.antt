@@ -1,4 +1,4 @@
--- The free space: where no block is free, all of it is used.
+-- The free space: if no block is free, all of it is used.
 use Rattle.std.proofs.Common.{◌≡◌, ℕ, zero, suc, ◌+◌, ◌<◌, refl, arith}
 use Rattle.std.proofs.lemmas.Bool.Decides.{nat_tests}
 use Rattle.spec_image.specs.Common.{space_start, sum_below, InSpace}

@@ -30,7 +30,7 @@ number_below bits few from (suc k) =
     let more = ap (number_of bits from) (sym one) ∙ number_more bits from k in
     omega (arith, number_below bits few from k, few (from + k))
 
--- one more bit behind the others
+-- one more bit after the others
 shifted : (bits : ℕ → ℕ) (v bit r : ℕ) → bit ≡ bits r → bit ≤ 1 → ((j k : ℕ) → j + k + 1 ≡ r → (v / 2 ^ k) % 2 ≡ bits j)
     → (j k : ℕ) → j + k + 1 ≡ r + 1 → ((v * 2 + bit) / 2 ^ k) % 2 ≡ bits j
 shifted bits v bit r here few spells j zero e =

@@ -7,11 +7,11 @@ use Rattle.changeset.specs.Common.{replaced}
 use Rattle.alloctab.specs.TableBlocks.{table_words}
 use Rattle.alloctab.specs.TableState.{TableState, bit, IsChanged}
 
--- the put of table block i, where the table begins at this block
+-- the put of table block i, if the table begins at block `start`
 abbrev pub table_put : ℕ → (ℕ → ℕ) → ℕ → Put
 table_put start bits i = record { block = start + i; words = table_words bits i }
 
--- the puts with those of the changed ones of the first k table blocks
+-- the puts, together with those of the changed blocks among the first k table blocks
 abbrev pub with_changed : ℕ → (ℕ → ℕ) → (ℕ → Bool) → ℕ → List Put → List Put
 with_changed start bits changed zero puts = puts
 with_changed start bits changed (suc k) puts =
@@ -24,7 +24,7 @@ pub record IsChangedBlock (t : TableState) (n : ℕ) : Type 0 where
   pub changed : IsChanged t i
   pub block : n ≡ table_start t.size + i
 
--- Where the contents before are the table but for its changed blocks, those after are the table.
+-- If the contents before are the table except for its changed blocks, those after are the table.
 pub record SpellsTable (t : TableState) (before after : Contents) : Type 0 where
   pub bits : ((n : ℕ) → (IsChanged t (n / 4608) → ⊥) → table_bit t.size before n ≡ bit t n) → (n : ℕ)
       → table_bit t.size after n ≡ bit t n

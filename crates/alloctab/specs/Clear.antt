@@ -31,11 +31,11 @@ first_clear set held = lowest_one (clear_bit set held) (36 * length set)
 abbrev pub clear_word : ℕ → ℕ → ℕ
 clear_word a b = bit_xor (2 ^ 36 - 1) (bit_or a b)
 
--- the same of the words at place w of two lists
+-- the same for the words at place w of two lists
 abbrev pub clear_at : List ℕ → List ℕ → ℕ → ℕ
 clear_at set held w = clear_word (slice_index set w) (slice_index held w)
 
--- This is the first place, from the most significant on, whose bit is clear in two words of 36 bits.
+-- This is the first place, from the most significant, whose bit is clear in two words of 36 bits.
 pub record IsFirstPlace (a b place : ℕ) : Type 0 where
   pub inside : place < 36
   pub clear : (bit_at a (35 - place) ≡ 0) × (bit_at b (35 - place) ≡ 0)

@@ -6,9 +6,9 @@ pub use Rattle.alloctab.specs.Clear.{IsFirstPlace, clear_at, clear_bit, clear_wo
 unfoldable pub use Rattle.alloctab.specs.Clear.{lowest_one}
 pub use Rattle.alloctab.specs.TableState.{IsChanged, IsFree, IsTable, TableState, bit, changed_blocks, holds, space}
 pub use Rattle.alloctab.specs.TableState.{used, used_in_space, uses, with_bit, with_held}
-pub use Rattle.alloctab.specs.Kept.{IsKept, table_of}
+pub use Rattle.alloctab.specs.TableInMemory.{IsTableInMemory, table_of}
 unfoldable pub use Rattle.alloctab.specs.TableBlocks.{number_of, table_words, words_of}
-pub use Rattle.alloctab.specs.Reading.{CopiesWords, IsBadTableBlock, IsSetPast, IsTableOf, ReadsBits}
+pub use Rattle.alloctab.specs.TableRead.{CopiesWords, IsBadTableBlock, IsSetPast, IsTableOf, ReadsBits}
 pub use Rattle.alloctab.specs.Changes.{IsChangedBlock, SpellsTable, table_put, with_changed}
 pub use Rattle.alloctab.specs.Reached.{IsWrongBlock, wanted_bit}
 pub use Rattle.alloctab.specs.TableLaws.{bit-freed, bit-taken, bit-with_bit_other, bit-with_bit_same}

@@ -2,9 +2,9 @@ pub mod Lists
 pub mod Words
 pub mod Clear
 pub mod TableState
-pub mod Kept
+pub mod TableInMemory
 pub mod TableBlocks
-pub mod Reading
+pub mod TableRead
 pub mod Changes
 pub mod Reached
 pub mod TableLaws

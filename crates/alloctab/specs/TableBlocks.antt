@@ -1,12 +1,12 @@
 -- The words of a table block.
 use Rattle.std.specs.Prelude.{ℕ, zero, suc, ◌+◌, ◌*◌, List, [], ◌∷◌, ◌++◌}
 
--- the number that so many bits make, the first the most significant
+-- the number that k bits make, the first the most significant
 unfoldable pub number_of : (ℕ → ℕ) → ℕ → ℕ → ℕ
 number_of bits from zero = 0
 number_of bits from (suc k) = number_of bits from k * 2 + bits (from + k)
 
--- so many words of 36 bits
+-- k words of 36 bits
 unfoldable pub words_of : (ℕ → ℕ) → ℕ → ℕ → List ℕ
 words_of bits from zero = []
 words_of bits from (suc k) = words_of bits from k ++ number_of bits (from + 36 * k) 36 ∷ []

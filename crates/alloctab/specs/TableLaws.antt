@@ -21,7 +21,7 @@ bit-with_bit_same t n set sound inside = ap digit (get_or-set_same t.bits n set 
 pub bit-with_bit_other : (t : TableState) (n m : ℕ) (set : Bool) → (m ≡ n → ⊥) → bit (with_bit t n set) m ≡ bit t m
 bit-with_bit_other t n m set other = ap digit (get_or-set_other t.bits n m set false other)
 
--- A block that is taken is in use once more, and one that is given up once less.
+-- A block that is taken is in use once more, and one that is freed once less.
 
 pub bit-taken : (t : TableState) (n : ℕ) → IsTable t → n < t.size → bit t n ≡ 0 → (m : ℕ)
     → bit (with_bit t n true) m ≡ bit t m + times m (n ∷ [])
@@ -56,7 +56,7 @@ sound-with_bit t n set sound = record {
   changed_are = length-set t.changed (n / 4608) true ∙ sound.changed_are;
 }
 
--- A block that is held or let go.
+-- A block that is held or released.
 
 pub holds-with_held_same : (t : TableState) (n count : ℕ) → IsTable t → n < t.size
     → holds (with_held t n count) n ≡ count
@@ -128,7 +128,7 @@ sum_but_one f g (suc k) i below same = ⊎_elim
     (λ other. let e = same k (λ is. other (sym is)) in let rest = sum_but_one f g k i (omega arith) same in
     omega arith) (cases_eq i k)
 
--- Where the tables differ in one block of the free space, the counts differ by that block.
+-- If the tables differ in one block of the free space, the counts differ by that block.
 used_in_space_but_one : (s t : TableState) (n : ℕ) → s.size ≡ t.size → space_start t.size ≤ n → n < t.size
     → ((m : ℕ) → (m ≡ n → ⊥) → used s m ≡ used t m) → used_in_space s + used t n ≡ used_in_space t + used s n
 used_in_space_but_one s t n size from inside same =

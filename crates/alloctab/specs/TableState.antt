@@ -1,4 +1,4 @@
--- What an allocation table holds in core.
+-- The state of an allocation table in memory.
 use Rattle.std.specs.Prelude.{◌≡◌, ℕ, ◌+◌, ◌-◌, ◌/◌, ◌==◌, Bool, true, if◌then◌else◌, List, length, slice_index}
 use Rattle.std.specs.Prelude.{slice_set}
 use Rattle.spec_image.specs.Common.{IsVolumeSize, table_blocks, space_start, sum_below}
@@ -16,7 +16,7 @@ pub record TableState : Type 0 where
   -- for each table block whether a bit of it was set or cleared
   pub changed : List Bool
 
--- Every table is so.
+-- What holds for every table.
 pub record IsTable (t : TableState) : Type 0 where
   pub volume : IsVolumeSize t.size
   pub bits_are : length t.bits ≡ t.size
@@ -48,7 +48,7 @@ used t n = if bit t n + holds t n == 0 then 0 else 1
 abbrev pub used_in_space : TableState → ℕ
 used_in_space t = sum_below (λ k. used t (space_start t.size + k)) (space t.size)
 
--- how often the blocks of the free space are set or held, each time counted
+-- how often the blocks of the free space are set or held, counted each time
 abbrev pub uses : TableState → ℕ
 uses t = sum_below (λ k. bit t (space_start t.size + k) + holds t (space_start t.size + k)) (space t.size)
 
@@ -60,10 +60,10 @@ IsChanged t i = flag_at t.changed i ≡ true
 abbrev pub changed_blocks : TableState → ℕ
 changed_blocks t = sum_below (digit_at t.changed) (length t.changed)
 
--- the table with this bit at block n, whose table block is changed then
+-- the table with this bit at block n, whose table block is then changed
 abbrev pub with_bit : TableState → ℕ → Bool → TableState
 with_bit t n set = record t { bits = slice_set t.bits n set; changed = slice_set t.changed (n / 4608) true }
 
--- the table with block n held so often
+-- the table with block n held this number of times
 abbrev pub with_held : TableState → ℕ → ℕ → TableState
 with_held t n count = record t { held = slice_set t.held n count }

@@ -13,7 +13,7 @@ unfoldable pub flags : (ℕ → ℕ) → ℕ → List Bool
 flags bits zero = []
 flags bits (suc k) = flags bits k ++ (bits k == 1) ∷ []
 
--- No bit from n on is set.
+-- Bit n and all bits after it are clear.
 abbrev pub IsClearFrom : ℕ → List ℕ → Type 0
 IsClearFrom n words = (m : ℕ) → n ≤ m → word_bit words m ≡ 0
 

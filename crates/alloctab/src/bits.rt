@@ -1,3 +1,4 @@
+//! The bits in the words of one table block.
 ghost use Rattle.std.specs.Prelude.{◌≡◌, ◌+◌, ◌*◌, ◌≤◌, ◌<◌, ◌/◌, ℕ, IsTrue, false, length};
 ghost use Rattle.spec_image.specs.Common.{bit_of};
 ghost use Rattle.alloctab.specs.Common.{digit, CopiesWords, IsSetPast};
@@ -6,14 +7,14 @@ use crate::words::has_bit;
 use spec_image::layout::TABLE_BLOCK_BITS;
 use words36::{BLOCK_WORDS, Block, Word};
 
-/// Whether the bit of a block is set in the words of its table block.
+/// Returns whether the bit of a block is set in the words of its table block.
 pub fn is_set(words: &Block, n: usize) -> bool
     ensures { digit result ≡ bit_of words.now n }
 {
     has_bit(words, n % TABLE_BLOCK_BITS)
 }
 
-/// Whether table block `i` has a bit set for a block past the end of the disk.
+/// Returns whether table block `i` has a bit set for a block past the end of the disk.
 pub fn has_bit_past(words: &Block, i: usize, size: usize) -> bool
     requires low { i < 32 }
     requires few { size ≤ 131072 }

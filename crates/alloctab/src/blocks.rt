@@ -1,3 +1,4 @@
+//! The puts of table blocks that changed.
 ghost use Rattle.std.specs.Prelude.{◌≡◌, ◌<◌, ◌≤◌, ◌+◌, ◌*◌, length};
 ghost use Rattle.spec_image.specs.Common.{sum_below};
 ghost use Rattle.alloctab.specs.Common.{digit_at, flag_at, word_bit, table_words, with_changed};
@@ -5,7 +6,7 @@ ghost use Rattle.alloctab.specs.Common.{digit_at, flag_at, word_bit, table_words
 use changeset::{ChangeSet, MAX_PUTS};
 use words36::{BLOCK_WORDS, Block, Word};
 
-/// The words of table block `i`, out of those of all table blocks.
+/// Returns the words of table block `i`, out of those of all table blocks.
 fn table_block(words: &[Word], i: usize) -> Block
     requires low { i < 32 }
     requires inside { 128 * (i + 1) ≤ length words.now }
@@ -18,7 +19,8 @@ fn table_block(words: &[Word], i: usize) -> Block
     block
 }
 
-/// Puts each changed table block, out of the words of all of them, where the table begins at block `start`.
+/// Puts each changed table block, out of the words of all of them, into a change set. The table begins at block
+/// `start`.
 pub fn put_changed(words: &[Word], changed: &[bool], start: u32, set: &mut ChangeSet)
     requires low { start ≤ 64 }
     requires short { length changed.now < 32 }

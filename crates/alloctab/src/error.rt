@@ -1,15 +1,16 @@
+//! The error of loading a table.
 ghost use Rattle.std.specs.Prelude.{◌≡◌};
 
 use std::alloc::AllocError;
 use thiserror::Error;
 
-/// Why a table isn't there.
+/// Why a table can't be loaded.
 #[derive(Clone, Copy, Debug, PartialEq, Eq, Error)]
 pub enum TableError {
     /// This block of the table is damaged, or has a bit set for a block past the end of the disk.
     #[error("wrong block {0} of the allocation table")]
     TableWrong(u32),
-    /// A growth was refused.
+    /// An allocation was refused.
     #[error("no memory")]
     NoMemory,
     /// The device failed.

@@ -7,13 +7,14 @@ use spec_image::layout::WORD_BITS;
 use std::simd::prelude::*;
 use words36::Word;
 
-/// How many words are looked at at once.
+/// The number of words that are checked at once.
 const LANES: usize = 8;
 
 /// The number of a word whose bits are all set.
 const FULL: u64 = (1 << WORD_BITS) - 1;
 
-/// The lowest bit that is clear in both lists. Bit 0 is the most significant of the first word.
+/// Returns the lowest bit that is clear in both lists, if there is one. Bit 0 is the most significant of the first
+/// word.
 pub fn first_clear(set: &[Word], held: &[Word]) -> Option<usize>
     requires same { length set.now ≡ length held.now }
     requires fits { 36 * length set.now < 2 ^ 64 }
@@ -26,7 +27,7 @@ pub fn first_clear(set: &[Word], held: &[Word]) -> Option<usize>
     Some(place * WORD_BITS + first_in_word(set[place], held[place]))
 }
 
-/// How many bits are clear in both lists.
+/// Returns how many bits are clear in both lists.
 pub fn count_clear(set: &[Word], held: &[Word]) -> usize
     requires same { length set.now ≡ length held.now }
     requires fits { 36 * length set.now < 2 ^ 64 }
@@ -39,7 +40,7 @@ pub fn count_clear(set: &[Word], held: &[Word]) -> usize
     count + count_in_rest(set, held, set.len() / LANES * LANES)
 }
 
-/// How many words come before the first with a bit that is clear in both lists.
+/// Returns how many words come before the first with a bit that is clear in both lists.
 fn full_words(set: &[Word], held: &[Word]) -> usize
     requires { length set.now ≡ length held.now }
     ensures within { result ≤ length set.now }
@@ -55,7 +56,8 @@ fn full_words(set: &[Word], held: &[Word]) -> usize
     full_in_rest(set, held, set.len() / LANES * LANES)
 }
 
-/// The place of the first word from `from` on with a bit that is clear in both lists, or how many words there are.
+/// Returns the place of the first word from `from` with a bit that is clear in both lists, or how many words there
+/// are.
 fn full_in_rest(set: &[Word], held: &[Word], from: usize) -> usize
     requires same { length set.now ≡ length held.now }
     requires inside { from ≤ length set.now }
@@ -71,7 +73,7 @@ fn full_in_rest(set: &[Word], held: &[Word], from: usize) -> usize
     set.len()
 }
 
-/// How many bits of the words from `from` on are clear in both lists.
+/// Returns how many bits of the words from `from` are clear in both lists.
 fn count_in_rest(set: &[Word], held: &[Word], from: usize) -> usize
     requires same { length set.now ≡ length held.now }
     requires inside { from ≤ length set.now }
@@ -85,7 +87,7 @@ fn count_in_rest(set: &[Word], held: &[Word], from: usize) -> usize
     count
 }
 
-/// How many of the eight words from `from` on come before the first with a bit that is clear in both lists.
+/// Returns how many of the eight words from `from` come before the first with a bit that is clear in both lists.
 fn full_lanes(set: &[Word], held: &[Word], from: usize) -> usize
     requires set_inside { from + LANES ≤ length set.now }
     requires held_inside { from + LANES ≤ length held.now }
@@ -103,7 +105,7 @@ fn full_lanes(set: &[Word], held: &[Word], from: usize) -> usize
     }
 }
 
-/// How many bits of the eight words from `from` on are clear in both lists.
+/// Returns how many bits of the eight words from `from` are clear in both lists.
 fn count_in_lanes(set: &[Word], held: &[Word], from: usize) -> usize
     requires set_inside { from + LANES ≤ length set.now }
     requires held_inside { from + LANES ≤ length held.now }
@@ -114,7 +116,7 @@ fn count_in_lanes(set: &[Word], held: &[Word], from: usize) -> usize
     clear_lanes(set, held, from).count_ones().reduce_sum() as usize
 }
 
-/// The bits that are clear in both lists, of the eight words from `from` on: a lane for each.
+/// Returns the bits that are clear in both lists, of the eight words from `from`: a lane for each word.
 fn clear_lanes(set: &[Word], held: &[Word], from: usize) -> u64x8
     requires set_inside { from + LANES ≤ length set.now }
     requires held_inside { from + LANES ≤ length held.now }
@@ -125,7 +127,7 @@ fn clear_lanes(set: &[Word], held: &[Word], from: usize) -> u64x8
     u64x8::splat(FULL) ^ (lanes(set, from) | lanes(held, from))
 }
 
-/// The eight words from `from` on: a lane for each.
+/// Returns the eight words from `from`: a lane for each.
 fn lanes(words: &[Word], from: usize) -> u64x8
     requires { from + LANES ≤ length words.now }
     ensures eight { length result ≡ 8 }
@@ -144,7 +146,7 @@ fn lanes(words: &[Word], from: usize) -> u64x8
     ])
 }
 
-/// The bits that are clear in two words.
+/// Returns the bits that are clear in both words.
 fn clear_bits(set: Word, held: Word) -> u64
     ensures value { result ≡ clear_word set held }
     ensures fits { result < 2 ^ 36 }
@@ -152,7 +154,7 @@ fn clear_bits(set: Word, held: Word) -> u64
     FULL ^ (set.bits() | held.bits())
 }
 
-/// The place of the first bit that is clear in two words, where there is one: 0 is that of the most significant.
+/// Returns the place of the first bit that is clear in both words, which have one: 0 is that of the most significant.
 fn first_in_word(set: Word, held: Word) -> usize
     requires { clear_word set held ≡ 0 → ⊥ }
     ensures { IsFirstPlace set held result }

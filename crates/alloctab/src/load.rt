@@ -1,3 +1,4 @@
+//! Reading the table blocks of a disk.
 ghost use Rattle.std.specs.Prelude.{◌≡◌, ◌<◌, ◌*◌, ℕ, OnOk, IsErrOf, length};
 ghost use Rattle.blockdisk.specs.Common.{SameDisk, one_more};
 ghost use Rattle.changeset.specs.Common.{OnlyReads};

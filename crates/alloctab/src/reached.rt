@@ -1,3 +1,4 @@
+//! The marks of a check: which blocks of a disk it has reached.
 ghost use Rattle.std.specs.Prelude.{◌≡◌, ◌<◌, ◌↔◌, false, true, IfOk, IsTrue, length, replicate, slice_set};
 ghost use Rattle.alloctab.specs.Common.{flag_at};
 
@@ -20,11 +21,11 @@ impl Model for Reached {
 }
 
 impl Reached {
-    /// None of so many blocks.
+    /// Returns marks for this number of blocks, none of them reached.
     ///
     /// # Errors
     ///
-    /// `NoMemory` where the marks find no room.
+    /// `NoMemory` if there is no room for the marks.
     pub fn new(alloc: Global, size: u32) -> Result<Self, NoMemory>
         ensures { IfOk result (λ reached. reached ≡ replicate size false) }
     {
@@ -33,7 +34,7 @@ impl Reached {
         })
     }
 
-    /// Marks a block, and says whether it wasn't marked before.
+    /// Marks a block, and returns whether it wasn't marked before.
     pub fn mark(&mut self, n: u32) -> bool
         requires { n < length self.old }
         ensures first { IsTrue result ↔ (flag_at self.old n ≡ false) }
@@ -44,7 +45,7 @@ impl Reached {
         is_new
     }
 
-    /// Whether a block is marked.
+    /// Returns whether a block is marked.
     pub fn is_marked(&self, n: u32) -> bool
         requires { n < length self.now }
         ensures { result ≡ flag_at self.now n }

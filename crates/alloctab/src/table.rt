@@ -1,3 +1,4 @@
+//! The allocation table of a disk, in memory.
 ghost use Rattle.std.specs.Prelude.{◌≡◌, ◌<◌, ◌≤◌, ◌+◌, ◌-◌, ◌^◌, ◌↔◌, ◌⊎◌, ◌∷◌, [], ℕ, true, false, replicate, Some};
 ghost use Rattle.std.specs.Prelude.{IfOk, IsErrOf, IsTrue, IsSome, IfSome, IfNone, length};
 ghost use Rattle.std.specs.List.{AllByRecursion};
@@ -23,12 +24,12 @@ use std::alloc::Global;
 use std::marker::Model;
 use words36::{BLOCK_WORDS, Word};
 
-/// The allocation table of a disk in core: which blocks are in use on the disk, which are held in
-/// core, how many are booked, and which table blocks changed.
+/// The allocation table of a disk, in memory: which blocks are in use on the disk, which are held in memory, how many
+/// are booked, and which table blocks changed.
 ///
-/// Bits stand in words of 36, as many as all table blocks have, so that a free block is looked for 288
-/// blocks at a time and a table block is put as it stands. Past the end of the disk no bit is set:
-/// `take` compares what it finds with the size.
+/// Bits are in words of 36, as many as all table blocks have, so that the search for a free block checks 288 blocks
+/// at a time, and a table block is put as it is. Past the end of the disk no bit is set: `take` compares what it
+/// finds with the size.
 #[derive(Drop)]
 pub struct Table {
     size: u32,
@@ -40,28 +41,28 @@ pub struct Table {
     counts: Vec<u32>,
     booked: u64,
     changed: Vec<bool>,
-    /// No block below is free: `take` begins here.
+    /// No block below this one is free: `take` begins here.
     hint: u32,
 }
 
 impl Model for Table {
     ghost use Rattle.alloctab.specs.Common.{TableState};
-    ghost use Rattle.alloctab.specs.Common.{table_of, IsKept};
+    ghost use Rattle.alloctab.specs.Common.{table_of, IsTableInMemory};
 
     ghost Value = { TableState };
 
     ghost view = { λ t. table_of t.size t.set.items t.counts.items t.booked t.changed.items };
 
-    ghost invariant = { λ t. IsKept t.size t.set.items t.held.items t.counts.items t.changed.items t.hint };
+    ghost invariant = { λ t. IsTableInMemory t.size t.set.items t.held.items t.counts.items t.changed.items t.hint };
 }
 
 impl Table {
-    /// Reads the table of a disk. Nothing is held or booked then.
+    /// Reads the table of a disk. In the result, no block is held or booked.
     ///
     /// # Errors
     ///
-    /// `TableWrong` with a table block that is damaged, or that has a bit set for a block past the end
-    /// of the disk; `Device` where the device failed; `NoMemory` where the table finds no room.
+    /// `TableWrong` with a table block that is damaged, or that has a bit set for a block past the end of the disk;
+    /// `Device` if the device failed; `NoMemory` if there is no room for the table.
     pub fn load<D: Disk>(alloc: Global, disk: &mut D) -> Result<Self, TableError>
         requires { IsVolumeSize (D.state disk.old).size }
         // The table that was read.
@@ -73,10 +74,10 @@ impl Table {
 
         ensures read { (D.state disk.new).honest
             → IfOk result (λ table. IsTableOf (D.state disk.old).size (D.state disk.old).contents (bit table)) }
-        // Which refusal comes when, and what the disk is then.
+        // When each refusal comes, and the disk after it.
         ensures wrong { (D.state disk.new).honest → (n : ℕ) → IsErrOf result (TableWrong n)
             → IsBadTableBlock (D.state disk.old).size (D.state disk.old).contents n }
-        // On every disk it names a block of the table.
+        // On every disk, the error names a block of the table.
         ensures named { (n : ℕ) → IsErrOf result (TableWrong n) → InTable (D.state disk.old).size n }
 
         ensures reads { (D.state disk.new).honest → OnlyReads (D.state disk.old) (D.state disk.new) }
@@ -86,7 +87,7 @@ impl Table {
         ensures served { (IsErrOf result Device → ⊥) → (D.state disk.new).failures ≡ (D.state disk.old).failures }
     {
         let size = disk.blocks();
-        // Memory first, so that a refused growth leaves the disk alone.
+        // Memory first, so that a refused allocation leaves the disk alone.
         let words = table_blocks(size) as usize * BLOCK_WORDS;
         let mut set = vec![in alloc; Word::ZERO; words]?;
         let held = vec![in alloc; Word::ZERO; words]?;
@@ -104,7 +105,7 @@ impl Table {
         })
     }
 
-    /// Whether a block is neither set nor held.
+    /// Returns whether a block is neither set nor held.
     pub fn is_free(&self, n: u32) -> bool
         requires { n < self.now.size }
         ensures free { IsTrue result ↔ IsFree self.now n }
@@ -113,7 +114,7 @@ impl Table {
         !self.is_set(n) && self.counts[n as usize] == 0
     }
 
-    /// Whether a block is held once and its bit is clear, so that no other version has it.
+    /// Returns whether a block is held once and its bit is clear, so that no other version has it.
     pub fn is_held_alone(&self, n: u32) -> bool
         requires { n < self.now.size }
         ensures { IsTrue result ↔ ((bit self.now n ≡ 0) × (holds self.now n ≡ 1)) }
@@ -121,7 +122,7 @@ impl Table {
         !self.is_set(n) && self.counts[n as usize] == 1
     }
 
-    /// Whether there is room to book so many blocks more.
+    /// Returns whether there is room to book this number of blocks more.
     pub fn can_book(&self, n: u32) -> bool
         ensures { IsTrue result ↔ (self.now.booked + n ≤ space self.now.size) }
     {
@@ -129,7 +130,7 @@ impl Table {
         self.booked <= space && u64::from(n) <= space - self.booked
     }
 
-    /// Books so many blocks more.
+    /// Books this number of blocks more.
     pub fn book(&mut self, n: u32)
         requires { self.old.booked + n < 2 ^ 64 }
         ensures { self.new ≡ record self.old { booked = self.old.booked + n } }
@@ -137,7 +138,7 @@ impl Table {
         self.booked += u64::from(n);
     }
 
-    /// Takes back the booking of so many blocks.
+    /// Takes back the booking of this number of blocks.
     pub fn unbook(&mut self, n: u32)
         requires { n ≤ self.old.booked }
         ensures { self.new ≡ record self.old { booked = self.old.booked - n } }
@@ -145,7 +146,7 @@ impl Table {
         self.booked -= u64::from(n);
     }
 
-    /// How many blocks are booked.
+    /// Returns how many blocks are booked.
     pub fn booked(&self) -> u64
         ensures value { result ≡ self.now.booked }
         ensures sound { IsTable self.now }
@@ -153,9 +154,8 @@ impl Table {
         self.booked
     }
 
-    /// Holds the lowest block that is neither set nor held, where there is one. There is one as long as
-    /// fewer blocks of the free space are set or held than are booked, and no more are booked than it
-    /// has.
+    /// Holds the lowest block that is neither set nor held, if there is one, and returns it. There is one as long as
+    /// fewer blocks of the free space are set or held than are booked, and no more are booked than it has.
     pub fn take(&mut self) -> Option<u32>
         ensures free { IfSome result (λ n. (n < self.old.size) × IsFree self.old n) }
         ensures lowest { IfSome result (λ n. (m : ℕ) → m < n → IsFree self.old m → ⊥) }
@@ -171,7 +171,7 @@ impl Table {
         Some(n)
     }
 
-    /// Holds the lowest free block. There is one, since fewer are used than are booked.
+    /// Holds the lowest free block, and returns it. There is one, since fewer are used than are booked.
     pub fn take_block(&mut self) -> u32
         requires used { used_in_space self.old < self.old.booked }
         requires room { self.old.booked ≤ space self.old.size }
@@ -185,7 +185,7 @@ impl Table {
         }
     }
 
-    /// The lowest block that is neither set nor held.
+    /// Returns the lowest block that is neither set nor held, if there is one.
     fn lowest_free(&self) -> Option<u32>
         ensures free { IfSome result (λ n. (n < self.now.size) × IsFree self.now n) }
         ensures lowest { IfSome result (λ n. (m : ℕ) → m < n → IsFree self.now m → ⊥) }
@@ -211,7 +211,7 @@ impl Table {
         put_bit(&mut self.held, n as usize, true);
     }
 
-    /// Holds a block once less.
+    /// Drops one hold of a block.
     pub fn unhold(&mut self, n: u32)
         requires inside { n < self.old.size }
         requires held { 0 < holds self.old n }
@@ -245,7 +245,7 @@ impl Table {
         self.hint = lowered(self.hint, n, self.counts[n as usize], false);
     }
 
-    /// Whether the bit of a block is set.
+    /// Returns whether the bit of a block is set.
     fn is_set(&self, n: u32) -> bool
         requires { n < self.now.size }
         ensures { digit result ≡ bit self.now n }
@@ -253,8 +253,8 @@ impl Table {
         has_bit(&self.set, n as usize)
     }
 
-    /// Puts each table block of which a bit was set or cleared since the last call. Where a disk with
-    /// the puts so far spells the bits but for those blocks, it spells all bits with the new puts.
+    /// Puts each table block with a bit that was set or cleared since the last call. If a disk with the puts so far
+    /// spells the bits except for those blocks, it spells all bits with the new puts.
     pub fn changes(&mut self, set: &mut ChangeSet)
         requires { length set.old + changed_blocks self.old ≤ MAX_PUTS }
         ensures done { self.new ≡ record self.old { changed = replicate (table_blocks self.old.size) false } }
@@ -274,9 +274,8 @@ impl Table {
         self.changed.fill(false);
     }
 
-    /// A table block with a bit that isn't as it is to be, where there is one. The bits of the fixed
-    /// regions and those of the marked blocks are to be set and all others clear; no bit is right for a
-    /// block that is both.
+    /// Returns a table block with a wrong bit, if there is one. The bits of the fixed regions and those of the marked
+    /// blocks must be set, and all others clear; no bit is right for a marked block of a fixed region.
     pub fn wrong_block(&self, reached: &Reached) -> Option<u32>
         requires { length reached.now ≡ self.now.size }
         ensures wrong { IfSome result (λ b. IsWrongBlock self.now reached.now b) }

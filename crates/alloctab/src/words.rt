@@ -6,7 +6,7 @@ ghost use Rattle.alloctab.specs.Common.{digit, word_bit, PutsBit};
 use spec_image::layout::WORD_BITS;
 use words36::Word;
 
-/// Whether bit `n` is set.
+/// Returns whether bit `n` is set.
 pub fn has_bit(words: &[Word], n: usize) -> bool
     requires { n / WORD_BITS < length words.now }
     ensures { digit result ≡ word_bit words.now n }
@@ -14,7 +14,7 @@ pub fn has_bit(words: &[Word], n: usize) -> bool
     (words[n / WORD_BITS].bits() >> (WORD_BITS - 1 - n % WORD_BITS)) % 2 == 1
 }
 
-/// Sets bit `n`, or clears it, whether it was so before or not.
+/// Sets or clears bit `n`, whatever it was before.
 pub fn put_bit(words: &mut Vec<Word>, n: usize, is_set: bool)
     requires { n / WORD_BITS < length words.old.items }
     ensures { PutsBit n is_set words.old.items words.new.items }
@@ -23,7 +23,7 @@ pub fn put_bit(words: &mut Vec<Word>, n: usize, is_set: bool)
     words[place] = with_bit(words[place], n % WORD_BITS, is_set);
 }
 
-/// A word with this bit at a place, where 0 is the place of the most significant.
+/// Returns a word with this bit at a place, where 0 is the place of the most significant.
 fn with_bit(word: Word, place: usize, is_set: bool) -> Word
     requires { place < WORD_BITS }
     ensures same { bit_at result (35 - place) ≡ digit is_set }

@@ -5,21 +5,21 @@ use Rattle.clap.specs.declared.builder.action.ArgAction.TheVariants.{SetTrue}
 use Rattle.clap.specs.Lexer.{usize_max}
 use Rattle.clap.specs.declared.builder.value_parser.ValueParser.TheVariants as vp
 
--- a text that has to be given
+-- a required text
 abbrev pub wanted : Text → Rule
 wanted id = record (new_rule id) { required = true }
 
--- one text or more that have to be given
+-- one required text or more
 abbrev pub several : Text → Rule
 several id = record (wanted id) {
   range = Some (record { start_inclusive = 1; end_inclusive = usize_max });
 }
 
--- a number that has to be given, in a range
+-- a required number, in a range
 abbrev pub numbered : Text → ℕ → ℕ → Rule
 numbered id least most = record (wanted id) { parser = Some (vp.Signed (pos least) (pos most)) }
 
--- a number from 0 on that may be left out, and is 0 then
+-- a number from 0 that may be left out, and is then 0
 abbrev pub optional : Text → ℕ → Rule
 optional id most = record (new_rule id) {
   long = Some id;
@@ -28,7 +28,7 @@ optional id most = record (new_rule id) {
   parser = Some (vp.Signed (pos 0) (pos most));
 }
 
--- a date, which is a text here, since it may be the text of a day; it may be left out, and is 0 then
+-- a date, which is a text here, since it may be the text of a day; it may be left out, and is then 0
 abbrev pub date_rule : Rule
 date_rule = record (new_rule (codes "date")) {
   long = Some (codes "date");
@@ -36,7 +36,7 @@ date_rule = record (new_rule (codes "date")) {
   defaults = codes "0" ∷ [];
 }
 
--- an image's form, 1 or 2, which may be left out, and is 1 then
+-- an image's form, 1 or 2, which may be left out, and is then 1
 abbrev pub form_rule : Rule
 form_rule = record (new_rule (codes "form")) {
   long = Some (codes "form");
@@ -45,7 +45,7 @@ form_rule = record (new_rule (codes "form")) {
   parser = Some (vp.Signed (pos 1) (pos 2));
 }
 
--- the layout of a new volume, 1 or 2, which may be left out, and is 1 then
+-- the layout of a new volume, 1 or 2, which may be left out, and is then 1
 abbrev pub layout_rule : Rule
 layout_rule = record (new_rule (codes "layout")) {
   long = Some (codes "layout");
@@ -82,7 +82,7 @@ calls_app = formed (dated (with_rule (new_app (codes "calls")) (wanted (codes "I
 unfoldable pub wire_app : App
 wire_app = formed (with_rule (new_app (codes "wire")) (wanted (codes "IMAGE")))
 
--- with an option that says nothing but that it is there
+-- an option without a value
 abbrev pub flag : Text → Rule
 flag id = record (new_rule id) { long = Some id; action = Some SetTrue }
 
@@ -91,7 +91,7 @@ unfoldable pub located : App → App
 located app =
     with_rule (with_rule (with_rule app (wanted (codes "IMAGE"))) (wanted (codes "PPN"))) (wanted (codes "NAME"))
 
--- the same, and what its bytes say
+-- the same, with flags for what its bytes are
 unfoldable pub filed : App → App
 filed app = with_rule (with_rule (located app) (flag (codes "words"))) (flag (codes "bytes"))
 
@@ -104,7 +104,7 @@ get_app = formed (dated (filed (new_app (codes "get"))))
 unfoldable pub delete_app : App
 delete_app = formed (located (new_app (codes "delete")))
 
--- with flags that say what the bytes of files are
+-- with flags for what the bytes of files are
 unfoldable pub encoded : App → App
 encoded app =
     with_rule (with_rule (with_rule app (flag (codes "text"))) (flag (codes "bytes"))) (flag (codes "words"))
@@ -114,7 +114,7 @@ unfoldable pub gathered : App → App
 gathered app =
     with_rule (with_rule (with_rule app (wanted (codes "IMAGE"))) (wanted (codes "PPN"))) (several (codes "FILE"))
 
--- with what their names and their dates come from
+-- with flags for the source of their names and their dates
 unfoldable pub adapted : App → App
 adapted app = with_rule (with_rule app (flag (codes "shorten"))) (flag (codes "dates"))
 
@@ -148,8 +148,8 @@ convert_app = formed (with_rule (with_rule (new_app (codes "convert")) (wanted (
 unfoldable pub migrate_app : App
 migrate_app = formed (with_rule (new_app (codes "migrate")) (wanted (codes "IMAGE")))
 
--- the subcommands: the one that makes an image, those that serve an input on it, that are for one file, that take files
--- from the host and to it, that look, and those that convert and migrate
+-- the subcommands: the one that makes an image, those that serve an input on it, those for one file, those that take
+-- files from the host and to it, those that change no file, and those that convert and migrate
 unfoldable pub making : App → App
 making app = with_subcommand app init_app.top
 
@@ -168,10 +168,10 @@ looking app = with_subcommand (with_subcommand app list_app.top) check_app.top
 unfoldable pub converting : App → App
 converting app = with_subcommand (with_subcommand app convert_app.top) migrate_app.top
 
--- a command of this name, which can be asked for its version
+-- a command of this name that prints its version on request
 abbrev pub versioned : Text → App
 versioned name = record (new_app name) { top = record (new_app name).top { has_version = true } }
 
--- the whole of it
+-- the whole command line
 unfoldable pub command_line : App
 command_line = converting (looking (moving (filing (serving (making (versioned (codes "filser")))))))

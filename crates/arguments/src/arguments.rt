@@ -1,4 +1,4 @@
-//! The arguments of subcommands, as values of `clap`'s, and the texts of their help.
+//! The arguments of subcommands, as `clap` values, and the texts of their help.
 ghost use Rattle.std.specs.Prelude.{◌≡◌, IfOk, Some, codes, false};
 ghost use Rattle.clap.specs.Words.{app_of, new_rule, rule_of, with_rule};
 ghost use Rattle.clap.specs.declared.builder.command.Command.TheViews.{out-Command as fields_of};
@@ -9,7 +9,7 @@ ghost use Rattle.arguments.specs.CommandLine.{scattered, several, sized, unloade
 use clap::{Arg, ArgAction, Command};
 use std::alloc::{AllocError, Global};
 
-/// A required argument.
+/// Returns a required argument.
 pub(crate) fn wanted<'a>(alloc: Global, id: &'a str, help: &'a str) -> Arg<'a>
     ensures rule { rule_of result ≡ wanted id.entry.now }
     ensures local { result.global ≡ false }
@@ -18,7 +18,7 @@ pub(crate) fn wanted<'a>(alloc: Global, id: &'a str, help: &'a str) -> Arg<'a>
     Arg::new(alloc, id).required(true).help(help)
 }
 
-/// The size of a new image.
+/// Returns the argument for the size of a new image.
 fn blocks<'a>(alloc: Global) -> Arg<'a>
     ensures rule { rule_of result ≡ numbered (codes "BLOCKS") 64 131072 }
     ensures local { result.global ≡ false }
@@ -29,7 +29,7 @@ fn blocks<'a>(alloc: Global) -> Arg<'a>
         .value_parser(clap::value_parser!(u32).range(64..=131072))
 }
 
-/// The date, as a number or as the text of a day.
+/// Returns the argument for the date, as a number or as the text of a day.
 fn date<'a>(alloc: Global) -> Arg<'a>
     ensures rule { rule_of result ≡ date_rule }
     ensures local { result.global ≡ false }
@@ -53,7 +53,7 @@ fn minute<'a>(alloc: Global) -> Arg<'a>
         .value_parser(clap::value_parser!(u32).range(0..=1439))
 }
 
-/// A command with one more argument.
+/// Returns a command with one more argument.
 pub(crate) fn with_argument<'a>(
     command: Command<'a>,
     argument: Arg<'a>,
@@ -65,7 +65,7 @@ pub(crate) fn with_argument<'a>(
     command.arg(argument)
 }
 
-/// A command with this sentence on what it does.
+/// Returns a command with this sentence about what it does.
 pub(crate) fn about<'a>(command: Command<'a>, text: &'a str) -> Command<'a>
     ensures app { app_of result ≡ app_of command.entry }
     ensures local { (fields_of result).has_globals ≡ (fields_of command.entry).has_globals }
@@ -74,7 +74,7 @@ pub(crate) fn about<'a>(command: Command<'a>, text: &'a str) -> Command<'a>
     command.about(text)
 }
 
-/// A command with the date and the minute of the files that it writes.
+/// Returns a command with the date and the minute of the files that it writes.
 #[tactic(auto, unfolding(crate::specs::CommandLine::dated))]
 pub(crate) fn dated<'a>(alloc: Global, command: Command<'a>) -> Result<Command<'a>, AllocError>
     ensures app { IfOk result (λ c. app_of c ≡ dated (app_of command.entry)) }
@@ -84,7 +84,7 @@ pub(crate) fn dated<'a>(alloc: Global, command: Command<'a>) -> Result<Command<'
     with_argument(command, minute(alloc))
 }
 
-/// A command with the size of a new image.
+/// Returns a command with the size of a new image.
 #[tactic(auto, unfolding(crate::specs::CommandLine::sized))]
 pub(crate) fn sized<'a>(alloc: Global, command: Command<'a>) -> Result<Command<'a>, AllocError>
     ensures app { IfOk result (λ c. app_of c ≡ sized (app_of command.entry)) }
@@ -93,7 +93,7 @@ pub(crate) fn sized<'a>(alloc: Global, command: Command<'a>) -> Result<Command<'
     with_argument(command, blocks(alloc))
 }
 
-/// The form of an image.
+/// Returns the argument for the form of an image.
 fn form<'a>(alloc: Global) -> Arg<'a>
     ensures rule { rule_of result ≡ form_rule }
     ensures local { result.global ≡ false }
@@ -106,7 +106,7 @@ fn form<'a>(alloc: Global) -> Arg<'a>
         .value_parser(clap::value_parser!(u32).range(1..=2))
 }
 
-/// A command with the form of its image.
+/// Returns a command with the form of its image.
 #[tactic(auto, unfolding(crate::specs::CommandLine::formed))]
 pub(crate) fn formed<'a>(alloc: Global, command: Command<'a>) -> Result<Command<'a>, AllocError>
     ensures app { IfOk result (λ c. app_of c ≡ formed (app_of command.entry)) }
@@ -115,7 +115,7 @@ pub(crate) fn formed<'a>(alloc: Global, command: Command<'a>) -> Result<Command<
     with_argument(command, form(alloc))
 }
 
-/// The layout of a new volume.
+/// Returns the argument for the layout of a new volume.
 fn layout<'a>(alloc: Global) -> Arg<'a>
     ensures rule { rule_of result ≡ layout_rule }
     ensures local { result.global ≡ false }
@@ -128,7 +128,7 @@ fn layout<'a>(alloc: Global) -> Arg<'a>
         .value_parser(clap::value_parser!(u32).range(1..=2))
 }
 
-/// A command with the layout of a new volume.
+/// Returns a command with the layout of a new volume.
 #[tactic(auto, unfolding(crate::specs::CommandLine::laid_out))]
 pub(crate) fn laid_out<'a>(alloc: Global, command: Command<'a>) -> Result<Command<'a>, AllocError>
     ensures app { IfOk result (λ c. app_of c ≡ laid_out (app_of command.entry)) }
@@ -137,7 +137,7 @@ pub(crate) fn laid_out<'a>(alloc: Global, command: Command<'a>) -> Result<Comman
     with_argument(command, layout(alloc))
 }
 
-/// A command with this text below its help.
+/// Returns a command with this text below its help.
 pub(crate) fn shown<'a>(command: Command<'a>, example: &'a str) -> Command<'a>
     ensures app { app_of result ≡ app_of command.entry }
     ensures local { (fields_of result).has_globals ≡ (fields_of command.entry).has_globals }
@@ -147,7 +147,7 @@ pub(crate) fn shown<'a>(command: Command<'a>, example: &'a str) -> Command<'a>
     command.after_help(example)
 }
 
-/// The flag that bytes are words.
+/// Returns the flag that bytes are words.
 fn words<'a>(alloc: Global) -> Arg<'a>
     ensures rule { rule_of result ≡ flag (codes "words") }
     ensures local { result.global ≡ false }
@@ -158,7 +158,7 @@ fn words<'a>(alloc: Global) -> Arg<'a>
         .help("Read or write words, not text: eight bytes each, most significant first")
 }
 
-/// The flag that bytes have eight bits.
+/// Returns the flag that bytes have eight bits.
 fn octets<'a>(alloc: Global) -> Arg<'a>
     ensures rule { rule_of result ≡ flag (codes "bytes") }
     ensures local { result.global ≡ false }
@@ -169,7 +169,7 @@ fn octets<'a>(alloc: Global) -> Arg<'a>
         .help("Read or write bytes of eight bits, not text: four to a word")
 }
 
-/// A command on one file of a directory.
+/// Returns a command with the arguments for one file of a directory.
 #[tactic(auto, unfolding(crate::specs::CommandLine::located))]
 pub(crate) fn located<'a>(alloc: Global, command: Command<'a>) -> Result<Command<'a>, AllocError>
     ensures app { IfOk result (λ c. app_of c ≡ located (app_of command.entry)) }
@@ -181,7 +181,7 @@ pub(crate) fn located<'a>(alloc: Global, command: Command<'a>) -> Result<Command
     with_argument(command, wanted(alloc, "NAME", "The file, as FOO.TXT"))
 }
 
-/// A command on the bytes of one file.
+/// Returns a command with the arguments for the bytes of one file.
 #[tactic(auto, unfolding(crate::specs::CommandLine::filed))]
 pub(crate) fn filed<'a>(alloc: Global, command: Command<'a>) -> Result<Command<'a>, AllocError>
     ensures app { IfOk result (λ c. app_of c ≡ filed (app_of command.entry)) }
@@ -191,7 +191,7 @@ pub(crate) fn filed<'a>(alloc: Global, command: Command<'a>) -> Result<Command<'
     with_argument(command, octets(alloc))
 }
 
-/// The flag that bytes are characters.
+/// Returns the flag that bytes are characters.
 fn characters<'a>(alloc: Global) -> Arg<'a>
     ensures rule { rule_of result ≡ flag (codes "text") }
     ensures local { result.global ≡ false }
@@ -202,7 +202,7 @@ fn characters<'a>(alloc: Global) -> Arg<'a>
         .help("Read or write text: characters 1 to 127, five to a word")
 }
 
-/// A command with the flags that say what the bytes of files are.
+/// Returns a command with the flags for what the bytes of files are.
 #[tactic(auto, unfolding(crate::specs::CommandLine::encoded))]
 pub(crate) fn encoded<'a>(alloc: Global, command: Command<'a>) -> Result<Command<'a>, AllocError>
     ensures app { IfOk result (λ c. app_of c ≡ encoded (app_of command.entry)) }
@@ -213,7 +213,7 @@ pub(crate) fn encoded<'a>(alloc: Global, command: Command<'a>) -> Result<Command
     with_argument(command, words(alloc))
 }
 
-/// The files of the host, one or more.
+/// Returns the argument for the files of the host, one or more.
 fn files<'a>(alloc: Global) -> Arg<'a>
     ensures rule { rule_of result ≡ several (codes "FILE") }
     ensures local { result.global ≡ false }
@@ -224,7 +224,7 @@ fn files<'a>(alloc: Global) -> Arg<'a>
         .help("The files of the host")
 }
 
-/// A command on files of the host that go to a directory.
+/// Returns a command with the arguments for files of the host that go to a directory.
 #[tactic(auto, unfolding(crate::specs::CommandLine::gathered))]
 pub(crate) fn gathered<'a>(alloc: Global, command: Command<'a>) -> Result<Command<'a>, AllocError>
     ensures app { IfOk result (λ c. app_of c ≡ gathered (app_of command.entry)) }
@@ -236,7 +236,7 @@ pub(crate) fn gathered<'a>(alloc: Global, command: Command<'a>) -> Result<Comman
     with_argument(command, files(alloc))
 }
 
-/// The flag that names may be cut.
+/// Returns the flag that names may be cut.
 fn shorten<'a>(alloc: Global) -> Arg<'a>
     ensures rule { rule_of result ≡ flag (codes "shorten") }
     ensures local { result.global ≡ false }
@@ -247,7 +247,7 @@ fn shorten<'a>(alloc: Global) -> Arg<'a>
         .help("Cut a name to six letters or digits, and an extension to three")
 }
 
-/// The flag that each file keeps its date.
+/// Returns the flag that each file keeps its date.
 fn dates<'a>(alloc: Global) -> Arg<'a>
     ensures rule { rule_of result ≡ flag (codes "dates") }
     ensures local { result.global ≡ false }
@@ -258,7 +258,7 @@ fn dates<'a>(alloc: Global) -> Arg<'a>
         .help("Give each file the date and time (UTC) of its last change")
 }
 
-/// A command with the flags on the names and the dates of files of the host.
+/// Returns a command with the flags for the names and the dates of files of the host.
 #[tactic(auto, unfolding(crate::specs::CommandLine::adapted))]
 pub(crate) fn adapted<'a>(alloc: Global, command: Command<'a>) -> Result<Command<'a>, AllocError>
     ensures app { IfOk result (λ c. app_of c ≡ adapted (app_of command.entry)) }
@@ -268,7 +268,7 @@ pub(crate) fn adapted<'a>(alloc: Global, command: Command<'a>) -> Result<Command
     with_argument(command, dates(alloc))
 }
 
-/// A command that writes files of an image to a folder of the host.
+/// Returns a command with the arguments for files of an image that it writes to a folder of the host.
 #[tactic(auto, unfolding(crate::specs::CommandLine::scattered))]
 fn scattered<'a>(alloc: Global, command: Command<'a>) -> Result<Command<'a>, AllocError>
     ensures app { IfOk result (λ c. app_of c ≡ scattered (app_of command.entry)) }
@@ -283,8 +283,8 @@ fn scattered<'a>(alloc: Global, command: Command<'a>) -> Result<Command<'a>, All
     with_argument(command, folder)
 }
 
-/// A command that writes files of an image to a folder of the host: of which directory, what their bytes are, and whether
-/// they are only listed.
+/// Returns a command with the arguments for files of an image that it writes to a folder of the host: of which
+/// directory, what their bytes are, and whether they are only listed.
 #[tactic(auto, unfolding(crate::specs::CommandLine::unloaded))]
 pub(crate) fn unloaded<'a>(alloc: Global, command: Command<'a>) -> Result<Command<'a>, AllocError>
     ensures app { IfOk result (λ c. app_of c ≡ unloaded (app_of command.entry)) }
@@ -294,7 +294,7 @@ pub(crate) fn unloaded<'a>(alloc: Global, command: Command<'a>) -> Result<Comman
     with_argument(encoded(alloc, command)?, listed(alloc))
 }
 
-/// The flag that files are only listed.
+/// Returns the flag that files are only listed.
 fn listed<'a>(alloc: Global) -> Arg<'a>
     ensures rule { rule_of result ≡ flag (codes "list") }
     ensures local { result.global ≡ false }
@@ -305,7 +305,7 @@ fn listed<'a>(alloc: Global) -> Arg<'a>
         .help("Print what would be done, and write nothing")
 }
 
-/// The flag that a file that is there stays.
+/// Returns the flag that an existing file stays.
 pub(crate) fn fresh<'a>(alloc: Global) -> Arg<'a>
     ensures rule { rule_of result ≡ flag (codes "new") }
     ensures local { result.global ≡ false }
@@ -316,7 +316,7 @@ pub(crate) fn fresh<'a>(alloc: Global) -> Arg<'a>
         .help("Refuse if a file has that name, and replace nothing")
 }
 
-/// The flag that lists are tables.
+/// Returns the flag that lists are tables.
 pub(crate) fn tsv<'a>(alloc: Global) -> Arg<'a>
     ensures rule { rule_of result ≡ flag (codes "tsv") }
     ensures local { result.global ≡ false }
@@ -327,7 +327,7 @@ pub(crate) fn tsv<'a>(alloc: Global) -> Arg<'a>
         .help("One line for each file, with tabs between its fields, and no totals")
 }
 
-/// A directory, which may be left out.
+/// Returns the argument for a directory, which may be left out.
 pub(crate) fn place<'a>(alloc: Global) -> Arg<'a>
     ensures rule { rule_of result ≡ new_rule (codes "PPN") }
     ensures local { result.global ≡ false }

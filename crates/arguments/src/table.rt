@@ -1,5 +1,5 @@
-//! The command line as a value of `clap`'s. A subcommand is a function here, and a line of
-//! `with_making`, `with_serving`, `with_filing`, `with_moving`, `with_looking` or `with_converting`.
+//! The command line as a `clap` value. A subcommand is a function here, and a line of `with_making`, `with_serving`,
+//! `with_filing`, `with_moving`, `with_looking` or `with_converting`.
 ghost use Rattle.std.specs.Prelude.{◌≡◌, IfOk, codes, false};
 ghost use Rattle.clap.specs.Words.{app_of, with_subcommand};
 ghost use Rattle.clap.specs.declared.builder.command.Command.TheViews.{out-Command as fields_of};
@@ -15,7 +15,7 @@ use crate::arguments::{
 use clap::Command;
 use std::alloc::{AllocError, Global};
 
-/// The version that `--version` shows.
+/// The version that `--version` prints.
 const VERSION: &str = "0.1.0";
 
 /// The text below the commands in the help.
@@ -85,7 +85,7 @@ all others are written, as export writes them.
 Example:
   filser salvage DISK.IMG saved";
 
-/// A command with one more subcommand.
+/// Returns a command with one more subcommand.
 fn with_one<'a>(command: Command<'a>, subcommand: Command<'a>) -> Result<Command<'a>, AllocError>
     requires { (fields_of subcommand).has_globals ≡ false }
     ensures app { IfOk result (λ c. app_of c ≡ with_subcommand (app_of command.entry) (app_of subcommand.entry).top) }
@@ -307,7 +307,7 @@ fn with_making<'a>(alloc: Global, command: Command<'a>) -> Result<Command<'a>, A
     with_one(command, init_command(alloc)?)
 }
 
-/// Adds those that serve an input on an image.
+/// Adds the subcommands that serve an input on an image.
 #[tactic(auto, unfolding(crate::specs::CommandLine::serving))]
 fn with_serving<'a>(alloc: Global, command: Command<'a>) -> Result<Command<'a>, AllocError>
     ensures { IfOk result (λ c. app_of c ≡ serving (app_of command.entry)) }
@@ -317,7 +317,7 @@ fn with_serving<'a>(alloc: Global, command: Command<'a>) -> Result<Command<'a>, 
     with_one(command, wire_command(alloc)?)
 }
 
-/// Adds those for one file.
+/// Adds the subcommands for one file.
 #[tactic(auto, unfolding(crate::specs::CommandLine::filing))]
 fn with_filing<'a>(alloc: Global, command: Command<'a>) -> Result<Command<'a>, AllocError>
     ensures { IfOk result (λ c. app_of c ≡ filing (app_of command.entry)) }
@@ -327,7 +327,7 @@ fn with_filing<'a>(alloc: Global, command: Command<'a>) -> Result<Command<'a>, A
     with_one(command, delete_command(alloc)?)
 }
 
-/// Adds those that take files from the host and to it.
+/// Adds the subcommands that take files from the host and to it.
 #[tactic(auto, unfolding(crate::specs::CommandLine::moving))]
 fn with_moving<'a>(alloc: Global, command: Command<'a>) -> Result<Command<'a>, AllocError>
     ensures { IfOk result (λ c. app_of c ≡ moving (app_of command.entry)) }
@@ -337,7 +337,7 @@ fn with_moving<'a>(alloc: Global, command: Command<'a>) -> Result<Command<'a>, A
     with_one(command, salvage_command(alloc)?)
 }
 
-/// Adds those that change no file.
+/// Adds the subcommands that change no file.
 #[tactic(auto, unfolding(crate::specs::CommandLine::looking))]
 fn with_looking<'a>(alloc: Global, command: Command<'a>) -> Result<Command<'a>, AllocError>
     ensures { IfOk result (λ c. app_of c ≡ looking (app_of command.entry)) }
@@ -346,7 +346,7 @@ fn with_looking<'a>(alloc: Global, command: Command<'a>) -> Result<Command<'a>, 
     with_one(command, check_command(alloc)?)
 }
 
-/// Adds those that convert and migrate.
+/// Adds the subcommands that convert and migrate.
 #[tactic(auto, unfolding(crate::specs::CommandLine::converting))]
 fn with_converting<'a>(alloc: Global, command: Command<'a>) -> Result<Command<'a>, AllocError>
     ensures { IfOk result (λ c. app_of c ≡ converting (app_of command.entry)) }
@@ -355,7 +355,7 @@ fn with_converting<'a>(alloc: Global, command: Command<'a>) -> Result<Command<'a
     with_one(command, migrate_command(alloc)?)
 }
 
-/// The program's name, version and help.
+/// Returns a command with the program's name, version and help.
 fn program<'a>(alloc: Global) -> Command<'a>
     ensures { app_of result ≡ versioned (codes "filser") }
 {
@@ -367,8 +367,8 @@ fn program<'a>(alloc: Global) -> Command<'a>
     .version(VERSION)
 }
 
-/// The whole command line: its subcommands, the arguments of each with the ranges of their numbers, and the texts of
-/// its help (this project's profile).
+/// Returns the whole command line: its subcommands, the arguments of each with the ranges of their numbers, and the
+/// texts of its help (this project's profile).
 ///
 /// # Errors
 ///

@@ -1,5 +1,5 @@
-//! Prints what the service asks of its disk: the blocks read and written and the syncs of a start and of calls behind
-//! it, for the rows of its standard input, which is the file `stdin` beside its sources.
+//! Prints how often the service calls its disk: the blocks read and written and the syncs of a start and of calls after
+//! it, for the rows of its standard input, which is the file `stdin` next to its sources.
 #![tactic(auto)]
 
 use anyhow::Result;

@@ -1,4 +1,4 @@
 mod Ahead
-pub mod Held
+pub mod CachedContents
 mod Recalled
 pub mod Seen

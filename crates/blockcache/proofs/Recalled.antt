@@ -1,4 +1,4 @@
--- A read that asks no device.
+-- A read that calls no device.
 use Rattle.std.proofs.Common.{◌≡◌, ◌∷◌, ◌∙◌, [], ℕ, Option, List, Some, None, Ok, Err, Result, IfSome, length}
 use Rattle.std.proofs.Common.{slice_set, refl, ap}
 use Rattle.blockdisk.specs.Common.{IsRead, DiskState, MayLeave, passes_start, same_disk_start}
@@ -28,12 +28,12 @@ one_place [] words one = cc
 one_place (place ∷ []) words one = refl
 one_place (place ∷ next ∷ more) words one = cc
 
--- A run of one place that is read as a block is, which is kept, is filled with that.
+-- A run of one place, read in the way of a block that is cached, is filled with that block.
 module _ (o : Option (List ℕ)) (places : List (List ℕ)) (read : List ℕ) (one : length places ≡ 1) where
-  pub run_recalled : (Inner Kept Near : Type 0)
-      → IfSome o (λ words. (◌≡◌ {A = Result (List ℕ) Fault} (Ok read) (Ok words)) × Inner × Kept × Near)
+  pub run_recalled : (Inner CachedBlocks Near : Type 0)
+      → IfSome o (λ words. (◌≡◌ {A = Result (List ℕ) Fault} (Ok read) (Ok words)) × Inner × CachedBlocks × Near)
       → IfSome o (λ words. (◌≡◌ {A = Result (Option ℕ) Fault} (Ok None) (Ok None))
-      × (slice_set places 0 read ≡ words ∷ []) × Inner × Kept × Near)
+      × (slice_set places 0 read ≡ words ∷ []) × Inner × CachedBlocks × Near)
   run_recalled inner kept near was = (elim o as (λ o. IfSome o (λ words. (◌≡◌ {A = Result (List ℕ) Fault} (Ok read)
       (Ok words)) × inner × kept × near) → IfSome o (λ words. (◌≡◌ {A = Result (Option ℕ) Fault} (Ok None) (Ok None))
       × (slice_set places 0 read ≡ words ∷ []) × inner × kept × near)) [

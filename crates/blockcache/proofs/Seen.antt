@@ -1,4 +1,4 @@
--- What two windows keep is what the disk holds.
+-- What two windows cache is what the disk holds.
 use Rattle.std.proofs.Common.{◌≡◌, ◌∙◌, ◌⊎◌, ◌+◌, ◌-◌, ◌<◌, ◌≤◌, ℕ, true, false, List, [], Option, Some, None, IsSome}
 use Rattle.std.proofs.Common.{length, slice_get, nat_lt, ap, sym, subst, refl, ⊎_elim, inl, inr, arith}
 use Rattle.std.proofs.lemmas.Bool.{cases_lt}
@@ -19,7 +19,7 @@ in_list blocks i words found = elim (slice_get_cases blocks i).1 [
   | inr past ↦ absurd (none_some words (sym past.1 ∙ found))
 ]
 
--- of one
+-- the same for one window
 pub seen_at : (n : ℕ) (w : Stretch) (contents : Contents) (words : List ℕ) → HoldRun contents w.first w.blocks
     → words_at n w ≡ Some words → contents n ≡ Some words
 seen_at n w contents words held found = (elim (nat_lt n w.first) as (λ b. nat_lt n w.first ≡ b

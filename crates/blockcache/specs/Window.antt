@@ -1,4 +1,4 @@
--- Blocks that were read together because they are neighbours, and which of them are read for one that is asked for.
+-- Blocks that were read together because they are neighbours, and which of them are read for one that is needed.
 use Rattle.std.specs.Prelude.{◌≡◌, ◌⊎◌, ◌+◌, ◌-◌, ◌*◌, ◌≤◌, ℕ, if◌then◌else◌, nat_lt, nat_le, List, [], Option, Some}
 use Rattle.std.specs.Prelude.{None, Result, IfOk, IfSome, IsSome, OnOk, OnErr, IsErrOf, length, min, max, slice_get}
 use Rattle.blockdisk.specs.Common.{Contents, DiskState, Keeps, SameDisk, HoldRun, one_more}
@@ -10,7 +10,7 @@ pub record Stretch : Type 0 where
   pub first : ℕ
   pub blocks : List (List ℕ)
 
--- the block behind the last of them
+-- the block after the last of them
 abbrev pub end_of : Stretch → ℕ
 end_of w = w.first + length w.blocks
 
@@ -18,26 +18,26 @@ end_of w = w.first + length w.blocks
 abbrev pub words_at : ℕ → Stretch → Option (List ℕ)
 words_at n w = if nat_lt n w.first then None else slice_get w.blocks (n - w.first)
 
--- none of them is kept any more
+-- none of them is cached any more
 abbrev pub cleared : Stretch → Stretch
 cleared w = record { first = w.first; blocks = [] }
 
--- those that are kept after so many blocks from `first` on were written: none, if one of them was written
+-- those that are still cached after `count` blocks from `first` were written: none, if one of them was written
 abbrev pub apart : ℕ → ℕ → Stretch → Stretch
 apart first count w = if nat_lt first (end_of w) then (if nat_lt w.first (first + count) then cleared w else w) else w
 
--- How many blocks are read for block n: twice as many as the time before, up to 128, if it is less than 128 blocks away
+-- How many blocks are read for block n: twice as many as the time before, up to 128, if it is at most 128 blocks away
 -- from those; else 2.
 abbrev pub asked_count : ℕ → Stretch → ℕ
 asked_count n w = if nat_lt (n + 128) w.first then 2 else if nat_le (end_of w + 128) n then 2
     else min (max (2 * length w.blocks) 2) 128
 
--- The first of so many blocks that are read for block n: the one at `end`, if that many from there on reach block n;
--- else block n is the last of them.
+-- The first of `count` blocks that are read for block n: the one at `end`, if `count` blocks from there reach block
+-- n; else block n is the last of them.
 abbrev pub first_of : ℕ → ℕ → ℕ → ℕ
 first_of n end count = if nat_le end n then (if nat_lt (n - end) count then end else n + 1 - count) else n + 1 - count
 
--- Where they begin: behind those of the time before, if block n is reached from there.
+-- Where they begin: after those of the time before, if block n is reached from there.
 abbrev pub asked_first : ℕ → Stretch → ℕ
 asked_first n w = first_of n (end_of w) (asked_count n w)
 
@@ -45,8 +45,8 @@ asked_first n w = first_of n (end_of w) (asked_count n w)
 abbrev pub asked_end : ℕ → Stretch → ℕ → ℕ
 asked_end n w size = min (asked_first n w + asked_count n w) size
 
--- The blocks from `first` on were read, as many of these as are kept, and this was answered: where they end. They end
--- early where a block is damaged. Where the device failed none is kept.
+-- The blocks from `first` were read, as many of them as are cached, and this was the answer: where they end. They end
+-- early if a block is damaged. If the device failed, none is cached.
 pub record AreRead (first count : ℕ) (s s' : DiskState) (blocks : List (List ℕ)) (answer : Result ℕ Fault)
     : Type 0 where
   pub words : s'.honest → HoldRun s.contents first blocks
@@ -60,7 +60,7 @@ pub record AreRead (first count : ℕ) (s s' : DiskState) (blocks : List (List �
   pub failed : IsErrOf answer Device → s'.failures ≡ one_more s.failures
   pub served : OnOk answer (s'.failures ≡ s.failures)
 
--- Two stretches are kept: the one that was read last, and the one before.
+-- Two stretches are cached: the one that was read last, and the one before.
 
 -- the words of block n, if it is in one of them
 abbrev pub either_of : Option (List ℕ) → Option (List ℕ) → Option (List ℕ)
@@ -74,15 +74,15 @@ words_near n last earlier = either_of (words_at n last) (words_at n earlier)
 abbrev pub AreSeen : Stretch → Stretch → Contents → Type 0
 AreSeen last earlier contents = HoldRun contents last.first last.blocks × HoldRun contents earlier.first earlier.blocks
 
--- What is kept of the blocks that were read for block n, behind those of the time before: all that were asked for, or
--- those before the first damaged one. Or no memory was found for them, and `unused` is kept.
+-- What is cached of the blocks that were read for block n, after those of the time before: all that were to be read,
+-- or those before the first damaged one. Or there was no memory for them, and `unused` is cached.
 abbrev pub IsNext : ℕ → DiskState → DiskState → Stretch → Stretch → Stretch → Type 0
 IsNext n s s' before unused now = (now ≡ unused) ⊎ ((now.first ≡ asked_first n before)
     × (end_of now ≤ asked_end n before s.size)
     × (s'.honest → (end_of now ≡ asked_end n before s.size → ⊥) → s.contents (end_of now) ≡ None))
 
--- What a read of block n makes of the two stretches: nothing, if it is in one of them; else those that are read for it
--- take the place of the earlier one. `Fails` says that the device failed.
+-- How a read of block n changes the two stretches: not at all, if it is in one of them; else those that are read for
+-- it take the place of the earlier one. `Fails` states that the device failed.
 pub record MovesOn (n : ℕ) (s s' : DiskState) (Fails : Type 0) (last earlier new_last new_earlier : Stretch)
     : Type 0 where
   pub last_stays : IsSome (words_near n last earlier) → new_last ≡ last
@@ -90,7 +90,7 @@ pub record MovesOn (n : ℕ) (s s' : DiskState) (Fails : Type 0) (last earlier n
   pub moved : words_near n last earlier ≡ None → new_earlier ≡ last
   pub next : words_near n last earlier ≡ None → (Fails → ⊥) → IsNext n s s' last earlier new_last
 
--- Block n was asked for with its neighbours, and this was answered: its words, unless it wasn't reached.
+-- Block n was read with its neighbours, and this was the answer: its words, unless it wasn't reached.
 pub record IsAhead (n : ℕ) (s s' : DiskState) (answer : Result (Option (List ℕ)) Fault) : Type 0 where
   pub words : s'.honest → IfOk answer (λ found. IfSome found (λ block. s.contents n ≡ Some block))
   pub damaged : s'.honest → IsErrOf answer Damaged → s.contents n ≡ None

@@ -1,3 +1,4 @@
+//! A disk with a cache: the blocks that were used last, and windows of neighbours that were read ahead.
 ghost use Rattle.std.specs.Prelude.{◌≡◌, ◌+◌, ◌<◌, ◌≤◌, ◌^◌, ℕ, List, Some, None, Ok, IfOk, IfErr, OnOk, OnErr};
 ghost use Rattle.std.specs.Prelude.{IfSome, IsSome, IsErrOf, [], ◌∷◌, Contains, IfNone, get_or, length, nat_eq};
 ghost use Rattle.std.specs.NonZero.{non_zero_usize_get};
@@ -5,7 +6,7 @@ ghost use Rattle.std.specs.Map.{lookup};
 ghost use Rattle.lru.specs.LruCache.{lru_cache};
 ghost use Rattle.blockdisk.specs.Common.{IsRead, IsRunRead, IsVerify, IsWrite, IsRunWrite, IsSync, IsInRun, IsWithin};
 ghost use Rattle.blockdisk.specs.declared.fault.Fault.TheVariants.{Device};
-ghost use Rattle.blockcache.specs.Cache.{AreHeld, IsCached, used, without, without_run, emptied};
+ghost use Rattle.blockcache.specs.Cache.{AreCached, IsCached, used, without, without_run, emptied};
 ghost use Rattle.blockcache.specs.Window.{AreSeen, MovesOn, apart, cleared, words_near};
 
 use crate::windows::Windows;
@@ -15,27 +16,27 @@ use std::alloc::Global;
 use std::num::NonZeroUsize;
 use words36::Block;
 
-/// A disk some of whose blocks are kept in memory: those that were read or written last, each by itself, as many as it
-/// has room for; and neighbours of those that were read, in two windows. Writes go through to the disk under it at
-/// once.
+/// A disk some of whose blocks are cached in memory: those that were read or written last, each by itself, as many as
+/// there is room for; and neighbours of those that were read, in two windows. Writes go through to the disk
+/// underneath at once.
 ///
-/// Blocks for which no memory is found are not kept, and nobody is told: they are read again when they are wanted.
+/// Blocks for which there is no memory are silently not cached: they are read again when they are needed.
 #[derive(Drop)]
 pub struct Cached<D: Disk> {
     inner: D,
     cache: LruCache<u32, Block>,
     windows: Windows,
-    ghost coherent: { (D.state inner).honest → AreHeld cache.entries (D.state inner).contents },
+    ghost coherent: { (D.state inner).honest → AreCached cache.entries (D.state inner).contents },
     ghost seen: { (D.state inner).honest → AreSeen windows.last windows.earlier (D.state inner).contents },
 }
 
 impl<D: Disk> Cached<D> {
-    /// The same disk, with room for so many blocks; windows find theirs as they grow. None is kept yet, and the disk
-    /// isn't asked.
+    /// Returns the same disk, with room for this number of blocks; windows get their memory as they grow. No block is
+    /// cached yet, and the disk isn't called.
     ///
     /// # Errors
     ///
-    /// `NoMemory`, with the disk as it was, where so much room isn't found.
+    /// `NoMemory`, with the disk as it was, if there isn't that much room.
     pub fn new(alloc: Global, disk: D, capacity: NonZeroUsize) -> Result<Self, (NoMemory, D)>
         ensures inner { IfOk result (λ cached. cached.inner ≡ disk) }
         ensures empty { IfOk result (λ cached. cached.cache ≡ lru_cache [] (non_zero_usize_get capacity)) }
@@ -54,21 +55,21 @@ impl<D: Disk> Cached<D> {
         }
     }
 
-    /// The disk under it.
+    /// Returns the disk underneath.
     pub fn inner(&self) -> &D
         ensures { result.now ≡ self.now.inner }
     {
         &self.inner
     }
 
-    /// The disk under it, as it is: it has all that was written.
+    /// Returns the disk underneath, as it is: it has everything that was written.
     pub fn into_inner(self) -> D
         ensures { result ≡ self.inner }
     {
         self.inner
     }
 
-    /// What is kept of a block, which is the one used last then.
+    /// Returns the cached words of a block, if any, and makes it the block that was used last.
     fn recall(&mut self, n: u32) -> Option<Block>
         ensures found { result ≡ lookup (nat_eq n) self.old.cache.entries }
         ensures used { self.new.cache ≡ used n self.old.cache }
@@ -79,7 +80,7 @@ impl<D: Disk> Cached<D> {
         self.cache.get(&n).copied()
     }
 
-    /// Keeps what a block holds, where memory is found.
+    /// Caches the words of a block, if there is memory.
     fn keep(&mut self, n: u32, block: &Block)
         requires { (D.state self.old.inner).honest → (D.state self.old.inner).contents n ≡ Some block.now }
         ensures kept { IsCached n block.now self.old.cache self.new.cache }
@@ -89,18 +90,18 @@ impl<D: Disk> Cached<D> {
         let _kept = self.cache.put(n, *block);
     }
 
-    /// Keeps nothing of a block any more.
+    /// Drops a block from the cache.
     fn forget(&mut self, n: u32)
         ensures forgotten { self.new.cache ≡ without n self.old.cache }
         ensures none { lookup (nat_eq n) self.new.cache.entries ≡ None }
         ensures inner { self.new.inner ≡ self.old.inner }
         ensures windows { self.new.windows ≡ self.old.windows }
     {
-        let _kept = self.cache.len(); // no block is kept twice
+        let _kept = self.cache.len(); // no block is cached twice
         let _block = self.cache.pop(&n);
     }
 
-    /// Keeps nothing of so many neighbouring blocks any more, from one on.
+    /// Drops a run of neighbouring blocks from the cache.
     fn forget_run(&mut self, first: u32, count: u32)
         requires { first + count < 2 ^ 32 }
         ensures forgotten { self.new.cache ≡ without_run first count self.old.cache }
@@ -153,8 +154,8 @@ impl<D: Disk> Disk for Cached<D> {
         Ok(block)
     }
 
-    /// A run of several blocks goes past those that are kept, which are as the disk holds them, and none of it is kept:
-    /// it would drive the others out. A single block is read as by `read`.
+    /// Reads neighbouring blocks. A run of several bypasses the cached blocks, which are as the disk holds them, and
+    /// none of it is cached: it would drive the others out. A single block is read as by `read`.
     fn read_run(&mut self, first: u32, blocks: &mut [Block]) -> Result<Option<u32>, Fault>
         requires { first + length blocks.old ≤ (D.state self.old.inner).size }
         ensures within { IfOk result (IsWithin first (first + length blocks.old)) }
@@ -187,8 +188,8 @@ impl<D: Disk> Disk for Cached<D> {
         Ok(None)
     }
 
-    /// The disk is asked for the blocks from the first on that is in no window, also for those that are kept by
-    /// themselves, which are as it holds them; and nothing is kept of the others.
+    /// Calls the disk to verify the blocks from the first one that is in no window, even those that are cached by
+    /// themselves, which are as the disk holds them. Caches none of the others.
     fn verify(&mut self, first: u32, end: u32) -> Result<Option<u32>, Fault>
         requires { end ≤ (D.state self.old.inner).size }
         ensures verifies { IsVerify first end (D.state self.old.inner) (D.state self.new.inner) result }
@@ -221,8 +222,8 @@ impl<D: Disk> Disk for Cached<D> {
         Ok(())
     }
 
-    /// A run of several blocks goes past those that are kept, and nothing is kept of it any more: it would drive the
-    /// others out. A single block is written as by `write`.
+    /// Writes neighbouring blocks. A run of several bypasses the cache, and none of it stays cached: it would drive
+    /// the others out. A single block is written as by `write`.
     fn write_run(&mut self, first: u32, blocks: &[Block]) -> Result<(), Fault>
         requires { first + length blocks.now ≤ (D.state self.old.inner).size }
         ensures writes { IsRunWrite first blocks.now (D.state self.old.inner) (D.state self.new.inner) result }
@@ -239,7 +240,7 @@ impl<D: Disk> Disk for Cached<D> {
         if blocks.len() == 1 {
             return self.write(first, &blocks[0]);
         }
-        let _size = self.blocks(); // no more than a u32 counts
+        let _size = self.blocks(); // the number of blocks fits a u32
         self.forget_run(first, blocks.len() as u32);
         self.windows.forget_run(first, blocks.len() as u32);
         self.inner.write_run(first, blocks)

@@ -1,3 +1,4 @@
+//! A window: neighbouring blocks, cached as they were read.
 ghost use Rattle.std.specs.Prelude.{◌≡◌, ◌+◌, ◌<◌, ◌≤◌, ℕ, [], Some, None, Ok, Err, IfOk, IfErr, IfSome, IfNone};
 ghost use Rattle.std.specs.Prelude.{length, option_copied};
 ghost use Rattle.blockcache.specs.Window.{AreRead, apart, asked_count, asked_end, asked_first, cleared, first_of};
@@ -8,13 +9,14 @@ use std::alloc::Global;
 use std::marker::Model;
 use words36::{BLOCK_WORDS, Block, Word};
 
-/// How many blocks are read for one at most. One that is as far from those that were read before is not near.
+/// The most blocks that are read for one. A block that is farther than this from those that were read before is not
+/// near.
 const MOST_BLOCKS: usize = 128;
 
-/// How many blocks are read for one that is not near those that were read before.
+/// The number of blocks that are read for one that is not near those that were read before.
 const FEW_BLOCKS: usize = 2;
 
-/// Neighbouring blocks that are kept as they were read.
+/// Neighbouring blocks, cached as they were read.
 #[derive(Drop)]
 pub(crate) struct Window {
     first: u32,
@@ -29,13 +31,13 @@ impl Model for Window {
     ghost view = { λ w. record { first = w.first; blocks = w.blocks.items } };
 }
 
-/// Reads neighbouring blocks into places, from one on, up to the first that is damaged, and answers where they end. No
-/// other places are left.
+/// Reads neighbouring blocks, from block `first`, into places, up to the first that is damaged, and returns where
+/// they end. Leaves no other places.
 fn read_places<D: Disk>(blocks: &mut Vec<Block>, disk: &mut D, first: u32) -> Result<u32, Fault>
     requires { first + length blocks.old.items ≤ (D.state disk.old).size }
     ensures { AreRead first (length blocks.old.items) (D.state disk.old) (D.state disk.new) blocks.new.items result }
 {
-    let _size = disk.blocks(); // no more than a u32 counts
+    let _size = disk.blocks(); // the number of places fits a u32
     let count = blocks.len() as u32;
     match disk.read_run(first, blocks.as_mut_slice()) {
         Ok(None) => Ok(first + count),
@@ -50,7 +52,8 @@ fn read_places<D: Disk>(blocks: &mut Vec<Block>, disk: &mut D, first: u32) -> Re
     }
 }
 
-/// The first of so many blocks that are read for one: the one at `end`, if that many from there on reach it.
+/// Returns the first of `count` blocks that are read for block `n`: the block at `end`, if that many blocks from
+/// there reach block `n`.
 fn first_asked(n: u32, end: usize, count: usize) -> u32
     requires { 0 < count }
     ensures first { result ≡ first_of n end count }
@@ -67,7 +70,7 @@ fn first_asked(n: u32, end: usize, count: usize) -> u32
 }
 
 impl Window {
-    /// No blocks are kept, and no memory is taken.
+    /// Returns a window without blocks. It takes no memory.
     pub(crate) fn new(alloc: Global) -> Self
         ensures first { result.first ≡ 0 }
         ensures none { length result.blocks ≡ 0 }
@@ -78,7 +81,7 @@ impl Window {
         }
     }
 
-    /// The words of a block, if it is kept.
+    /// Returns the words of a block, if it is in the window.
     pub(crate) fn find(&self, n: u32) -> Option<&Block>
         ensures found { option_copied result ≡ words_at n self.now }
     {
@@ -88,14 +91,14 @@ impl Window {
         self.blocks.get((n - self.first) as usize)
     }
 
-    /// Keeps none of them any more.
+    /// Drops all its blocks.
     pub(crate) fn clear(&mut self)
         ensures { self.new ≡ cleared self.old }
     {
         self.blocks.clear();
     }
 
-    /// Keeps none of them any more if one of so many blocks from `first` on is among them.
+    /// Drops all its blocks if one of `count` blocks from `first` is among them.
     pub(crate) fn forget_run(&mut self, first: u32, count: u32)
         ensures { self.new ≡ apart first count self.old }
     {
@@ -109,7 +112,7 @@ impl Window {
         self.clear();
     }
 
-    /// How many blocks are to be read for one.
+    /// Returns how many blocks to read for one.
     fn asked_count(&self, n: u32) -> usize
         ensures { result ≡ asked_count n self.now }
     {
@@ -123,7 +126,7 @@ impl Window {
         (2 * self.blocks.len()).max(FEW_BLOCKS).min(MOST_BLOCKS)
     }
 
-    /// The first of the blocks that are to be read for one, and how many they are on a disk of this size.
+    /// Returns the first of the blocks to read for one, and how many there are on a disk of this size.
     pub(crate) fn asked(&self, n: u32, size: u32) -> (u32, usize)
         requires { n < size }
         ensures first { result.0 ≡ asked_first n self.now }
@@ -137,8 +140,8 @@ impl Window {
         (first, count.min((size - first) as usize))
     }
 
-    /// Reads so many neighbouring blocks from one on in the place of those that are kept, up to the first that is
-    /// damaged, and answers where they end; `None` if no memory is found for them, with nothing changed.
+    /// Reads `count` neighbouring blocks, from block `first`, in place of those in the window, up to the first that
+    /// is damaged, and returns where they end; `None`, with nothing changed, if there is no memory for them.
     pub(crate) fn fill<D: Disk>(
         &mut self,
         disk: &mut D,

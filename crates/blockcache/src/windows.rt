@@ -1,3 +1,4 @@
+//! The last two windows of neighbouring blocks that were read ahead.
 ghost use Rattle.std.specs.Prelude.{◌≡◌, ◌+◌, ◌<◌, ◌≤◌, ℕ, Some, None, Ok, IfOk, IfSome, IsSome, IsErrOf, length};
 ghost use Rattle.blockdisk.specs.Common.{IsRead, AreVerified, Contents, HoldRun};
 ghost use Rattle.blockdisk.specs.declared.fault.Fault.TheVariants.{Device};
@@ -17,7 +18,7 @@ pub(crate) struct Windows {
 }
 
 impl Windows {
-    /// No blocks are kept, and no memory is taken.
+    /// Returns windows without blocks. They take no memory.
     pub(crate) fn new(alloc: Global) -> Self
         ensures last { length result.last.blocks ≡ 0 }
         ensures earlier { length result.earlier.blocks ≡ 0 }
@@ -29,7 +30,7 @@ impl Windows {
         }
     }
 
-    /// The words of a block, if it is kept.
+    /// Returns the words of a block, if it is in a window.
     fn find(&self, n: u32) -> Option<Block>
         ensures { result ≡ words_near n self.now.last self.now.earlier }
     {
@@ -39,7 +40,7 @@ impl Windows {
         self.earlier.find(n).copied()
     }
 
-    /// Keeps none of them any more.
+    /// Drops all blocks.
     pub(crate) fn clear(&mut self)
         ensures last { self.new.last ≡ cleared self.old.last }
         ensures earlier { self.new.earlier ≡ cleared self.old.earlier }
@@ -48,7 +49,7 @@ impl Windows {
         self.earlier.clear();
     }
 
-    /// Keeps none of those any more that were read with one of so many blocks from `first` on.
+    /// Drops all blocks that were read together with one of `count` blocks from `first`.
     pub(crate) fn forget_run(&mut self, first: u32, count: u32)
         ensures last { self.new.last ≡ apart first count self.old.last }
         ensures earlier { self.new.earlier ≡ apart first count self.old.earlier }
@@ -57,7 +58,7 @@ impl Windows {
         self.earlier.forget_run(first, count);
     }
 
-    /// The first block from one on that isn't kept, up to another one.
+    /// Returns the first block from `first` that is in no window, or `end` if all blocks before it are in one.
     pub(crate) fn passed(&self, first: u32, end: u32) -> u32
         ensures from { first ≤ result }
         ensures to { first ≤ end → result ≤ end }
@@ -74,8 +75,8 @@ impl Windows {
         first.max(end)
     }
 
-    /// Reads a block with its neighbours, which are kept. Answers its words, or `None` if it wasn't reached: no memory
-    /// was found, or a block before it is damaged.
+    /// Reads a block with its neighbours, and caches them. Returns its words, or `None` if the block wasn't reached:
+    /// there was no memory, or a block before it is damaged.
     fn read_ahead<D: Disk>(&mut self, disk: &mut D, n: u32) -> Result<Option<Block>, Fault>
         requires { n < (D.state disk.old).size }
         ensures ahead { IsAhead n (D.state disk.old) (D.state disk.new) result }
@@ -97,11 +98,11 @@ impl Windows {
         Ok(self.last.find(n).copied())
     }
 
-    /// Reads a block, of those that are kept or with its neighbours.
+    /// Reads a block from a window, or from the disk with its neighbours.
     ///
     /// # Errors
     ///
-    /// As of a disk.
+    /// As for a disk.
     pub(crate) fn read<D: Disk>(&mut self, disk: &mut D, n: u32) -> Result<Block, Fault>
         requires inside { n < (D.state disk.old).size }
         requires seen { (D.state disk.old).honest

@@ -1,4 +1,4 @@
--- How the record of a disk in memory goes on: one more call leaves the moments before it as they were.
+-- How the record of a disk in memory continues: one more call leaves the moments before it as they were.
 use Rattle.std.proofs.Common.{◌≡◌, ◌⊎◌, inl, inr, ⊎_elim, ℕ, ◌+◌, ◌<◌, ◌≤◌, Bool, true, false, List, [], ◌∷◌, ◌++◌}
 use Rattle.std.proofs.Common.{length, get_or, slice_set, replicate, Option, Some, None, refl, sym, ◌∙◌, ap, subst}
 use Rattle.std.proofs.Common.{arith, take, length-append, length-take, Result, Ok, Err, OnOk, OnErr, IfErr, IsErrOf}

@@ -1,5 +1,5 @@
--- What the trait promises of each call, as one record a call: of the device under another one too,
--- whose calls no clause can name.
+-- What the trait promises of each call, as one record for each: also for the disk under another one, whose calls no
+-- clause can name.
 use Rattle.std.specs.Prelude.{◌≡◌, ◌<◌, ◌+◌, ℕ, List, Option, Some, None, Result, IsOk, IfOk, OnOk, OnErr, IsErrOf}
 use Rattle.std.specs.Prelude.{length}
 use Rattle.blockdisk.specs.Disk.{DiskState, SameDisk, Keeps, Writes, Syncs, Fails, one_more, AreFilled, AreVerified}
@@ -7,7 +7,7 @@ use Rattle.blockdisk.specs.Disk.{IsWithin, HoldRun, IsInRun, Modifies}
 use Rattle.blockdisk.specs.declared.fault.Fault.{Fault}
 use Rattle.blockdisk.specs.declared.fault.Fault.TheVariants.{Device, Damaged}
 
--- a read of block n that was answered like this
+-- a read of block n with this answer
 pub record IsRead (n : ℕ) (s s' : DiskState) (answer : Result (List ℕ) Fault) : Type 0 where
   pub words : s'.honest → IfOk answer (λ block. s.contents n ≡ Some block)
   pub damaged : s'.honest → IsErrOf answer Damaged → s.contents n ≡ None
@@ -16,7 +16,7 @@ pub record IsRead (n : ℕ) (s s' : DiskState) (answer : Result (List ℕ) Fault
   pub failed : IsErrOf answer Device → s'.failures ≡ one_more s.failures
   pub served : (IsErrOf answer Device → ⊥) → s'.failures ≡ s.failures
 
--- a read of the blocks from `first` on into as many places, which hold this then
+-- a read of the blocks from `first` into as many places, which then hold these
 pub record IsRunRead (first : ℕ) (s s' : DiskState) (blocks : List (List ℕ)) (answer : Result (Option ℕ) Fault)
     : Type 0 where
   pub within : IfOk answer (IsWithin first (first + length blocks))
@@ -27,7 +27,7 @@ pub record IsRunRead (first : ℕ) (s s' : DiskState) (blocks : List (List ℕ))
   pub failed : IsErrOf answer Device → s'.failures ≡ one_more s.failures
   pub served : IsOk answer → s'.failures ≡ s.failures
 
--- a look at the blocks from `first` on before `end` that was answered like this
+-- a check of the blocks from `first` and before `end`, with this answer
 pub record IsVerify (first end : ℕ) (s s' : DiskState) (answer : Result (Option ℕ) Fault) : Type 0 where
   pub within : IfOk answer (IsWithin first end)
   pub verified : s'.honest → IfOk answer (AreVerified s.contents first end)
@@ -47,7 +47,7 @@ pub record IsWrite (n : ℕ) (words : List ℕ) (s s' : DiskState) (answer : Res
   pub failed : IsErrOf answer Device → s'.failures ≡ one_more s.failures
   pub served : OnOk answer (s'.failures ≡ s.failures)
 
--- a write of these blocks from `first` on
+-- a write of these blocks from `first`
 pub record IsRunWrite (first : ℕ) (blocks : List (List ℕ)) (s s' : DiskState) (answer : Result (Unit {0}) Fault)
     : Type 0 where
   pub put : s'.honest → OnOk answer (HoldRun s'.contents first blocks)

@@ -1,7 +1,7 @@
 -- The definitions that proofs and other crates cite, passed on from one place. Declares nothing.
 pub use Rattle.blockdisk.specs.Calls.{IsRead, IsRunRead, IsRunWrite, IsSync, IsVerify, IsWrite}
 pub use Rattle.blockdisk.specs.Copies.{BothAreNew, OneIsWhole}
-pub use Rattle.blockdisk.specs.Crashing.{at_sync, left_in, left_of, picked}
+pub use Rattle.blockdisk.specs.CrashedDisk.{at_sync, left_in, left_of, picked}
 pub use Rattle.blockdisk.specs.Disk.{AreFilled, AreVerified, Between, Contents, DiskState, Fails, HoldRun, IsInRun}
 pub use Rattle.blockdisk.specs.Disk.{IsWholeBlock, IsWithin, Keeps, LeavesOnly, MayLeave, Modifies, Near, NoneOpen}
 pub use Rattle.blockdisk.specs.Disk.{Passes, SameDisk, SameOutside, Still, Syncs, Writes, one_more}

@@ -2,7 +2,7 @@
 use Rattle.std.specs.Prelude.{◌≡◌, ◌⊎◌, ℕ, List, Some}
 use Rattle.blockdisk.specs.Disk.{Contents, SameOutside}
 
--- Nothing but the copies has changed since before, and the second copy is as it was or the first is new.
+-- Nothing except the copies has changed since before, and the second copy is as it was or the first is new.
 pub record OneIsWhole (first second : ℕ) (words : List ℕ) (before now : Contents) : Type 0 where
   pub others : SameOutside (λ n. (n ≡ first) ⊎ (n ≡ second)) before now
   pub one : (now second ≡ before second) ⊎ (now first ≡ Some words)

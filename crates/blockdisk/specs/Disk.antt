@@ -4,7 +4,7 @@
 use Rattle.std.specs.Prelude.{◌≡◌, ◌⊎◌, ◌+◌, ◌-◌, ◌^◌, ◌<◌, ◌≤◌, ℕ, Bool, true, false, List, Option, None, Some, []}
 use Rattle.std.specs.Prelude.{length, min, get_or}
 
--- what each block holds: its words, or none where it is damaged
+-- what each block holds: its words, or none if it is damaged
 abbrev pub Contents : Type 0
 Contents = ℕ → Option (List ℕ)
 
@@ -14,27 +14,26 @@ pub record IsWholeBlock (contents : Contents) (n : ℕ) : Type 0 where
   pub holds : contents n ≡ Some words
   pub all : length words ≡ 128
 
--- The first damaged block of those from `first` on before `end` is this one, and those before it are whole; or there is
--- none.
+-- This is the first damaged block from `first` and before `end`, and those before it are whole; or there is none.
 abbrev pub AreVerified : Contents → ℕ → ℕ → Option ℕ → Type 0
 AreVerified contents first end None = (n : ℕ) → first ≤ n → n < end → IsWholeBlock contents n
 AreVerified contents first end (Some bad) = (contents bad ≡ None)
     × ((n : ℕ) → first ≤ n → n < bad → IsWholeBlock contents n)
 
--- it is one of them
+-- the block, if any, is one of them
 abbrev pub IsWithin : ℕ → ℕ → Option ℕ → Type 0
 IsWithin first end None = Unit {0}
 IsWithin first end (Some bad) = (first ≤ bad) × (bad < end)
 
--- It is one of so many blocks from `first` on.
+-- Block n is one of `count` blocks from `first`.
 abbrev pub IsInRun : ℕ → ℕ → ℕ → Type 0
 IsInRun first count n = (first ≤ n) × (n < first + count)
 
--- The blocks from `first` on hold these words, one after the other.
+-- The blocks from `first` hold these words, one after the other.
 abbrev pub HoldRun : Contents → ℕ → List (List ℕ) → Type 0
 HoldRun contents first blocks = (i : ℕ) → i < length blocks → contents (first + i) ≡ Some (get_or blocks i [])
 
--- These are the words of the blocks from `first` on, one for each place: of all, or of those before this one, which is
+-- These are the words of the blocks from `first`, one for each place: of all, or of those before this one, which is
 -- damaged.
 abbrev pub AreFilled : Contents → ℕ → List (List ℕ) → Option ℕ → Type 0
 AreFilled contents first blocks None = HoldRun contents first blocks
@@ -45,28 +44,28 @@ AreFilled contents first blocks (Some bad) = (contents bad ≡ None)
 pub record DiskState : Type 1 where
   -- the number of blocks
   pub size : ℕ
-  -- it has kept to the laws below so far; once it hasn't, it is honest no more
+  -- it has kept to the laws below so far; if it ever breaks one, it is no longer honest
   pub honest : Type 0
   -- how often a call answered Device, counted up to 2^64 - 1
   pub failures : ℕ
-  -- what a read gives
+  -- what a read returns
   pub contents : Contents
   -- the blocks that were written since the last sync that succeeded
   pub is_open : ℕ → Bool
   -- the moment, a number that doesn't fall
   pub clock : ℕ
-  -- what a crash at some moment from that one on may have left, within a call or between two
+  -- what a crash at that moment or later may have left, within a call or between two
   pub left_since : ℕ → Contents → Type 0
 
 -- what a crash at this moment may leave: anything in the open blocks
 abbrev pub MayLeave : DiskState → Contents → Type 0
 MayLeave s c = (n : ℕ) → s.is_open n ≡ false → c n ≡ s.contents n
 
--- no block is open, so that a crash leaves what a read gives
+-- no block is open, so a crash leaves what a read returns
 abbrev pub NoneOpen : DiskState → Type 0
 NoneOpen s = (n : ℕ) → s.is_open n ≡ false
 
--- Time goes on from s to s', and a crash meanwhile leaves only what has P.
+-- Time passes from s to s', and a crash meanwhile leaves only what has P.
 pub record Passes (s s' : DiskState) (P : Contents → Type 0) : Type 0 where
   pub later : s.clock ≤ s'.clock
   -- what was left since an earlier moment was left before s, or has P
@@ -74,10 +73,10 @@ pub record Passes (s s' : DiskState) (P : Contents → Type 0) : Type 0 where
   -- what is new was left since each moment up to s
   pub new_since : (t u : ℕ) (c : Contents) → t ≤ s.clock → u ≤ s.clock → s'.left_since t c
       → s.left_since t c ⊎ s'.left_since u c
-  -- what was left stays so
+  -- what was left is still left
   pub keeps : (t : ℕ) (c : Contents) → t ≤ s.clock → s.left_since t c → s'.left_since t c
 
--- What every call keeps, on every disk. Its answer may end honesty, and none brings it back.
+-- What every call guarantees, on every disk. Its answer may end honesty, and none brings it back.
 pub record SameDisk (s s' : DiskState) : Type 0 where
   pub size : s'.size ≡ s.size
   pub was_honest : s'.honest → s.honest
@@ -92,7 +91,7 @@ pub record Keeps (s s' : DiskState) : Type 0 where
   pub is_open : (n : ℕ) → s'.is_open n ≡ s.is_open n
   pub time : Passes s s' (MayLeave s')
 
--- A sync that failed: the closed blocks stay, and none is closed. An open one may hold anything then.
+-- A sync that failed: the closed blocks stay, and no block is closed. An open one may then hold anything.
 pub record Fails (s s' : DiskState) : Type 0 where
   pub contents : (n : ℕ) → s.is_open n ≡ false → s'.contents n ≡ s.contents n
   pub is_open : (n : ℕ) → s'.is_open n ≡ s.is_open n
@@ -111,13 +110,13 @@ pub record Syncs (s s' : DiskState) : Type 0 where
   pub closed : NoneOpen s'
   pub time : Passes s s' (MayLeave s')
 
--- The words of the layers above: stretches of any number of calls.
+-- The vocabulary of the layers above: stretches of any number of calls.
 
 -- the same at each block outside a set of blocks
 abbrev pub SameOutside : (ℕ → Type 0) → Contents → Contents → Type 0
 SameOutside In c d = (n : ℕ) → (In n → ⊥) → d n ≡ c n
 
--- outside this set of blocks it is something that a crash may leave at s
+-- outside this set of blocks, it is something that a crash may leave at s
 abbrev pub Near : (ℕ → Type 0) → DiskState → Contents → Type 0
 Near In s c = (d : Contents) × MayLeave s d × SameOutside In d c
 
@@ -140,6 +139,6 @@ pub record LeavesOnly (s s' : DiskState) (P : Contents → Type 0) : Type 0 wher
   -- for a run that began earlier
   pub time : Passes s s' P
 
--- what a crash left from moment t on, and not from moment u on, has P
+-- what a crash left since moment t, and not since moment u, has P
 abbrev pub Between : DiskState → ℕ → ℕ → (Contents → Type 0) → Type 0
 Between s t u P = (c : Contents) → s.left_since t c → s.left_since u c ⊎ P c

@@ -1,10 +1,10 @@
--- A disk behind a fuse: what it is, by the disk under it and its own failures.
+-- A disk with a fuse: what it is, given the disk underneath and its own failures.
 use Rattle.std.specs.Prelude.{◌≤◌, ◌+◌, ◌-◌, ◌==◌, ◌^◌, ℕ, Bool, false, Option, Some, None, if◌then◌else◌, min}
 use Rattle.blockdisk.specs.Disk.{DiskState}
 use Rattle.blockdisk.specs.declared.fuse.Fail.{Fail}
 use Rattle.blockdisk.specs.declared.fuse.Fail.TheVariants.{One, All}
 
--- How many calls pass before the next one that fails; none where no call fails any more.
+-- How many calls pass before the next one that fails; none if no call will fail any more.
 
 -- the next call fails
 abbrev pub is_blown : Option ℕ → Bool
@@ -31,12 +31,12 @@ abbrev pub left_after : Option ℕ → ℕ → Option ℕ
 left_after None count = None
 left_after (Some passing) count = Some (passing - count)
 
--- how many of `count` blocks from `first` on are read: all, or those up to the damaged one
+-- how many of `count` blocks from `first` are read: all, or those up to the damaged one
 abbrev pub blocks_read : ℕ → ℕ → Option ℕ → ℕ
 blocks_read first count None = count
 blocks_read first count (Some bad) = bad - first + 1
 
--- the disk under a fuse, of whose own so many calls failed
+-- the disk with a fuse, given the disk underneath and the number of the fuse's own failures
 abbrev pub fused : DiskState → ℕ → DiskState
 fused s failures = record {
   size = s.size;

@@ -1,17 +1,17 @@
--- What becomes of a disk behind a fuse.
+-- What happens to a disk with a fuse.
 use Rattle.std.specs.Prelude.{◌≡◌, ◌⊎◌, ◌<◌, ◌+◌, ℕ, Result, Ok, Err, Some}
 use Rattle.blockdisk.specs.Disk.{DiskState, IsInRun, Modifies, one_more}
 use Rattle.blockdisk.specs.Fuse.{burnt, left_behind, Lets, left_after, fused}
 use Rattle.blockdisk.specs.declared.fault.Fault.{Fault}
 use Rattle.blockdisk.specs.declared.fuse.FuseDisk.{FuseDisk}
 
--- a failure is counted once: by the disk under the fuse where that failed, too
+-- a failure is counted once: by the disk under the fuse if that failed, too
 abbrev pub own_failures : Result (Unit {0}) Fault → ℕ → ℕ
 own_failures (Ok done) failures = one_more failures
 own_failures (Err fault) failures = failures
 
 module _ {D : Type 0} where
-  -- after a call that passed, which left the disk under it like this
+  -- after a call that passed, which left the disk underneath like this
   abbrev pub passed : FuseDisk D → D → FuseDisk D
   passed disk inner = record disk { inner = inner; left = burnt disk.fail disk.left }
 
@@ -19,7 +19,7 @@ module _ {D : Type 0} where
   abbrev pub refused : FuseDisk D → FuseDisk D
   refused disk = record disk { left = burnt disk.fail disk.left; failures = one_more disk.failures }
 
-  -- A call failed, and was passed on all the same: the disk under it answered, as its promise `IsCall` allows.
+  -- A call failed, and was passed on all the same: the disk underneath answered, as its promise `IsCall` allows.
   abbrev pub IsMadeAnyway : (Result (Unit {0}) Fault → Type 0) → FuseDisk D → FuseDisk D → Type 0
   IsMadeAnyway IsCall disk new = (answer : Result (Unit {0}) Fault) × IsCall answer
       × (new ≡ record (passed disk new.inner) { failures = own_failures answer disk.failures })
@@ -51,13 +51,13 @@ module _ {D : Type 0} where
     HasFailedRead count old new = (k : ℕ) × (k < count)
         × ((HasBlown k old new × (new.failures ≡ one_more old.failures)) ⊎ HasFailedBelow (k + 1) old new)
 
-    -- One failure was counted, by the fuse or by the disk under it.
+    -- One failure was counted, by the fuse or by the disk underneath.
     abbrev pub IsCountedOnce : FuseDisk D → FuseDisk D → Type 0
     IsCountedOnce old new = ((new.failures ≡ one_more old.failures)
         × ((state new.inner).failures ≡ (state old.inner).failures))
         ⊎ ((new.failures ≡ old.failures) × ((state new.inner).failures ≡ one_more (state old.inner).failures))
 
-    -- A write of `count` blocks from `first` on failed at one of them, and no block after that was written.
+    -- A write of `count` blocks from `first` failed at one of them, and no block after that was written.
     pub record HasFailedWrite (first count : ℕ) (old new : FuseDisk D) : Type 0 where
       pub k : ℕ
       pub within : k < count

@@ -1,6 +1,6 @@
--- How stretches of calls of a disk follow each other. The layers above cite these laws and look into
--- no clock: a stretch begins by `modifies_start` or `leaves_start`, goes on by one line a call, and ends
--- in `modifies_leaves` or `leaves_on`.
+-- How stretches of calls of a disk follow each other. The layers above cite these laws and never use the clock: a
+-- stretch begins with `modifies_start` or `leaves_start`, continues with one line for each call, and ends with
+-- `modifies_leaves` or `leaves_on`.
 use Rattle.std.specs.Prelude.{◌≡◌, ◌⊎◌, ◌≤◌, ℕ, false, if◌then◌else◌, ◌==◌, Result, Ok, Err, OnOk, OnErr}
 use Rattle.std.proofs.Common.{inl, inr, ⊎_elim, refl, sym, ◌∙◌, arith, subst}
 use Rattle.std.proofs.lemmas.Bool.{cases_eq}
@@ -53,7 +53,7 @@ passes_weaker s s' P Q passes weaker = record {
   keeps = passes.keeps;
 }
 
--- A read behind another
+-- A read after another
 
 pub keeps_on : (s s' s'' : DiskState) → Keeps s s' → Keeps s' s'' → Keeps s s''
 keeps_on s s' s'' first second = record {
@@ -152,7 +152,7 @@ writes_modifies In n s s' within writes = record {
     inside : (m : ℕ) → m ≡ n → In m
     inside m here = subst In (sym here) within
 
-    -- a crash after the write is one before it, but for block n
+    -- a crash after the write is one before it, except for block n
     before : Contents → Contents
     before c m = if m == n then s.contents m else c m
 
@@ -193,7 +193,7 @@ leaves_start s P only_now here = record {
   time = passes_start s P;
 }
 
--- what a stretch leaves that wrote only these blocks
+-- what a stretch leaves if it wrote only these blocks
 pub modifies_leaves : (In : ℕ → Type 0) (s s' : DiskState) (P : Contents → Type 0)
     → ((c : Contents) → s.left_since s.clock c → MayLeave s c) → Modifies In s s'
     → ((c : Contents) → Near In s c → P c) → LeavesOnly s s' P
@@ -204,7 +204,7 @@ modifies_leaves In s s' P only_now t near = record {
   time = passes_weaker s s' (Near In s) P t.time near;
 }
 
--- what a stretch leaves that wrote nothing
+-- what a stretch leaves if it wrote nothing
 pub leaves_still : (s s' : DiskState) (P : Contents → Type 0) → ((c : Contents) → s.left_since s.clock c → MayLeave s c)
     → Still s s' → ((c : Contents) → MayLeave s c → P c) → LeavesOnly s s' P
 leaves_still s s' P only_now still here = record {
@@ -214,7 +214,7 @@ leaves_still s s' P only_now still here = record {
   time = passes_weaker s s' (MayLeave s) P still.time here;
 }
 
--- after a sync that failed a crash leaves only what it could leave before
+-- after a sync that failed, a crash leaves only what it could leave before
 pub fails_leave : (s s' : DiskState) → Fails s s' → (c : Contents) → MayLeave s' c → MayLeave s c
 fails_leave s s' fails c left n closed = left n (fails.is_open n ∙ closed) ∙ fails.contents n closed
 
@@ -252,7 +252,7 @@ leaves_weaker s s' P Q leaves weaker = record {
   time = passes_weaker s s' P Q leaves.time weaker;
 }
 
--- what a stretch leaves that wrote only these blocks, and another one after it
+-- what a stretch leaves if it wrote only these blocks, and another one after it
 pub modifies_near : (In : ℕ → Type 0) (s s' : DiskState) → ((c : Contents) → s.left_since s.clock c → MayLeave s c)
     → Modifies In s s' → LeavesOnly s s' (Near In s)
 modifies_near In s s' only_now t = modifies_leaves In s s' (Near In s) only_now t (λ c near. near)
@@ -275,17 +275,17 @@ pub leaves_wider : (In Out : ℕ → Type 0) (s s' : DiskState) → ((n : ℕ) �
     → LeavesOnly s s' (Near Out s)
 leaves_wider In Out s s' wider leaves = leaves_weaker s s' (Near In s) (Near Out s) leaves (near_wider In Out s wider)
 
--- what a crash left between two moments goes on to be all that it left there
+-- what a crash left between two moments is still all that it left there
 pub between_on : (s s' : DiskState) (P Q : Contents → Type 0) (t u : ℕ) → t ≤ s.clock → u ≤ s.clock → Passes s s' Q
     → Between s t u P → Between s' t u P
 between_on s s' P Q t u le le' passes between c left = ⊎_elim
     (λ was. ⊎_elim (λ later. inl (passes.keeps u c le' later)) (λ here. inr here) (between c was))
     (λ new. inl new) (passes.new_since t u c le le' left)
 
--- what a stretch leaves is what a crash left between its beginning and its end, or its end on
+-- what a stretch leaves is what a crash left between its beginning and its end, or since its end
 pub leaves_between : (s s' : DiskState) (P : Contents → Type 0) (t : ℕ) → LeavesOnly s s' P → Between s' s.clock t P
 leaves_between s s' P t leaves c left = inr (leaves.since c left)
 
--- after a sync a crash leaves what a read gives
+-- after a sync, a crash leaves what a read returns
 pub none_open_leaves : (s : DiskState) → NoneOpen s → (c : Contents) → MayLeave s c → c ≡ s.contents
 none_open_leaves s none c left = same_contents s.contents c (λ n. left n (none n))

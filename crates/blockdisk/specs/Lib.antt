@@ -1,6 +1,6 @@
 pub mod Calls
 pub mod Copies
-pub mod Crashing
+pub mod CrashedDisk
 pub mod Disk
 pub mod Fuse
 pub mod Fused

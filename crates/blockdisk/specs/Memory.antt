@@ -1,5 +1,5 @@
--- A disk in memory: its blocks, which of them are open, and the record of its writes and syncs, from
--- which each earlier moment can be told.
+-- A disk in memory: its blocks, which of them are open, and the record of its writes and syncs, from which each
+-- earlier moment can be reconstructed.
 use Rattle.std.specs.Prelude.{◌<◌, ◌≡◌, ◌⊎◌, ◌≤◌, ◌+◌, ◌^◌, ℕ, Bool, true, false, List, [], ◌∷◌, ◌++◌, Option, Some}
 use Rattle.std.specs.Prelude.{None, get_or, take, length, replicate, slice_set}
 use Rattle.blockdisk.specs.Disk.{Contents, DiskState, one_more}
@@ -7,9 +7,9 @@ use Rattle.blockdisk.specs.declared.memory.DiskCall.{DiskCall}
 use Rattle.blockdisk.specs.declared.memory.DiskCall.TheVariants.{Write, Sync}
 
 pub record Memory : Type 0 where
-  -- what a read gives
+  -- what a read returns
   pub blocks : List (Option (List ℕ))
-  -- what a read gave before the first call of the record, when no block was open
+  -- what a read returned before the first call of the record, when no block was open
   pub first : List (Option (List ℕ))
   -- the writes and syncs since then that succeeded
   pub calls : List DiskCall
@@ -36,7 +36,7 @@ abbrev pub after_calls : DiskMoment → List DiskCall → DiskMoment
 after_calls m [] = m
 after_calls m (call ∷ calls) = after_calls (after_call m call) calls
 
--- the moment after so many calls of the record
+-- the moment after k calls of the record
 abbrev pub moment_at : Memory → ℕ → DiskMoment
 moment_at m k = after_calls (record { blocks = m.first; opened = replicate (length m.first) false }) (take k m.calls)
 
@@ -58,19 +58,19 @@ memory_state m = record {
   left_since = λ t c. ((k : ℕ) × (t ≤ k) × (k < length m.calls) × Leaves (moment_at m k) c) ⊎ Leaves (moment_now m) c;
 }
 
--- the record tells what is there
+-- the record gives the present state
 pub record IsReplayed (m : Memory) : Type 0 where
   pub same_size : length m.opened ≡ length m.blocks
   pub first_size : length m.first ≡ length m.blocks
   pub blocks : (moment_at m (length m.calls)).blocks ≡ m.blocks
-  -- a write that failed for want of room opened its block, and is not in the record
+  -- a write that failed for lack of room opened its block, and is not in the record
   pub opened : length m.calls < m.room → (moment_at m (length m.calls)).opened ≡ m.opened
   pub fits : length m.calls ≤ m.room
   pub few : length m.blocks < 2 ^ 32
 
--- What the calls make of it.
+-- The memory after each call.
 
--- so many blocks of zeros, and room for so many calls
+-- this number of blocks of zeros, and room for this number of calls
 abbrev pub zeroed : ℕ → ℕ → Memory
 zeroed blocks room = record {
   blocks = replicate blocks (Some (replicate 128 0));

@@ -1,4 +1,4 @@
--- What the trait asks of the past moments of a disk in memory.
+-- What the trait requires of the past moments of a disk in memory.
 use Rattle.std.specs.Prelude.{◌<◌, ◌≤◌, ℕ, length}
 use Rattle.std.proofs.Common.{arith, ⊎_elim, inl, inr}
 use Rattle.blockdisk.specs.Disk.{Contents}

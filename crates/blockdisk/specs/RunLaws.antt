@@ -1,4 +1,4 @@
--- How a read or a write of neighbouring blocks is made of those of fewer.
+-- How a read or a write of neighbouring blocks is made of reads or writes of fewer.
 use Rattle.std.specs.Prelude.{◌≡◌, ◌⊎◌, ◌+◌, ◌-◌, ◌<◌, ◌≤◌, ℕ, List, Option, Some, None, Result, Ok, Err, OnOk, IsOk}
 use Rattle.std.specs.Prelude.{IsErrOf, false, [], ◌∷◌, length, get_or, take, drop}
 use Rattle.std.proofs.Common.{inl, inr, ⊎_elim, refl, ap, ◌∙◌, sym, arith, subst}
@@ -18,7 +18,7 @@ no_fault value fault is = cc
 not_ok : (fault : Fault) → IsOk {T = Option ℕ} (Err fault) → ⊥
 not_ok fault ok = cc
 
--- So many blocks were read, from `first` on, and fill the first places.
+-- The first `count` blocks from `first` were read, and fill the first places.
 pub record IsPartRead (first count : ℕ) (s s' : DiskState) (blocks : List (List ℕ)) : Type 0 where
   pub words : s'.honest → (i : ℕ) → i < count → s.contents (first + i) ≡ Some (get_or blocks i [])
   pub keeps : s'.honest → Keeps s s'
@@ -40,7 +40,7 @@ module _ (first count : ℕ) (s s' : DiskState) (blocks : List (List ℕ)) (befo
     same : s'.honest → s'.contents ≡ s.contents
     same h = same_contents s.contents s'.contents (before.keeps h).contents
 
-    -- Behind them so many more, which a group has.
+    -- After them, `more` blocks were read, those of a group.
     pub part_on : (more : ℕ) (s'' : DiskState) (group new : List (List ℕ))
         → IsPartRead (first + count) more s' s'' group
         → ((i : ℕ) → i < count → get_or new i [] ≡ get_or blocks i [])
@@ -136,7 +136,7 @@ not_in_run (inr from) (inr behind) was now = now
 module _ (first count : ℕ) (s s' : DiskState) (others : SameOutside (IsInRun first count) s.contents s'.contents)
     (opened : (n : ℕ) → (IsInRun first count n → ⊥) → s'.is_open n ≡ s.is_open n) (time : Passes s s' (MayLeave s'))
   where
-    -- a crash after the write is one before it, but for the blocks of the run
+    -- a crash after the write is one before it, except for the blocks of the run
     abbrev before : Contents → Contents
     before c n = not_in_run (cases_lt n first) (cases_lt n (first + count)) (s.contents n) (c n)
 
@@ -172,7 +172,7 @@ module _ (first count : ℕ) (s s' : DiskState) (others : SameOutside (IsInRun f
       time = passes_weaker s s' (MayLeave s') (Near (IsInRun first count) s) time near;
     }
 
--- So many of these blocks were written, from `first` on.
+-- The first `count` of these blocks were written, from `first`.
 pub record IsPartWrite (first count : ℕ) (blocks : List (List ℕ)) (s s' : DiskState) : Type 0 where
   pub put : s'.honest → (i : ℕ) → i < count → s'.contents (first + i) ≡ Some (get_or blocks i [])
   pub moves : s'.honest → 0 < count → s.clock < s'.clock
@@ -214,7 +214,7 @@ module _ (first count : ℕ) (blocks : List (List ℕ)) (s s' : DiskState)
         (modifies_wider (IsInRun (first + count) (length group)) (IsInRun first (count + more)) s' s''
         (λ n within. (omega (arith, within.0), omega (arith, within.1, long))) two)
 
-    -- Behind them a group more.
+    -- After them, a group is written.
     pub part_write_on : (done : Unit {0}) → IsRunWrite (first + count) group s' s'' (Ok done)
         → IsPartWrite first (count + more) blocks s s''
     part_write_on done behind = record {
@@ -245,7 +245,7 @@ module _ (first count : ℕ) (blocks : List (List ℕ)) (s s' : DiskState)
             ap s''.contents (sym at) ∙ behind.put h (i - count) (omega (arith, low, long))
             ∙ ap Some (are (i - count) low ∙ ap (λ k. get_or blocks k []) back)
 
-    -- The device fails in the group behind them.
+    -- The device fails in the group after them.
     pub part_write_failed : (fault : Fault) → count + more ≤ length blocks
         → IsRunWrite (first + count) group s' s'' (Err fault) → IsRunWrite first blocks s s'' (Err fault)
     part_write_failed fault room behind = record {

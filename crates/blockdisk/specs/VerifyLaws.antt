@@ -1,4 +1,4 @@
--- How a look at blocks is made of looks at fewer, and of reads.
+-- How a check of blocks is made of checks of fewer, and of reads.
 use Rattle.std.specs.Prelude.{◌≡◌, ◌+◌, ◌<◌, ◌≤◌, ℕ, List, Option, Some, None, Ok, Err, IsOk, IsErrOf, length}
 use Rattle.std.proofs.Common.{⊎_elim, refl, ap, ◌∙◌, arith, subst}
 use Rattle.std.proofs.lemmas.Bool.{cases_lt}
@@ -14,7 +14,7 @@ no_fault value fault is = cc
 not_ok : (fault : Fault) → IsOk {T = Option ℕ} (Err fault) → ⊥
 not_ok fault ok = cc
 
--- no block is looked at
+-- no block is checked
 pub verify_start : (first : ℕ) (s : DiskState) → IsVerify first first s s (Ok None)
 verify_start first s = record {
   within = tt;
@@ -29,7 +29,7 @@ verify_start first s = record {
     none : (n : ℕ) → first ≤ n → n < first → ⊥
     none n low high = omega arith
 
--- of fewer blocks
+-- a check of fewer blocks
 pub verify_fewer : (first end next : ℕ) (s s' : DiskState) → end ≤ next → IsVerify first next s s' (Ok None)
     → IsVerify first end s s' (Ok None)
 verify_fewer first end next s s' fewer all = record {
@@ -60,13 +60,13 @@ module _ (n : ℕ) (s s' : DiskState) where
       only : (m : ℕ) → n ≤ m → m < n + 1 → n ≡ m
       only m low high = omega arith
 
--- Blocks behind blocks that are whole
+-- Blocks after blocks that are whole
 
 module _ (first next stop : ℕ) (s s' s'' : DiskState) (before : IsVerify first next s s' (Ok None)) where
   same : s'.honest → s'.contents ≡ s.contents
   same h = same_contents s.contents s'.contents (before.keeps h).contents
 
-  -- those up to a block are whole, as far as those from `next` on are
+  -- the blocks before m are whole, if those from `next` are
   all_before : (m : ℕ) → s'.honest → ((n : ℕ) → next ≤ n → n < m → IsWholeBlock s'.contents n)
       → (n : ℕ) → first ≤ n → n < m → IsWholeBlock s.contents n
   all_before m h behind n low high = ⊎_elim (λ less. before.verified h n low less)

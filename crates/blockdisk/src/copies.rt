@@ -1,3 +1,4 @@
+//! Writes that wait until their blocks are on the disk: of one block, and of two copies of it.
 ghost use Rattle.std.specs.Prelude.{◌≡◌, ◌≢◌, ◌<◌, ◌⊎◌, Some, OnOk, IsErrOf};
 ghost use Rattle.blockdisk.specs.Common.{OneIsWhole, BothAreNew, NoneOpen, SameDisk, Near, Modifies, LeavesOnly};
 ghost use Rattle.blockdisk.specs.Common.{one_more};
@@ -6,11 +7,11 @@ ghost use Rattle.blockdisk.specs.declared.fault.Fault.TheVariants.{Device, Damag
 use crate::{Disk, Fault};
 use words36::Block;
 
-/// Writes a block and waits until it is on the disk. No block is open then.
+/// Writes a block and waits until it is on the disk. After that, no block is open.
 ///
 /// # Errors
 ///
-/// `Device` where the device failed; the block may then hold anything, and so may those that were open.
+/// `Device` if the device failed; the block may then hold anything, and so may the blocks that were open.
 pub fn write_through<D: Disk>(disk: &mut D, n: u32, block: &Block) -> Result<(), Fault>
     requires { n < (D.state disk.old).size }
     ensures put { (D.state disk.new).honest → OnOk result ((D.state disk.new).contents n ≡ Some block.now) }
@@ -28,12 +29,12 @@ pub fn write_through<D: Disk>(disk: &mut D, n: u32, block: &Block) -> Result<(),
     disk.sync()
 }
 
-/// Writes the same block to two places, the second only when the first is on the disk: a crash at any
-/// moment finds the second copy as it was or the first one new.
+/// Writes the same block to two places, the second only after the first is on the disk: after a crash at any moment,
+/// the second copy is as it was or the first one is new.
 ///
 /// # Errors
 ///
-/// `Device` where the device failed; one of the copies may then hold anything, and so may blocks that were open.
+/// `Device` if the device failed; one of the copies may then hold anything, and so may blocks that were open.
 pub fn write_copies<D: Disk>(
     disk: &mut D,
     first: u32,

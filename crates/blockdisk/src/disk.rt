@@ -1,3 +1,4 @@
+//! The trait of a disk: its calls, and what they ensure about its blocks and about crashes.
 ghost use Rattle.std.specs.Prelude.{◌≡◌, ◌+◌, ◌<◌, ◌≤◌, ℕ, Some, None, IsOk, IfOk, OnOk, OnErr, IsErrOf, length};
 ghost use Rattle.blockdisk.specs.declared.fault.Fault.TheVariants.{Device, Damaged};
 ghost use Rattle.blockdisk.specs.Common.{Contents, DiskState, MayLeave, SameDisk, Keeps, Writes, Syncs, Fails};
@@ -8,23 +9,23 @@ use words36::Block;
 
 /// A disk of a fixed number of blocks of 128 words, counted from 0.
 ///
-/// Between two syncs a block that was written may after a crash hold anything, or be damaged; the
-/// other blocks stay. A sync that fails may do to the blocks what a crash may. A disk is `honest`
-/// while it has kept to this so far: nobody else wrote it, and it returned what was written. That is
-/// of what happened, so that nobody has to know answers to come: what a call ensures of contents it
-/// ensures where the disk is honest *after* it. The rest holds on every disk.
+/// Between two syncs, a crash may leave anything in a block that was written, or damage it; the other blocks stay as
+/// they are. A sync that fails may do to the blocks what a crash may. A disk is `honest` while it has kept to this so
+/// far: nobody else wrote to it, and it returned what was written. Honesty is about the past, so nobody has to know
+/// future answers: what a call ensures about contents, it ensures if the disk is honest *after* the call. The rest
+/// holds on every disk.
 pub trait Disk {
     ghost state: { Self → DiskState };
 
-    /// The number of blocks.
+    /// Returns the number of blocks.
     fn blocks(&self) -> u32
         ensures { result ≡ (state self.now).size };
 
-    /// The words of a block.
+    /// Reads the words of a block.
     ///
     /// # Errors
     ///
-    /// `Device` where the device failed, `Damaged` exactly where the block holds no words.
+    /// `Device` if the device failed, `Damaged` exactly if the block holds no words.
     fn read(&mut self, n: u32) -> Result<Block, Fault>
         requires { n < (state self.old).size }
         ensures words { (state self.new).honest → IfOk result (λ block. (state self.old).contents n ≡ Some block) }
@@ -34,12 +35,12 @@ pub trait Disk {
         ensures failed { IsErrOf result Device → (state self.new).failures ≡ one_more (state self.old).failures }
         ensures served { (IsErrOf result Device → ⊥) → (state self.new).failures ≡ (state self.old).failures };
 
-    /// Puts the words of neighbouring blocks, from one on, into as many places. Answers the first damaged block of
+    /// Reads neighbouring blocks, from block `first`, into as many places. Returns the first damaged block among
     /// them, if any: the places before its own are filled, and the others may hold anything.
     ///
     /// # Errors
     ///
-    /// `Device` where the device failed; the places may then hold anything.
+    /// `Device` if the device failed; the places may then hold anything.
     fn read_run(&mut self, first: u32, blocks: &mut [Block]) -> Result<Option<u32>, Fault>
         requires { first + length blocks.old ≤ (state self.old).size }
         ensures within { IfOk result (IsWithin first (first + length blocks.old)) }
@@ -50,7 +51,7 @@ pub trait Disk {
         ensures failed { IsErrOf result Device → (state self.new).failures ≡ one_more (state self.old).failures }
         ensures served { IsOk result → (state self.new).failures ≡ (state self.old).failures }
     {
-        let _size = self.blocks(); // no more than a u32 counts
+        let _size = self.blocks(); // the number of places fits a u32
         for place in 0..blocks.len() {
             let number = first + place as u32;
             match self.read(number) {
@@ -62,11 +63,12 @@ pub trait Disk {
         Ok(None)
     }
 
-    /// The first damaged block of those from one on before another, if any: for one who needs none of their words.
+    /// Returns the first damaged block from block `first` and before block `end`, if any: for a caller that needs no
+    /// words of them.
     ///
     /// # Errors
     ///
-    /// `Device` where the device failed.
+    /// `Device` if the device failed.
     fn verify(&mut self, first: u32, end: u32) -> Result<Option<u32>, Fault>
         requires { end ≤ (state self.old).size }
         ensures within { IfOk result (IsWithin first end) }
@@ -87,11 +89,11 @@ pub trait Disk {
         Ok(None)
     }
 
-    /// Writes a block. It is open from then on, whatever the answer, until a sync succeeds.
+    /// Writes a block. After that, the block is open until a sync succeeds, whatever the answer was.
     ///
     /// # Errors
     ///
-    /// `Device` where the device failed; the block may then hold anything.
+    /// `Device` if the device failed; the block may then hold anything.
     fn write(&mut self, n: u32, block: &Block) -> Result<(), Fault>
         requires { n < (state self.old).size }
         ensures put { (state self.new).honest → OnOk result ((state self.new).contents n ≡ Some block.now) }
@@ -102,12 +104,12 @@ pub trait Disk {
         ensures failed { IsErrOf result Device → (state self.new).failures ≡ one_more (state self.old).failures }
         ensures served { OnOk result ((state self.new).failures ≡ (state self.old).failures) };
 
-    /// Writes neighbouring blocks, from one on. Whatever it answers, a crash may leave anything in them from then on,
-    /// until a sync succeeds.
+    /// Writes neighbouring blocks, from block `first`. After that, a crash may leave anything in them until a sync
+    /// succeeds, whatever the answer was.
     ///
     /// # Errors
     ///
-    /// `Device` where the device failed; each of the blocks may then hold anything.
+    /// `Device` if the device failed; each of the blocks may then hold anything.
     fn write_run(&mut self, first: u32, blocks: &[Block]) -> Result<(), Fault>
         requires { first + length blocks.now ≤ (state self.old).size }
         ensures put { (state self.new).honest → OnOk result (HoldRun (state self.new).contents first blocks.now) }
@@ -120,19 +122,19 @@ pub trait Disk {
         ensures failed { IsErrOf result Device → (state self.new).failures ≡ one_more (state self.old).failures }
         ensures served { OnOk result ((state self.new).failures ≡ (state self.old).failures) }
     {
-        let _size = self.blocks(); // no more than a u32 counts
+        let _size = self.blocks(); // the number of blocks fits a u32
         for place in 0..blocks.len() {
             self.write(first + place as u32, &blocks[place])?;
         }
         Ok(())
     }
 
-    /// Waits until all that was written is on the disk. No block is open then.
+    /// Waits until everything that was written is on the disk. After that, no block is open.
     ///
     /// # Errors
     ///
-    /// `Device` where the device failed. The open blocks stay open, and each may hold anything then, or be
-    /// damaged; the closed ones stay as they are.
+    /// `Device` if the device failed. The open blocks then stay open, and each may hold anything or be damaged; the
+    /// closed ones stay as they are.
     fn sync(&mut self) -> Result<(), Fault>
         ensures syncs { (state self.new).honest → OnOk result (Syncs (state self.old) (state self.new)) }
         ensures moves { (state self.new).honest → OnOk result ((state self.old).clock < (state self.new).clock) }
@@ -142,15 +144,15 @@ pub trait Disk {
         ensures failed { IsErrOf result Device → (state self.new).failures ≡ one_more (state self.old).failures }
         ensures served { OnOk result ((state self.new).failures ≡ (state self.old).failures) };
 
-    /// This moment is one of those since an earlier one.
+    /// This moment is one of the moments since any earlier one.
     ghost counts_now: { (disk : Self) (t : ℕ) (c : Contents) → (state disk).honest → t ≤ (state disk).clock
         → MayLeave (state disk) c → (state disk).left_since t c };
 
-    /// Since this moment there is no other.
+    /// Since this moment there has been no other moment.
     ghost only_now: { (disk : Self) (c : Contents) → (state disk).honest → (state disk).left_since (state disk).clock c
         → MayLeave (state disk) c };
 
-    /// What was left since a moment was left since each earlier one.
+    /// What was left since a moment was also left since each earlier one.
     ghost reaches_back: { (disk : Self) (t u : ℕ) (c : Contents) → (state disk).honest → t ≤ u
         → (state disk).left_since u c → (state disk).left_since t c };
 }

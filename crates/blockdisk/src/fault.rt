@@ -1,3 +1,4 @@
+//! The faults of a disk, and the error for a refused allocation.
 use std::alloc::AllocError;
 use thiserror::Error;
 
@@ -12,7 +13,7 @@ pub enum Fault {
     Damaged,
 }
 
-/// A growth was refused.
+/// An allocation was refused.
 #[derive(Clone, Copy, Debug, PartialEq, Eq, Error)]
 #[error("no memory")]
 pub struct NoMemory;

@@ -1,3 +1,4 @@
+//! A disk that fails on purpose after a number of calls.
 ghost use Rattle.std.specs.Prelude.{◌≡◌, ◌<◌, ◌≤◌, ◌+◌, ◌-◌, Some, None, Result, IsErrOf, IfOk, OnOk, OnErr, length};
 ghost use Rattle.std.specs.Prelude.{true, false};
 ghost use Rattle.blockdisk.specs.Common.{IsRead, IsRunRead, IsVerify, IsWrite, IsRunWrite, IsSync, IsWithin};
@@ -7,20 +8,19 @@ ghost use Rattle.blockdisk.specs.declared.fault.Fault.TheVariants.{Device, Damag
 use crate::{Disk, Fault};
 use words36::Block;
 
-/// Which calls fail once the fuse of a disk is blown.
+/// Which calls fail after the fuse of a disk has blown.
 #[derive(Clone, Copy)]
 pub enum Fail {
-    /// The next one alone.
+    /// Only the next one.
     One,
     /// The next one and all after it.
     All,
 }
 
-/// A disk that fails on purpose. So many calls pass, and then one call or every call answers `Device`:
-/// a read, a write and a sync count as one each, and a run counts one for each block up to the first that is damaged or
-/// fails.
+/// A disk that fails on purpose. A number of calls pass, and then one call or every call answers `Device`. A read, a
+/// write and a sync count as one each, and a run counts one for each block up to the first that is damaged or fails.
 ///
-/// A write that fails is made all the same; a read or a sync that fails never reaches the disk under it.
+/// A write that fails is done all the same; a read or a sync that fails never reaches the disk underneath.
 #[derive(Drop)]
 pub struct FuseDisk<D: Disk> {
     inner: D,
@@ -32,7 +32,7 @@ pub struct FuseDisk<D: Disk> {
 impl<D: Disk> FuseDisk<D> {
     ghost use Rattle.blockdisk.specs.Common.{own_failures};
 
-    /// The same disk behind a fuse that lets so many calls pass.
+    /// Returns the same disk with a fuse that lets this number of calls pass.
     pub fn new(disk: D, passing: u64, fail: Fail) -> Self
         ensures inner { result.inner ≡ disk }
         ensures left { result.left ≡ Some passing }
@@ -47,14 +47,14 @@ impl<D: Disk> FuseDisk<D> {
         }
     }
 
-    /// The disk under it, as it is.
+    /// Returns the disk underneath, as it is.
     pub fn into_inner(self) -> D
         ensures { result ≡ self.inner }
     {
         self.inner
     }
 
-    /// Counts a call, and says whether it fails.
+    /// Counts a call, and returns whether it fails.
     fn blows(&mut self) -> bool
         ensures blows { result ≡ is_blown self.old.left }
         ensures burnt { self.new ≡ record self.old { left = burnt self.old.fail self.old.left } }
@@ -82,8 +82,8 @@ impl<D: Disk> FuseDisk<D> {
         self.failures = self.failures.saturating_add(1);
     }
 
-    /// Makes a write that fails all the same. Where the disk under the fuse fails, too, that is one failure
-    /// and in its count.
+    /// Makes the write of a call that fails. If the disk underneath fails, too, that is one failure, and it is in
+    /// that disk's count.
     fn write_anyway(&mut self, n: u32, block: &Block) -> Result<(), Fault>
         requires { n < (D.state self.old.inner).size }
         ensures writes { IsWrite n block.now (D.state self.old.inner) (D.state self.new.inner) result }
@@ -139,7 +139,7 @@ impl<D: Disk> Disk for FuseDisk<D> {
         ensures reads { IsRunRead first (fused (D.state self.old.inner) self.old.failures)
             (fused (D.state self.new.inner) self.new.failures) blocks.new result }
     {
-        let _size = self.blocks(); // no more than a u32 counts
+        let _size = self.blocks(); // the number of places fits a u32
         for place in 0..blocks.len() {
             let number = first + place as u32;
             match self.read(number) {
@@ -192,7 +192,7 @@ impl<D: Disk> Disk for FuseDisk<D> {
         ensures writes { IsRunWrite first blocks.now (fused (D.state self.old.inner) self.old.failures)
             (fused (D.state self.new.inner) self.new.failures) result }
     {
-        let _size = self.blocks(); // no more than a u32 counts
+        let _size = self.blocks(); // the number of blocks fits a u32
         for place in 0..blocks.len() {
             self.write(first + place as u32, &blocks[place])?;
         }

@@ -1,3 +1,4 @@
+//! A disk in memory that records its writes and syncs, and crashes as a test picks.
 ghost use Rattle.std.specs.Prelude.{◌≡◌, ◌<◌, ◌≤◌, ◌+◌, ◌^◌, ℕ, Some, None, IfOk, IfErr, OnOk, OnErr, IsErrOf};
 ghost use Rattle.std.specs.Prelude.{length, replicate, if◌then◌else◌, IsOk};
 ghost use Rattle.std.proofs.Common.{inr};
@@ -11,7 +12,7 @@ use std::alloc::{AllocError, Global};
 use std::marker::Model;
 use words36::{BLOCK_WORDS, Block, Word};
 
-/// A call of a disk in memory, as it is recorded.
+/// A recorded call of a disk in memory.
 #[derive(Clone, Copy)]
 pub enum DiskCall {
     /// These words were written to this block.
@@ -20,8 +21,8 @@ pub enum DiskCall {
     Sync,
 }
 
-/// A disk in memory, always honest. It records its writes and syncs, and has room for so many of
-/// them: from then on each answers `Device`.
+/// A disk in memory, always honest. It records its writes and syncs, and has room for a fixed number of them: after
+/// that, each answers `Device`.
 #[derive(Drop)]
 pub struct MemDisk {
     blocks: Vec<Option<Block>>,
@@ -66,11 +67,11 @@ impl MemDisk {
     ghost use Rattle.blockdisk.specs.Common.{zeroed, loaded, begun_anew};
     ghost use Rattle.blockdisk.specs.Common.{left_of};
 
-    /// A disk of so many blocks of zeros, with room to record so many writes and syncs.
+    /// Returns a disk of this number of blocks of zeros, with room to record this number of writes and syncs.
     ///
     /// # Errors
     ///
-    /// `NoMemory` where the blocks, a second copy of them or the record find no room.
+    /// `NoMemory` if there is no room for the blocks, a second copy of them or the record.
     pub fn new(alloc: Global, blocks: u32, calls: usize) -> Result<Self, NoMemory>
         ensures { IfOk result (λ disk. disk ≡ zeroed blocks calls) }
     {
@@ -86,8 +87,8 @@ impl MemDisk {
         })
     }
 
-    /// Puts these words into a block, as if they had been there from the beginning: nothing is
-    /// recorded then, and no block is open. On a disk with nothing recorded it touches one block.
+    /// Puts these words into a block, as if they had been there from the beginning: after that, nothing is recorded
+    /// and no block is open. On a disk with nothing recorded, it touches one block.
     pub fn load(&mut self, n: u32, block: &Block)
         requires { n < length self.old.blocks }
         ensures { self.new ≡ loaded self.old n (Some block.now) }
@@ -97,8 +98,8 @@ impl MemDisk {
         self.first[n as usize] = Some(*block);
     }
 
-    /// Damages a block, as if it had been so from the beginning: nothing is recorded then, and no
-    /// block is open. On a disk with nothing recorded it touches one block.
+    /// Damages a block, as if it had been damaged from the beginning: after that, nothing is recorded and no block is
+    /// open. On a disk with nothing recorded, it touches one block.
     pub fn damage(&mut self, n: u32)
         requires { n < length self.old.blocks }
         ensures { self.new ≡ loaded self.old n None }
@@ -108,8 +109,8 @@ impl MemDisk {
         self.first[n as usize] = None;
     }
 
-    /// Leaves of the open blocks what is picked, as a crash at this moment may, and the closed ones as they are.
-    /// Nothing is recorded then, and no block is open.
+    /// Crashes the disk: leaves in the open blocks what is picked, as a crash at this moment may, and the closed ones
+    /// as they are. After that, nothing is recorded and no block is open.
     pub fn crash(&mut self, pick: Pick)
         ensures left { (n : ℕ) → n < length self.old.blocks → held self.new.blocks n ≡ left_of pick self.old n }
         ensures allowed { MayLeave (memory_state self.old) (held self.new.blocks) }
@@ -129,7 +130,7 @@ impl MemDisk {
         self.none_open = true;
     }
 
-    /// Takes the blocks as they are for what they were from the beginning.
+    /// Makes the present blocks the blocks of the beginning.
     fn forget_calls(&mut self)
         ensures { self.new ≡ begun_anew self.old }
     {
@@ -144,7 +145,7 @@ impl MemDisk {
     }
 }
 
-/// What a block held at the last sync of these calls, where it held this before the first of them.
+/// Returns what a block held at the last sync of these calls, given what it held before the first of them.
 fn at_sync(first: Option<Block>, calls: &[DiskCall], n: u32) -> Option<Block>
     ensures { result ≡ at_sync n first first calls.now }
 {
@@ -160,7 +161,7 @@ fn at_sync(first: Option<Block>, calls: &[DiskCall], n: u32) -> Option<Block>
     old
 }
 
-/// What is left of block n, which held the one before these calls, and holds the other now.
+/// Returns what is left of block n, given what it held before these calls and what it holds now.
 fn if_open(
     is_open: bool,
     pick: Pick,
@@ -178,7 +179,7 @@ fn if_open(
     }
 }
 
-/// Leaves of each open block what is picked.
+/// Leaves in each open block what is picked.
 fn crash_blocks(
     blocks: &mut Vec<Option<Block>>,
     first: &Vec<Option<Block>>,
@@ -199,7 +200,7 @@ fn crash_blocks(
     }
 }
 
-/// Makes one list of blocks the same as another.
+/// Copies one list of blocks over another.
 fn copy_blocks(from: &Vec<Option<Block>>, to: &mut Vec<Option<Block>>)
     requires { length to.old.items ≡ length from.now.items }
     ensures items { to.new.items ≡ from.now.items }
@@ -208,7 +209,7 @@ fn copy_blocks(from: &Vec<Option<Block>>, to: &mut Vec<Option<Block>>)
     to.as_mut_slice().copy_from_slice(from);
 }
 
-/// So many blocks of zeros.
+/// Returns this number of blocks of zeros.
 fn zero_blocks(alloc: Global, size: usize) -> Result<Vec<Option<Block>>, AllocError>
     ensures { IfOk result (λ blocks. blocks.items ≡ replicate size (Some (replicate 128 0))) }
 {
@@ -306,7 +307,7 @@ impl Disk for MemDisk {
         ensures device { IfErr result (λ fault. fault ≡ Device) }
         ensures writes { IsRunWrite first blocks.now (memory_state self.old) (memory_state self.new) result }
     {
-        let _size = self.blocks(); // no more than a u32 counts
+        let _size = self.blocks(); // the number of blocks fits a u32
         for place in 0..blocks.len() {
             self.write(first + place as u32, &blocks[place])?;
         }

@@ -1,4 +1,4 @@
 mod PutLists
 mod Moments
-pub mod Reading
-mod Redoing
+pub mod LogRead
+mod RecoveryCrashes

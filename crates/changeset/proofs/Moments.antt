@@ -74,7 +74,7 @@ module _ (size : ℕ) (puts : List Put) (logged : Contents) (volume : IsVolumeSi
     log = log_stays c (λ n out. same n (λ here. out (inl here)));
   }
 
-  -- then an open gate stands for all puts
+  -- then an open gate means all puts
   pub by_gate : (c : Contents) → SameOutside (λ n. IsGate n ⊎ IsPutIn puts n) logged c
       → SettlesAs size (with_puts puts logged) c ⊎ (IsGateOpen size c → ⊥)
   by_gate c same = ⊎_elim

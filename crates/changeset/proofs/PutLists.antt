@@ -14,7 +14,7 @@ use Rattle.spec_image.proofs.Common.{times-append, length-targets}
 use Rattle.changeset.specs.Common.{IsPutIn, AreDistinct, replaced, times_head, times_tail, with_puts_here}
 use Rattle.changeset.specs.Common.{with_puts_later, replaced_here, replaced_later}
 
--- what holds of each target holds of this one
+-- what holds for each target holds for this one
 pub all_at : (P : ℕ → Type 0) (puts : List Put) (i : ℕ) (put : Put) → i < length puts → put ≡ get_or puts i put
     → AllByRecursion P (targets puts) → P put.block
 all_at P [] i put below is all = absurd (omega arith)
@@ -39,7 +39,7 @@ module _ (puts : List Put) (i : ℕ) (put : Put) (below : i < length puts) (is :
       + times n (put.block ∷ [])
   times_more n = ap (times n) one_more_target ∙ times-append n (targets (take i puts)) (put.block ∷ [])
 
-  -- a block that none of the first is for, nor this
+  -- a block for which neither the first ones nor this one are
   pub none_more : (n : ℕ) → (put.block ≡ n → ⊥) → times n (targets (take i puts)) ≡ 0
       → times n (targets (take (i + 1) puts)) ≡ 0
   none_more n other none = times_more n ∙ let e = times_tail n put.block [] (λ same. other (sym same)) in omega arith
@@ -69,7 +69,7 @@ set_there (put ∷ puts) (suc i) new there first = by_case (cases_eq put.block n
         let e = times_tail new.block put.block (targets (take i puts)) (λ same. other (sym same)) in
         ap (λ (l : List Put). put ∷ l) (rest (sym e ∙ first)) ∙ sym (replaced_later new put puts other)
 
--- Puts that are made: blocks that none is for stay, and one behind the others counts where they leave it.
+-- Puts that are made: a block that has none stays, and one after the others counts if they leave its block.
 
 pub with_puts_other : (puts : List Put) (c : Contents) (n : ℕ) → times n (targets puts) ≡ 0 → with_puts puts c n ≡ c n
 with_puts_other [] c n none = refl
@@ -79,7 +79,7 @@ with_puts_other (put ∷ puts) c n none = ⊎_elim
     ∙ with_puts_other puts c n (let e = times_tail n put.block (targets puts) other in sym e ∙ none))
     (cases_eq n put.block)
 
--- what stood at the targets doesn't count
+-- what was at the targets doesn't count
 pub with_puts_same : (puts : List Put) (c d : Contents) (n : ℕ) → (times n (targets puts) ≡ 0 → c n ≡ d n)
     → with_puts puts c n ≡ with_puts puts d n
 with_puts_same [] c d n same = same refl
@@ -121,7 +121,7 @@ module _ (puts : List Put) (i : ℕ) (put : Put) (below : i < length puts) (is :
       let most = times_take put.block (i + 1) puts in
       omega (arith, distinct put.block)
 
-  -- one more put behind those that are made
+  -- one more put after those that are made
   pub placed_more : AreDistinct puts → (c d e : Contents) → ((n : ℕ) → d n ≡ with_puts (take i puts) c n)
       → ((n : ℕ) → (n ≡ put.block → ⊥) → e n ≡ d n) → e put.block ≡ Some put.words → (n : ℕ)
       → e n ≡ with_puts (take (i + 1) puts) c n

@@ -1,4 +1,4 @@
--- The definitions that proofs and other crates cite, passed on from one place. Declares nothing.
+-- The definitions that proofs and other crates cite, re-exported from one place. Declares nothing.
 pub use Rattle.changeset.specs.Puts.{AreDistinct, IsPutIn, most_puts, replaced}
 pub use Rattle.changeset.specs.Crashes.{AllOrNone, ArePending, IsGate, IsGateOrLog, IsInLog, IsLost, IsRecovered}
 pub use Rattle.changeset.specs.Crashes.{IsShut, SettlesAs, SettlesLike, SettlesLikeBefore, SyncsFirst}

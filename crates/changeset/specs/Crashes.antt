@@ -1,6 +1,6 @@
 -- What a crash may leave of a change of several blocks, and of recovery after it. Contents are
 -- compared by what they settle to: with a closed gate themselves, with an open one what the log makes
--- of them. Gate and log are no part of what is compared.
+-- of them. Gate and log aren't compared.
 use Rattle.std.specs.Prelude.{◌≡◌, ◌⊎◌, ◌<◌, ◌≤◌, ℕ, List, Some, replicate}
 use Rattle.blockdisk.specs.Common.{Contents, DiskState, MayLeave, SameOutside, Syncs, Fails, LeavesOnly}
 use Rattle.spec_image.specs.declared.put.Put.{Put}
@@ -22,7 +22,7 @@ IsGateOrLog size n = (3 ≤ n) × (n < table_start size)
 abbrev pub IsShut : DiskState → Type 0
 IsShut s = (c : Contents) → MayLeave s c → IsGateOpen s.size c → ⊥
 
--- Contents c settle, and to these but for gate and log.
+-- Contents c settle, and, except for gate and log, to the wanted ones.
 pub record SettlesAs (size : ℕ) (wanted c : Contents) : Type 0 where
   pub settled : Contents
   pub is_settled : IsSettled size c settled
@@ -33,7 +33,7 @@ abbrev pub AllOrNone : List Put → DiskState → Contents → Type 0
 AllOrNone puts s c = ((d : Contents) × MayLeave s d × SettlesAs s.size d c)
     ⊎ SettlesAs s.size (with_puts puts s.contents) c
 
--- where d settles, c settles to the same
+-- if d settles, c settles to the same
 abbrev pub SettlesLike : ℕ → Contents → Contents → Type 0
 SettlesLike size d c = (settled : Contents) → IsSettled size d settled → SettlesAs size settled c
 
@@ -41,7 +41,7 @@ SettlesLike size d c = (settled : Contents) → IsSettled size d settled → Set
 abbrev pub SettlesLikeBefore : DiskState → Contents → Type 0
 SettlesLikeBefore s c = (d : Contents) × MayLeave s d × SettlesLike s.size d c
 
--- The gate is open and the log good: these puts are to be made.
+-- The gate is open and the log good: these puts will be made.
 pub record ArePending (size : ℕ) (c : Contents) (puts : List Put) : Type 0 where
   pub gate : IsGateOpen size c
   pub log : IsLog size c puts
@@ -50,8 +50,8 @@ pub record ArePending (size : ℕ) (c : Contents) (puts : List Put) : Type 0 whe
 abbrev pub IsLost : ℕ → Contents → Type 0
 IsLost size c = (settled : Contents) → IsSettled size c settled → ⊥
 
--- The contents are now those that settled before, with the gate closed: it was given zeros where it was
--- open, and is as it was where it wasn't.
+-- The contents are now those that settled before, with the gate closed: it got zeros if it was open, and
+-- is unchanged if it wasn't.
 pub record IsRecovered (size : ℕ) (before now : Contents) : Type 0 where
   pub settled : Contents
   pub is_settled : IsSettled size before settled
@@ -60,8 +60,8 @@ pub record IsRecovered (size : ℕ) (before now : Contents) : Type 0 where
   pub emptied : IsGateOpen size before → now 3 ≡ Some (replicate 128 0)
   pub kept : (IsGateOpen size before → ⊥) → now 3 ≡ before 3
 
--- The first thing done was a sync. Where it failed nothing else was done. Else `mid` is the disk at its end, and
--- from then on a crash left only what has P.
+-- The first thing done was a sync. If it failed, nothing else was done. Otherwise `mid` is the disk after it, and
+-- since then a crash left only what has P.
 abbrev pub SyncsFirst : {D : Type 0} → (D → DiskState) → D → D → Type 0 → (Contents → Type 0) → Type 0
 SyncsFirst {D} state old new fault P =
     (fault × Fails (state old) (state new))

@@ -1,4 +1,4 @@
--- What one put more does to a change set.
+-- What one more put does to a change set.
 use Rattle.std.specs.Prelude.{◌≡◌, ◌⊎◌, ℕ, zero, suc, ◌+◌, ◌<◌, ◌≤◌, List, [], ◌∷◌, ◌++◌, length, Some}
 use Rattle.std.specs.List.{AllByRecursion}
 use Rattle.std.proofs.Common.{inl, inr, ⊎_elim, refl, ap, arith, subst, sym, ◌∙◌}
@@ -43,7 +43,7 @@ replaced-new new (put ∷ puts) none = by_case (cases_eq put.block new.block) (r
     by_case (inr other) rest = let e = times_tail new.block put.block (targets puts) (λ is. other (sym is)) in
         replaced_later new put puts other ∙ ap (λ (l : List Put). put ∷ l) (rest (sym e ∙ none))
 
--- one for a block that is there takes its place
+-- a put for a block that has one takes its place
 pub targets-replaced : (new : Put) (puts : List Put) → 0 < times new.block (targets puts)
     → targets (replaced new puts) ≡ targets puts
 targets-replaced new [] there = absurd (omega arith)
@@ -99,7 +99,7 @@ pub some_or_none : (n : ℕ) → (0 < n) ⊎ (n ≡ 0)
 some_or_none zero = inr refl
 some_or_none (suc n) = inl (omega arith)
 
--- what holds of each target holds with one more
+-- what holds for each target still holds with one more
 pub all_replaced : (P : ℕ → Type 0) (new : Put) (puts : List Put) → AllByRecursion P (targets puts) → P new.block
     → AllByRecursion P (targets (replaced new puts))
 all_replaced P new puts all is = ⊎_elim
@@ -142,7 +142,7 @@ put_in_replaced new puts n there = ⊎_elim (λ is. inl is)
         let tail = times_tail n new.block [] other in
         omega (arith, times-append n (targets puts) (new.block ∷ []), whole, there)
 
--- and how many there are at most
+-- and their greatest number
 pub length-replaced : (new : Put) (puts : List Put) → length (replaced new puts) ≤ length puts + 1
 length-replaced new [] = omega arith
 length-replaced new (put ∷ puts) = ⊎_elim

@@ -15,7 +15,7 @@ IsPutIn puts n = 0 < times n (targets puts)
 abbrev pub AreDistinct : List Put → Type 0
 AreDistinct puts = (n : ℕ) → times n (targets puts) ≤ 1
 
--- the puts with one more, in the place of one for the same block
+-- the puts with one more, in place of one for the same block
 abbrev pub replaced : Put → List Put → List Put
 replaced new [] = new ∷ []
 replaced new (put ∷ puts) = if put.block == new.block then new ∷ puts else put ∷ replaced new puts

@@ -4,7 +4,7 @@ use Rattle.blockdisk.specs.Common.{DiskState, Still}
 use Rattle.spec_image.specs.declared.put.Put.{Put}
 use Rattle.spec_image.specs.Common.{times, IsTarget, targets}
 
--- The header names this block at place i of the log, a target that none of the puts before is for.
+-- The header names this block at place i of the log, a target of none of the puts before.
 pub record IsNextTarget (size : ℕ) (header : List ℕ) (before : List Put) (i block : ℕ) : Type 0 where
   pub named : get_or header (i + 2) 0 ≡ block
   pub in_range : IsTarget size block

@@ -1,5 +1,5 @@
--- What the layers above say of a disk with a log, with no word of gate or log: between two changes it
--- is at rest, writes that nobody looks at keep it so, and a commit leads from rest to rest.
+-- What the layers above state of a disk with a log, without mentioning gate or log: between two changes it
+-- is at rest, writes that nobody reads leave it at rest, and a commit leads from rest to rest.
 use Rattle.std.specs.Prelude.{◌≡◌, ◌⊎◌, ℕ, List}
 use Rattle.std.proofs.Common.{inl, inr, ⊎_elim, refl, sym, ◌∙◌, subst}
 use Rattle.blockdisk.specs.Common.{Contents, DiskState, MayLeave, NoneOpen, SameOutside, Near, Modifies, LeavesOnly}
@@ -9,7 +9,7 @@ use Rattle.spec_image.specs.Common.{IsVolumeSize, IsGateOpen, IsSettled, with_pu
 use Rattle.changeset.specs.Crashes.{IsGate, IsGateOrLog, IsShut, SettlesAs, AllOrNone, SettlesLike, SettlesLikeBefore}
 use Rattle.changeset.specs.Crashes.{IsRecovered}
 
--- Q looks at none of these blocks
+-- Q doesn't depend on these blocks
 abbrev pub Ignores : (ℕ → Type 0) → (Contents → Type 0) → Type 0
 Ignores In Q = (c d : Contents) → SameOutside In c d → Q c → Q d
 
@@ -26,7 +26,7 @@ pub rest_settles : (s : DiskState) (Q : Contents → Type 0) → AtRest s Q → 
     → SettlesTo s.size Q c
 rest_settles s Q rest c left = (c, inl (rest.shut c left, λ n. refl), rest.all c left)
 
--- contents that settle as some that have Q
+-- contents that settle like some that have Q
 settles_to : (size : ℕ) (Q : Contents → Type 0) (wanted c : Contents) → Ignores (IsGateOrLog size) Q → Q wanted
     → SettlesAs size wanted c → SettlesTo size Q c
 settles_to size Q wanted c ignores has to = (to.settled, to.is_settled, ignores wanted to.settled to.same has)
@@ -54,7 +54,7 @@ commit_rest puts s s' R ignores changed all none shut = record {
       (ignores (with_puts puts s.contents) s'.contents all changed);
 }
 
--- Quiet writes, of blocks that Q doesn't look at and the gate isn't among: the disk stays at rest.
+-- Quiet writes, of blocks on which Q doesn't depend and which don't include the gate: the disk stays at rest.
 pub quiet_rest : (In : ℕ → Type 0) (s s' : DiskState) (Q : Contents → Type 0) → Ignores In Q → (In 3 → ⊥)
     → s'.size ≡ s.size → AtRest s Q → Modifies In s s' → AtRest s' Q
 quiet_rest In s s' Q ignores gate size rest t = record {
@@ -104,12 +104,12 @@ transaction_leaves In puts s mid s' Q R ignores gate log_q log_r size rest only_
         (subst (λ (n : ℕ). Ignores (IsGateOrLog n) R) (sym size) log_r)
         (quiet_rest In s mid Q ignores gate size rest quiet) changed leaves
 
--- From the first sync of recovery on: what the contents read before it settle to.
+-- After the first sync of recovery: what the contents read before it settle to.
 pub like_settles : (size : ℕ) (Q : Contents → Type 0) (d c : Contents) → Ignores (IsGateOrLog size) Q
     → SettlesLike size d c → SettlesTo size Q d → SettlesTo size Q c
 like_settles size Q d c ignores like to = settles_to size Q to.0 c ignores to.2 (like to.0 to.1)
 
--- Recovery: what settled to one of these things goes on to settle to it.
+-- Recovery: what settled to one of these things still settles to it.
 pub recover_leaves : {T : Type 0} (s s' : DiskState) (Q : T → Contents → Type 0)
     → ((x : T) → Ignores (IsGateOrLog s.size) (Q x))
     → LeavesOnly s s' (SettlesLikeBefore s)

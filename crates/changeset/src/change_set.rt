@@ -1,3 +1,4 @@
+//! A change set: puts for distinct blocks.
 ghost use Rattle.std.specs.Prelude.{ℕ, ◌≡◌, ◌<◌, ◌≤◌, [], length, take, slice_get, Some, IsSome, IfSome, IfNone};
 ghost use Rattle.std.specs.Prelude.{OnOk, OnErr, IfErr};
 ghost use Rattle.changeset.specs.Common.{most_puts, IsPutIn, AreDistinct, replaced};
@@ -32,7 +33,7 @@ impl Model for ChangeSet {
 }
 
 impl ChangeSet {
-    /// A change of no blocks.
+    /// Returns a change of no blocks.
     pub fn new() -> Self
         ensures { result ≡ [] }
     {
@@ -41,7 +42,7 @@ impl ChangeSet {
         }
     }
 
-    /// The puts, each for another block.
+    /// Returns the puts, each for another block.
     pub fn puts(&self) -> &[Put]
         ensures puts { result.now ≡ self.now }
         ensures distinct { AreDistinct result.now }
@@ -50,11 +51,11 @@ impl ChangeSet {
         self.puts.as_slice()
     }
 
-    /// Gives a block its new words, in the place of those that it was given before.
+    /// Gives a block its new words, in place of any that it was given before.
     ///
     /// # Errors
     ///
-    /// `TooMany` where there are `MAX_PUTS` already and none is for this block; nothing changes then.
+    /// `TooMany` if there are `MAX_PUTS` already and none is for this block; nothing changes then.
     pub fn put(&mut self, block: u32, words: &Block) -> Result<(), LogError>
         ensures ok { OnOk result (self.new ≡ replaced (record { block = block; words = words.now }) self.old) }
         ensures few { OnOk result (length self.new ≤ most_puts) }
@@ -72,7 +73,7 @@ impl ChangeSet {
     }
 }
 
-/// Adds a put, in the place of one for the same block.
+/// Adds a put, in place of one for the same block.
 fn put_in(puts: &mut ArrayVec<Put, MAX_PUTS>, put: Put) -> Result<(), LogError>
     ensures ok { OnOk result (puts.new.items ≡ replaced put puts.old.items) }
     ensures few { OnOk result (length puts.new.items ≤ most_puts) }
@@ -92,7 +93,7 @@ fn put_in(puts: &mut ArrayVec<Put, MAX_PUTS>, put: Put) -> Result<(), LogError>
     }
 }
 
-/// The place of the put for a block.
+/// Returns the place of the put for a block, if there is one.
 pub fn place_of(puts: &[Put], block: u32) -> Option<usize>
     ensures there { IsSome result → IsPutIn puts.now block }
     ensures found { IfSome result (λ i. (i < length puts.now) × (slice_get (targets puts.now) i ≡ Some block)) }

@@ -1,3 +1,4 @@
+//! Why a change or a recovery fails.
 ghost use Rattle.std.specs.Prelude.{◌≡◌};
 ghost use Rattle.blockdisk.specs.declared.fault.Fault.TheVariants.{Device as Failed, Damaged};
 
@@ -23,7 +24,7 @@ impl From<Fault> for LogError {
 
     ghost from_gives = { λ fault error. (fault ≡ Failed → error ≡ Device) × (fault ≡ Damaged → error ≡ BadLog) };
 
-    /// A block of the log that is damaged makes the log a bad one.
+    /// Returns the error of a fault: a damaged block of the log makes the log a bad one.
     fn from(fault: Fault) -> Self {
         match fault {
             Fault::Device => LogError::Device,

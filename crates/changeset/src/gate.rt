@@ -1,3 +1,4 @@
+//! The gate: the block that decides whether the puts of the log are to be made.
 ghost use Rattle.std.specs.Prelude.{◌≡◌, ◌<◌, ◌↔◌, IsTrue, IfOk, OnOk, IsErrOf, Some, replicate};
 ghost use Rattle.blockdisk.specs.Common.{Keeps, Near, Modifies, LeavesOnly, NoneOpen, SameDisk, one_more};
 ghost use Rattle.blockdisk.specs.declared.fault.Fault.TheVariants.{Device, Damaged};
@@ -12,11 +13,11 @@ use words36::{BLOCK_WORDS, Word};
 /// Each word of an open gate.
 const OPEN_WORD: u64 = 0o252525252525;
 
-/// Whether the gate has the words of an open one. A damaged gate is closed.
+/// Returns whether the gate has the words of an open one. A damaged gate is closed.
 ///
 /// # Errors
 ///
-/// `Device` where the device failed.
+/// `Device` if the device failed.
 pub fn has_open_words<D: Disk>(disk: &mut D) -> Result<bool, Fault>
     requires { 3 < (D.state disk.old).size }
     ensures answer { (D.state disk.new).honest
@@ -35,11 +36,11 @@ pub fn has_open_words<D: Disk>(disk: &mut D) -> Result<bool, Fault>
     }
 }
 
-/// Opens the gate, by one write of its own.
+/// Opens the gate, with a write of its own.
 ///
 /// # Errors
 ///
-/// `Device` where the device failed.
+/// `Device` if the device failed.
 pub fn open_gate<D: Disk>(disk: &mut D) -> Result<(), Fault>
     requires { 3 < (D.state disk.old).size }
     ensures gate { (D.state disk.new).honest → OnOk result ((D.state disk.new).contents 3 ≡ Some open_gate) }
@@ -59,7 +60,7 @@ pub fn open_gate<D: Disk>(disk: &mut D) -> Result<(), Fault>
 ///
 /// # Errors
 ///
-/// `Device` where the device failed.
+/// `Device` if the device failed.
 pub fn close_gate<D: Disk>(disk: &mut D) -> Result<(), Fault>
     requires { 3 < (D.state disk.old).size }
     ensures gate { (D.state disk.new).honest → OnOk result ((D.state disk.new).contents 3 ≡ Some (replicate 128 0)) }

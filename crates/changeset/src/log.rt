@@ -1,3 +1,4 @@
+//! The log: a header that names the targets, and one image for each put.
 ghost use Rattle.std.specs.Prelude.{ℕ, List, [], ◌≡◌, ◌⊎◌, ◌+◌, ◌<◌, ◌≤◌, ◌^◌, ◌↔◌, IsTrue, IfOk, OnOk, IsErrOf};
 ghost use Rattle.std.specs.Prelude.{Some, length};
 ghost use Rattle.std.specs.List.{AllByRecursion};
@@ -20,7 +21,7 @@ use words36::{BLOCK_WORDS, Block, Word};
 /// The first word of a log's header: LOG in SIXBIT.
 const LOG_WORD: u64 = 0o545747000000;
 
-/// The word of a number.
+/// Returns the word of a number.
 pub fn word_of(number: u64) -> Word
     requires { number < 2 ^ 36 }
     ensures { result ≡ number }
@@ -31,7 +32,7 @@ pub fn word_of(number: u64) -> Word
     }
 }
 
-/// The header of a log of these puts.
+/// Returns the header of a log of these puts.
 fn header_of(puts: &[Put]) -> Block
     requires { length puts.now ≤ most_puts }
     ensures { result ≡ log_header puts.now }
@@ -49,9 +50,9 @@ fn header_of(puts: &[Put]) -> Block
 ///
 /// # Errors
 ///
-/// `Device` where the device failed; the log may then hold anything, and so may the blocks that were open.
+/// `Device` if the device failed; the log may then hold anything, and so may the blocks that were open.
 pub fn write_log<D: Disk>(disk: &mut D, puts: &[Put]) -> Result<(), Fault>
-    // What the caller sees to.
+    // What the caller ensures.
     requires volume { IsVolumeSize (D.state disk.old).size }
     requires some { 0 < length puts.now }
     requires few { length puts.now ≤ log_images (D.state disk.old).size }
@@ -61,7 +62,7 @@ pub fn write_log<D: Disk>(disk: &mut D, puts: &[Put]) -> Result<(), Fault>
     ensures logged { (D.state disk.new).honest
         → OnOk result (IsLog (D.state disk.old).size (D.state disk.new).contents puts.now) }
     ensures settled { (D.state disk.new).honest → OnOk result (NoneOpen (D.state disk.new)) }
-    // Only the log is written, whatever is answered.
+    // Only the log is written, whatever the result.
     ensures modified { (D.state disk.new).honest
         → OnOk result (Modifies (IsInLog (D.state disk.old).size) (D.state disk.old) (D.state disk.new)) }
     ensures near { (D.state disk.new).honest
@@ -97,11 +98,11 @@ fn write_images<D: Disk>(disk: &mut D, puts: &[Put]) -> Result<(), Fault>
     Ok(())
 }
 
-/// Puts the puts of the log into a list that is empty: 37 blocks are many for a stack, and a result would be copied.
+/// Reads the puts of the log into an empty list: 37 blocks are many for a stack, and a result would be copied.
 ///
 /// # Errors
 ///
-/// `BadLog` where the log isn't good, `Device` where the device failed.
+/// `BadLog` if the log isn't good, `Device` if the device failed.
 pub fn read_log<D: Disk>(
     disk: &mut D,
     size: u32,
@@ -130,12 +131,12 @@ pub fn read_log<D: Disk>(
         puts.push(read_put(disk, size, &header, i, puts.as_slice())?);
     }
     if header_of(puts.as_slice()) != header {
-        return Err(LogError::BadLog); // not LOG, or words behind the last target
+        return Err(LogError::BadLog); // not LOG, or words after the last target
     }
     Ok(())
 }
 
-/// The put at this place of the log, behind those before.
+/// Reads the put at place `i` of the log, which comes after those in `before`.
 fn read_put<D: Disk>(
     disk: &mut D,
     size: u32,
@@ -169,7 +170,7 @@ fn read_put<D: Disk>(
     })
 }
 
-/// Whether a change may write this block.
+/// Returns whether a change may write this block.
 fn is_target(size: u32, block: u64) -> bool
     requires { IsVolumeSize size }
     ensures { IsTrue result ↔ IsTarget size block }

@@ -1,3 +1,4 @@
+//! A commit: its writes in their order.
 ghost use Rattle.std.specs.Prelude.{ℕ, ◌≡◌, ◌⊎◌, ◌<◌, ◌≤◌, ◌↔◌, [], OnOk, IsErrOf, Some, length, replicate};
 ghost use Rattle.std.specs.List.{AllByRecursion};
 ghost use Rattle.blockdisk.specs.Common.{MayLeave, Near, Modifies, Still, NoneOpen, SameDisk, SameOutside};
@@ -19,13 +20,13 @@ use spec_image::layout::log_images;
 ///
 /// # Errors
 ///
-/// `TooMany` where the log of this disk has no room for the puts, with nothing done; `Device` where the
-/// device failed: recovery then finds all puts made, or none.
+/// `TooMany` if the log of this disk has no room for the puts, with nothing done; `Device` if the device
+/// failed: recovery then finds all puts made, or none.
 pub fn commit<D: Disk>(disk: &mut D, set: &ChangeSet) -> Result<(), LogError>
     requires volume { IsVolumeSize (D.state disk.old).size }
     requires in_range { AllByRecursion (IsTarget (D.state disk.old).size) (targets set.now) }
 
-    // A crash at any moment leaves contents that settle, but for gate and log, to some that a crash could
+    // A crash at any moment leaves contents that settle, except for gate and log, to some that a crash could
     // leave before, or to those read before with all puts.
     ensures crash { (D.state disk.new).honest → IsShut (D.state disk.old)
         → LeavesOnly (D.state disk.old) (D.state disk.new) (AllOrNone set.now (D.state disk.old)) }
@@ -39,7 +40,7 @@ pub fn commit<D: Disk>(disk: &mut D, set: &ChangeSet) -> Result<(), LogError>
         → OnOk result ((D.state disk.new).contents 3 ≡ Some (replicate 128 0)) }
     ensures shut { (D.state disk.new).honest → IsShut (D.state disk.old) → OnOk result (IsShut (D.state disk.new)) }
 
-    // No other block is written, and none at all where there are no puts. Where a sync failed, the blocks that
+    // No other block is written, and none at all if there are no puts. If a sync failed, the blocks that
     // were open before may be anything, too.
     ensures modified { (D.state disk.new).honest
         → OnOk result (Modifies (λ n. IsGateOrLog (D.state disk.old).size n ⊎ IsPutIn set.now n) (D.state disk.old)
@@ -73,7 +74,7 @@ pub fn commit<D: Disk>(disk: &mut D, set: &ChangeSet) -> Result<(), LogError>
 
 /// Makes all these puts, or none.
 fn commit_some<D: Disk>(disk: &mut D, puts: &[Put]) -> Result<(), Fault>
-    // What the caller sees to.
+    // What the caller ensures.
     requires volume { IsVolumeSize (D.state disk.old).size }
     requires some { 0 < length puts.now }
     requires few { length puts.now ≤ log_images (D.state disk.old).size }
@@ -87,7 +88,7 @@ fn commit_some<D: Disk>(disk: &mut D, puts: &[Put]) -> Result<(), Fault>
         (with_puts puts.now (D.state disk.old).contents) (D.state disk.new).contents) }
     ensures settled { (D.state disk.new).honest → OnOk result (NoneOpen (D.state disk.new)) }
     ensures gate { (D.state disk.new).honest → OnOk result ((D.state disk.new).contents 3 ≡ Some (replicate 128 0)) }
-    // Which blocks are written, whatever is answered.
+    // Which blocks are written, whatever the result.
     ensures modified { (D.state disk.new).honest
         → OnOk result (Modifies (λ n. IsGateOrLog (D.state disk.old).size n ⊎ IsPutIn puts.now n) (D.state disk.old)
         (D.state disk.new)) }
@@ -109,7 +110,7 @@ fn commit_some<D: Disk>(disk: &mut D, puts: &[Put]) -> Result<(), Fault>
 ///
 /// # Errors
 ///
-/// `Device` where the device failed; the gate may then be open still.
+/// `Device` if the device failed; the gate may then still be open.
 pub fn redo<D: Disk>(disk: &mut D, puts: &[Put]) -> Result<(), Fault>
     requires volume { IsVolumeSize (D.state disk.old).size }
     requires distinct { AreDistinct puts.now }
@@ -125,7 +126,7 @@ pub fn redo<D: Disk>(disk: &mut D, puts: &[Put]) -> Result<(), Fault>
         (D.state disk.new).contents) }
     ensures settled { (D.state disk.new).honest → OnOk result (NoneOpen (D.state disk.new)) }
     ensures gate { (D.state disk.new).honest → OnOk result ((D.state disk.new).contents 3 ≡ Some (replicate 128 0)) }
-    // Which blocks are written, whatever is answered.
+    // Which blocks are written, whatever the result.
     ensures modified { (D.state disk.new).honest
         → OnOk result (Modifies (λ n. IsGate n ⊎ IsPutIn puts.now n) (D.state disk.old) (D.state disk.new)) }
     ensures near { (D.state disk.new).honest

@@ -1,3 +1,4 @@
+//! Recovery: it finishes a commit that a crash interrupted after its gate was open.
 ghost use Rattle.std.specs.Prelude.{ℕ, List, [], Ok, true, false, ◌≡◌, ◌⊎◌, ◌<◌, ◌≤◌, IfOk, OnOk, IsErrOf, Some};
 ghost use Rattle.std.specs.Prelude.{None, IfSome, IfNone};
 ghost use Rattle.std.specs.List.{AllByRecursion};
@@ -17,20 +18,19 @@ use blockdisk::Disk;
 use spec_image::Put;
 use spec_image::layout::is_volume_size;
 
-/// Makes the puts of a log whose gate a crash left open, and closes the gate. It may be stopped itself at
-/// any moment, and a second recovery changes nothing. On a disk that is no volume it only syncs.
+/// Makes the puts of a log whose gate a crash left open, and closes the gate. It may itself be stopped at
+/// any moment, and a second recovery changes nothing. On a disk that isn't a volume it only syncs.
 ///
 /// # Errors
 ///
-/// `BadLog` where the gate is open and the log isn't good, with nothing written; `Device` where the
-/// device failed.
+/// `BadLog` if the gate is open and the log isn't good, with nothing written; `Device` if the device failed.
 pub fn recover<D: Disk>(disk: &mut D) -> Result<(), LogError>
     // A crash at any moment leaves what settles like something that a crash could leave before.
     ensures crash { (D.state disk.new).honest
         → LeavesOnly (D.state disk.old) (D.state disk.new) (SettlesLikeBefore (D.state disk.old)) }
 
-    // Where the first sync failed nothing else was done; from its end on a crash leaves what settles like
-    // the contents read before.
+    // If the first sync failed, nothing else was done; after it a crash leaves what settles like the contents
+    // read before.
     ensures synced { (D.state disk.new).honest
         → SyncsFirst D.state disk.old disk.new (IsErrOf result Device)
         (SettlesLike (D.state disk.old).size (D.state disk.old).contents) }
@@ -40,8 +40,8 @@ pub fn recover<D: Disk>(disk: &mut D) -> Result<(), LogError>
         → OnOk result (IsRecovered (D.state disk.old).size (D.state disk.old).contents (D.state disk.new).contents) }
     ensures settled { (D.state disk.new).honest → OnOk result (NoneOpen (D.state disk.new)) }
 
-    // The log is bad only where nothing settles. Nothing is written but where the gate is open and the
-    // log good: a first sync that failed may have changed open blocks, and nothing else did.
+    // The log is bad only if nothing settles. Nothing is written unless the gate is open and the log good:
+    // a first sync that failed may have changed open blocks, and nothing else did.
     ensures bad { (D.state disk.new).honest → IsErrOf result BadLog
         → IsLost (D.state disk.old).size (D.state disk.old).contents }
     ensures unmodified { (D.state disk.new).honest
@@ -57,7 +57,7 @@ pub fn recover<D: Disk>(disk: &mut D) -> Result<(), LogError>
     ensures failed { IsErrOf result Device → (D.state disk.new).failures ≡ one_more (D.state disk.old).failures }
     ensures served { (IsErrOf result Device → ⊥) → (D.state disk.new).failures ≡ (D.state disk.old).failures }
 {
-    disk.sync()?; // what is read from here on is what a crash leaves
+    disk.sync()?; // what is read after this is what a crash leaves
     recover_synced(disk)
 }
 
@@ -87,12 +87,12 @@ fn recover_synced<D: Disk>(disk: &mut D) -> Result<(), LogError>
     Ok(())
 }
 
-/// Whether the gate is open; the puts of the log then, in a list that is empty before. Nothing is written: what the disk
-/// holds once these puts are made is what a start would find.
+/// Returns whether the gate is open. If it is, the puts of the log are then in `puts`, which is empty before. Nothing
+/// is written: what the disk holds after these puts are made is what a start would find.
 ///
 /// # Errors
 ///
-/// `BadLog` where the gate is open and the log isn't good, `Device` where the device failed.
+/// `BadLog` if the gate is open and the log isn't good, `Device` if the device failed.
 pub fn find_pending<D: Disk>(
     disk: &mut D,
     puts: &mut ArrayVec<Put, MAX_PUTS>,

@@ -16,7 +16,7 @@ use Rattle.jiff_core.proofs.DateTimeLemmas.{civil_nanos-civil_seconds, civil_nan
 use Rattle.words36.specs.Common.{IsDate, date_number}
 use Rattle.collection.specs.Common.{IsDayAt, IsShownAt}
 
--- A day that has a number has the year, the month and the day that the number says.
+-- A day that has a number has the year, the month and the day of that number.
 parts_same : (number year month day : ℕ) (wanted : Date) → IsDate year month day
     → date_number year month day ≡ number → (at : IsDayAt wanted number)
     → (at.year ≡ year) × (wanted.month ≡ month) × (wanted.day ≡ day)
@@ -72,7 +72,7 @@ minute_begins shown number at begins none =
       day_near shown.date number at,
     ))
 
--- Whole seconds near enough come back from their nanoseconds.
+-- Whole seconds that are near enough come back from their nanoseconds.
 pub seconds_back : (nanos quotient wide second : ℤ) → nanos ≡ second *ℤ pos 1_000_000_000
     → IsTimestampNanos (second *ℤ pos 1_000_000_000)
     → quotient ≡ to_z w128 (of_z w128 (int_div (to_z w128 (of_z w128 nanos)) (pos 1_000_000_000)))

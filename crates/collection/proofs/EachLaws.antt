@@ -1,4 +1,4 @@
--- How far things are done that are done one after the other.
+-- The progress of steps that are done one after the other.
 use Rattle.std.proofs.Common.{◌≡◌, ℕ, ◌+◌, ◌<◌, ◌≤◌, List, ◌∷◌, Option, Result, Ok, Err, refl, sym, ◌∙◌, ap, subst}
 use Rattle.std.proofs.Common.{drop, length, get_or, map}
 use Rattle.std.proofs.lemmas.List.{drop_more, drop_all, length-map}
@@ -8,7 +8,7 @@ use Rattle.collection.specs.Common.{EachDone, added, none_counted}
 
 module _ {X S : Type 0} (step : X → Option (List ℕ) → Option (List ℕ) → S → S → Result Tally SessionError → Type 0)
     (xs : List X) (sink : Option (List ℕ)) (old : S) where
-  -- So many were done, and this is counted: whatever becomes of the others, becomes of all.
+  -- Some steps were done, and this is counted: whatever the others come to, all come to.
   abbrev pub Done : ℕ → Tally → Option (List ℕ) → S → Type 0
   Done n tally middle now = (full : Option (List ℕ)) (new : S) (result : Result Tally SessionError)
       → EachDone step (drop n xs) tally middle full now new result

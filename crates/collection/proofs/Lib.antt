@@ -1,6 +1,6 @@
-mod Going
-mod NamingLaws
-mod Moving
+mod Acts
+mod NameLaws
+mod MovedParts
 mod EachLaws
-mod SavingLaws
+mod SaveLaws
 mod ClockLaws

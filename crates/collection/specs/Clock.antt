@@ -1,4 +1,4 @@
--- The calendar of the host, in UTC: which moment a second of it is in.
+-- The calendar of the host, in UTC: the moment that a second of it is in.
 use Rattle.std.specs.Prelude.{◌≡◌, ◌⊎◌, ◌+◌, ◌*◌, ℕ, ℤ, pos, ◌*ℤ◌}
 use Rattle.jiff_core.specs.Timestamp.{IsTimestampNanos}
 use Rattle.jiff_core.specs.DateTime.{civil_nanos}
@@ -30,6 +30,6 @@ abbrev pub IsUndated : ℤ → Type 0
 IsUndated second = (IsTimestampNanos (second *ℤ pos 1_000_000_000) → ⊥)
     ⊎ ((shown : DateTime) × IsShownAt second shown × ((number : ℕ) → IsDayAt shown.date number → ⊥))
 
--- date 0, minute 0: the moment of what none counts for
+-- date 0, minute 0: the moment for calls whose moment doesn't matter
 abbrev pub at_first : Moment → Type 0
 at_first at = (at.date ≡ 0) × (at.minute ≡ 0)

@@ -1,4 +1,4 @@
--- One thing after the other is done, each with a result that is counted, until one ends the run.
+-- Steps that are done one after the other, each with a result that is counted, until one ends the run.
 use Rattle.std.specs.Prelude.{◌≡◌, ◌||◌, ℕ, false, List, [], ◌∷◌, Option, None, Result, Ok, Err, MatchResult}
 use Rattle.spec_language.specs.Common.{Act}
 use Rattle.commands.specs.Common.{GoesBy, Machine}
@@ -9,7 +9,7 @@ use Rattle.commands.specs.declared.error.SessionError.{SessionError}
 abbrev pub none_counted : Tally
 none_counted = record { refused = false; broke = false; reason = None }
 
--- what was counted so far, with what was counted of one thing more; no reason is kept
+-- what was counted so far, with what was counted for one thing more; there is no reason
 abbrev pub added : Tally → Tally → Tally
 added tally one = record {
   refused = tally.refused || one.refused;
@@ -17,8 +17,8 @@ added tally one = record {
   reason = None;
 }
 
--- What is said of one thing by the writer and the service before and after it, and its result, was done with each of
--- these, in their order, after others of which this was counted. A result that is no tally ends the run.
+-- A step with each of these was done, in their order; it relates the writer and the service before and after it, and
+-- its result. This tally was counted for others before them. A result that isn't a tally ends the run.
 abbrev pub EachDone : {X S : Type 0} → (X → Option (List ℕ) → Option (List ℕ) → S → S → Result Tally SessionError
     → Type 0) → List X → Tally → Option (List ℕ) → Option (List ℕ) → S → S → Result Tally SessionError → Type 0
 EachDone step [] tally sink full old new result = (full ≡ sink) × (new ≡ old) × (result ≡ Ok tally)

@@ -1,9 +1,9 @@
 pub mod Clock
-pub mod Naming
+pub mod HostNames
 pub mod HostFacts
 pub mod Each
 pub mod Lines
-pub mod Importing
-pub mod Exporting
-pub mod Saving
+pub mod Import
+pub mod Export
+pub mod Save
 pub mod Common

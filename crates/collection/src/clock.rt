@@ -1,3 +1,4 @@
+//! The moments of files and the seconds of the host's calendar, in UTC.
 ghost use Rattle.std.specs.Prelude.{◌≡◌, ◌≤◌, ◌+◌, ◌*◌, IfSome, IfNone, ℕ, ℤ, pos, ◌*ℤ◌};
 ghost use Rattle.jiff_core.specs.Timestamp.{IsTimestampNanos};
 ghost use Rattle.collection.specs.Common.{IsAtSecond, IsDayAt, IsShownAt, IsUndated, at_first};
@@ -6,13 +7,13 @@ use jiff_core::civil::{Date, DateTime, Time};
 use jiff_core::{Offset, Timestamp};
 use words36::{Moment, date_of, day_of};
 
-/// How many nanoseconds a second has.
+/// The number of nanoseconds in a second.
 const NANOSECONDS: i128 = 1_000_000_000;
 
-/// How many minutes an hour has.
+/// The number of minutes in an hour.
 const HOUR: u32 = 60;
 
-/// What the calendar shows at a second, if that is near enough.
+/// Returns what the calendar shows at a second, if that is near enough.
 fn shown_at(second: i64) -> Option<DateTime>
     ensures some { IfSome result (IsShownAt second) }
     ensures none { IfNone result (IsTimestampNanos (second *ℤ pos 1_000_000_000) → ⊥) }
@@ -23,7 +24,7 @@ fn shown_at(second: i64) -> Option<DateTime>
     }
 }
 
-/// The second at which the calendar shows this, if it is the beginning of one, and near enough.
+/// Returns the second at which the calendar shows this, if it is the beginning of one, and near enough.
 fn second_at(shown: DateTime) -> Option<i64>
     ensures some { IfSome result (λ second. IsShownAt second shown) }
     ensures none { IfNone result ((second : ℤ) → IsShownAt second shown
@@ -38,7 +39,7 @@ fn second_at(shown: DateTime) -> Option<i64>
     }
 }
 
-/// The number of a day of the calendar, if a file can have it.
+/// Returns the number of a day of the calendar, if a file can have it.
 fn number_of(day: Date) -> Option<u32>
     ensures some { IfSome result (IsDayAt day) }
     ensures none { IfNone result ((number : ℕ) → IsDayAt day number → ⊥) }
@@ -52,7 +53,7 @@ fn number_of(day: Date) -> Option<u32>
     }
 }
 
-/// The day of the calendar that has this number, if there is one.
+/// Returns the day of the calendar that has this number, if there is one.
 fn calendar_day(number: u32) -> Option<Date>
     ensures some { IfSome result (λ day. IsDayAt day number) }
     ensures none { IfNone result ((day : Date) → IsDayAt day number → ⊥) }
@@ -64,7 +65,7 @@ fn calendar_day(number: u32) -> Option<Date>
     }
 }
 
-/// The minute of a time of day.
+/// Returns the minute of a time of day.
 fn minute_of(time: Time) -> u32
     ensures value { result ≡ 60 * time.hour + time.minute }
     ensures few { result ≤ 1439 }
@@ -72,7 +73,7 @@ fn minute_of(time: Time) -> u32
     HOUR * u32::from(time.hour) + u32::from(time.minute)
 }
 
-/// The moment of a date and a minute.
+/// Returns the moment of a date and a minute.
 fn moment_at(date: u32, minute: u32) -> Moment
     requires date { date ≤ 32767 }
     requires minute { minute ≤ 1439 }
@@ -82,7 +83,7 @@ fn moment_at(date: u32, minute: u32) -> Moment
     Moment::new(date, minute).unwrap()
 }
 
-/// The moment of a second, counted from the beginning of 1970 in UTC, if a file can have its date.
+/// Returns the moment of a second, counted from the beginning of 1970 in UTC, if a file can have its date.
 pub fn moment_of(second: i64) -> Option<Moment>
     ensures some { IfSome result (IsAtSecond second) }
     ensures none { IfNone result (IsUndated second) }
@@ -94,7 +95,7 @@ pub fn moment_of(second: i64) -> Option<Moment>
     }
 }
 
-/// The time of day at the beginning of a minute.
+/// Returns the time of day at the beginning of a minute.
 fn time_of(minute: u32) -> Time
     requires { minute ≤ 1439 }
     ensures minute { minute ≡ 60 * result.hour + result.minute }
@@ -103,7 +104,8 @@ fn time_of(minute: u32) -> Time
     Time::new((minute / HOUR) as i8, (minute % HOUR) as i8, 0, 0).unwrap()
 }
 
-/// The first second of a moment, counted from the beginning of 1970 in UTC, if its date is a day of the calendar.
+/// Returns the first second of a moment, counted from the beginning of 1970 in UTC, if its date is a day of the
+/// calendar.
 pub fn second_of(moment: Moment) -> Option<i64>
     ensures some { IfSome result (λ second. IsAtSecond second moment) }
     ensures none { IfNone result ((second : ℤ) → IsAtSecond second moment → ⊥) }
@@ -114,7 +116,7 @@ pub fn second_of(moment: Moment) -> Option<i64>
     Some(second)
 }
 
-/// The moment of calls for which none counts: date 0, minute 0.
+/// Returns the moment for calls whose moment doesn't matter: date 0, minute 0.
 pub(crate) fn first_moment() -> Moment
     ensures { at_first result }
 {

@@ -1,3 +1,4 @@
+//! The trait of a host with files.
 ghost use Rattle.collection.specs.HostFacts.{FileFacts};
 
 use crate::Source;
@@ -5,8 +6,8 @@ use std::alloc::Global;
 use std::io;
 use words36::Moment;
 
-/// What is done with files of the host that are no images: they are read whole, and new ones are made. No file that is
-/// there is changed or removed.
+/// The operations on files of the host that are no images: they are read whole, and new ones are made. No file that
+/// exists is changed or removed.
 pub trait HostFiles {
     ghost files: { Self → FileFacts };
 
@@ -14,7 +15,7 @@ pub trait HostFiles {
     ///
     /// # Errors
     ///
-    /// The system's, and `OutOfMemory` if its bytes find no room.
+    /// The system's, and `OutOfMemory` if its bytes found no room.
     fn read(&self, alloc: Global, path: &str, most: usize) -> io::Result<Source>
         ensures { (files self.now).read path.now most result };
 
@@ -22,12 +23,12 @@ pub trait HostFiles {
     ///
     /// # Errors
     ///
-    /// The system's. Its parent has to be there.
+    /// The system's. Its parent must exist.
     fn make_folder(&self, path: &str) -> io::Result<()>
         ensures { (files self.now).folder path.now result };
 
-    /// Makes a file of these bytes at a path where there is none. It was last changed at this moment, in UTC, if one is
-    /// given, and the system has such files.
+    /// Makes a file of these bytes at a path where there is none. Its last change is at the given moment, in UTC, if
+    /// there is one, and the system has such files.
     ///
     /// # Errors
     ///

@@ -1,14 +1,15 @@
+//! The line of each file, and its tally.
 ghost use Rattle.std.specs.Prelude.{◌≡◌, ◌++◌, ◌∷◌, [], OnOk, IfOk};
 ghost use Rattle.spec_language.specs.Common.{line as line_of};
 ghost use Rattle.collection.specs.Common.{added as added_to, none_counted, shown_byte, IsLineWritten, IsCounted};
 ghost use Rattle.collection.specs.Common.{IsRefusedLine, label_of, refused_tally};
-ghost use Rattle.collection.specs.Naming.{shown as shown_text};
+ghost use Rattle.collection.specs.HostNames.{shown as shown_text};
 
 use commands::{SessionError, Tally, write_text};
 use std::alloc::{AllocError, Global};
 use std::io::Write;
 
-/// A byte as it is shown: a control character as a question mark.
+/// Returns a byte as it is shown: a control character as a question mark.
 fn shown(byte: u8) -> u8
     ensures { result ≡ shown_byte byte }
 {
@@ -29,7 +30,7 @@ fn push_shown(text: &mut Vec<u8>, path: &[u8]) -> Result<(), AllocError>
     Ok(())
 }
 
-/// What the line of a file begins with: its path, and then this text and a blank, if it isn't empty.
+/// Returns the beginning of a file's line: its path, and then this text and a blank, if it isn't empty.
 pub(crate) fn label(alloc: Global, path: &str, text: &[u8]) -> Result<Vec<u8>, AllocError>
     ensures { IfOk result (λ label. label.items ≡ label_of path.now text.now) }
 {
@@ -43,7 +44,7 @@ pub(crate) fn label(alloc: Global, path: &str, text: &[u8]) -> Result<Vec<u8>, A
     Ok(label)
 }
 
-/// The line of a file: what it begins with, and an answer.
+/// Returns the line of a file: its beginning, and an answer.
 fn line(alloc: Global, path: &str, text: &[u8], answer: &str) -> Result<Vec<u8>, AllocError>
     ensures { IfOk result (λ bytes. bytes.items ≡ label_of path.now text.now ++ line_of answer.now) }
 {
@@ -53,11 +54,11 @@ fn line(alloc: Global, path: &str, text: &[u8], answer: &str) -> Result<Vec<u8>,
     Ok(line)
 }
 
-/// Writes the line of a file, and counts it so.
+/// Writes the line of a file, and returns what it counts for.
 ///
 /// # Errors
 ///
-/// `Write` if the writer failed, `NoMemory` if there is no memory for the line: nothing is written then.
+/// `Write` if the writer failed, `NoMemory` if there is no memory for the line: then nothing is written.
 pub(crate) fn say<W: Write>(
     alloc: Global,
     writer: &mut W,
@@ -77,11 +78,11 @@ pub(crate) fn say<W: Write>(
     Ok(tally)
 }
 
-/// Writes the line of a file that was refused so, and counts it.
+/// Writes the line of a refused file with this answer, and counts it.
 ///
 /// # Errors
 ///
-/// As of `say`.
+/// The same as those of `say`.
 pub(crate) fn turn_down<W: Write>(
     alloc: Global,
     writer: &mut W,
@@ -98,7 +99,7 @@ pub(crate) fn turn_down<W: Write>(
 ///
 /// # Errors
 ///
-/// As of `say`.
+/// The same as those of `say`.
 pub(crate) fn say_path<W: Write>(
     alloc: Global,
     writer: &mut W,
@@ -116,7 +117,7 @@ pub(crate) fn say_path<W: Write>(
     Ok(Tally::none())
 }
 
-/// What is counted of a file that was refused.
+/// Returns what is counted for a file that was refused.
 fn refused(broke: bool) -> Tally
     ensures { result ≡ refused_tally broke }
 {
@@ -127,7 +128,7 @@ fn refused(broke: bool) -> Tally
     }
 }
 
-/// What was counted so far, with what was counted of one file more.
+/// Returns what was counted so far, with what was counted for one file more.
 pub(crate) fn added(tally: Tally, one: Tally) -> Tally
     ensures { result ≡ added_to tally one }
 {

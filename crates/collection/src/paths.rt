@@ -1,14 +1,15 @@
+//! The paths of files of the host that are made.
 ghost use Rattle.std.specs.Prelude.{◌≡◌, ◌++◌, ◌∷◌, ◌<◌, [], All, IfOk, OnOk, flat_map, string_bytes};
 ghost use Rattle.spec_language.specs.Common.{owner_text};
 ghost use Rattle.collection.specs.Common.{dotted, escaped, folder_of as folder_text, hexadecimal, host_name};
-ghost use Rattle.collection.specs.Naming.{path_of as path_text};
+ghost use Rattle.collection.specs.HostNames.{path_of as path_text};
 
-use crate::naming::is_plain;
+use crate::host_names::is_plain;
 use commands::{extension_text, trimmed};
 use std::alloc::{AllocError, Global};
 use words36::{FileName, Ppn, text_of};
 
-/// An owner as the words of a command line name it: `10,20`.
+/// Returns an owner as the words of a command line name it: `10,20`.
 pub(crate) fn owner_text(alloc: Global, owner: Ppn) -> Result<String, AllocError>
     ensures { IfOk result (λ text. string_bytes text ≡ owner_text owner) }
 {
@@ -17,7 +18,7 @@ pub(crate) fn owner_text(alloc: Global, owner: Ppn) -> Result<String, AllocError
     format!(in alloc; "{project:o},{programmer:o}")
 }
 
-/// The folder of a directory, FOLDER/10,20, with its numbers in octal.
+/// Returns the folder of a directory, FOLDER/10,20, with its numbers in octal.
 pub(crate) fn folder_of(alloc: Global, folder: &str, owner: Ppn) -> Result<String, AllocError>
     ensures { IfOk result (λ path. string_bytes path ≡ folder_text folder.now owner) }
 {
@@ -25,7 +26,7 @@ pub(crate) fn folder_of(alloc: Global, folder: &str, owner: Ppn) -> Result<Strin
     format!(in alloc; "{folder}/{owner}")
 }
 
-/// A hexadecimal digit.
+/// Returns a hexadecimal digit.
 fn hexadecimal(number: u8) -> u8
     requires { number < 16 }
     ensures value { result ≡ hexadecimal number }
@@ -46,7 +47,7 @@ fn push_character(text: &mut String, character: u8) -> Result<(), AllocError>
     text.push(char::from(character))
 }
 
-/// Appends a character of a name: a letter or a digit as it is, any other as its code.
+/// Appends a character of a name: a letter or a digit as it is, any other as `%` and its code.
 fn push_escaped(text: &mut String, character: u8) -> Result<(), AllocError>
     requires { character < 128 }
     ensures { OnOk result (string_bytes text.new ≡ string_bytes text.old ++ escaped character) }
@@ -70,8 +71,8 @@ fn push_part(text: &mut String, part: &[u8]) -> Result<(), AllocError>
     Ok(())
 }
 
-/// Appends the name of a file of the host: as `FOO.TXT`.
-#[tactic(auto, using(crate::proofs::NamingLaws::extended_some))]
+/// Appends the name of a file of the host, as `FOO.TXT`.
+#[tactic(auto, using(crate::proofs::NameLaws::extended_some))]
 fn push_name(text: &mut String, name: FileName) -> Result<(), AllocError>
     ensures { OnOk result (string_bytes text.new ≡ string_bytes text.old ++ host_name name) }
 {
@@ -85,7 +86,7 @@ fn push_name(text: &mut String, name: FileName) -> Result<(), AllocError>
     Ok(())
 }
 
-/// The path of a file of the host: FOLDER/10,20/FOO.TXT.
+/// Returns the path of a file of the host: FOLDER/10,20/FOO.TXT.
 pub(crate) fn path_of(
     alloc: Global,
     folder: &str,

@@ -1,7 +1,8 @@
+//! What people are told on the standard error.
 use std::fmt::{self, Display, Formatter};
 use std::io::Write;
 
-/// A path as it is shown in a line: a control character is a question mark.
+/// A path as it is shown in a line: each control character is a question mark.
 #[derive(Clone, Copy)]
 struct Shown<'a>(&'a str);
 

@@ -1,3 +1,4 @@
+//! A test of the first second of 1970.
 use crate::moment_of;
 
 #[test]

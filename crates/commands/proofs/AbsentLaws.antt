@@ -1,9 +1,10 @@
--- Files that must not be there, and what comes before a file is entered.
+-- Files that must not exist, and the events before a file is entered.
 use Rattle.std.proofs.Common.{◌≡◌, ℕ, zero, suc, Bool, false, nat_eq, if◌then◌else◌, List, Some, None, Result, refl}
 use Rattle.std.proofs.Common.{sym, ap, subst, arith}
 use Rattle.std.proofs.lemmas.Bool.Decides.{nat_tests}
 use Rattle.words36.specs.declared.moment.Moment.{Moment}
-use Rattle.spec_language.specs.Common.{creates, enters, unfit, Plan, Ask, Say, calls, each, ends, fails, file_words}
+use Rattle.spec_language.specs.Common.{create_events, login_events, unfit, Plan, Ask, Say, call_event, each, ends}
+use Rattle.spec_language.specs.Common.{fails, file_words}
 use Rattle.spec_language.specs.Common.{ok, complains}
 use Rattle.spec_machine.specs.declared.call.Call.TheVariants.{Lookup}
 use Rattle.spec_machine.specs.declared.call.Event.{Event}
@@ -12,14 +13,15 @@ use Rattle.spec_machine.specs.declared.call.Reply.TheVariants.{Done, Value, Refu
 use Rattle.spec_machine.specs.declared.call.Reply.TheVariants.{NoJob, NoMemory, Device, Failed, DateRange}
 use Rattle.spec_language.specs.declared.command.Spec.{Spec}
 use Rattle.spec_language.specs.declared.encoding.Encoding.{Encoding}
-use Rattle.commands.specs.Common.{Led, followed, absent, if_absent, keeps_as, looks_for, makes_way, AlwaysStands}
+use Rattle.commands.specs.Common.{FollowsPlan, followed, absent, if_absent, keeps_as, looks_for, makes_way}
+use Rattle.commands.specs.Common.{AlwaysStands}
 use Rattle.commands.specs.Common.{IsAnswered, Machine}
 use Rattle.commands.specs.declared.existing.Existing.{Existing}
 use Rattle.commands.specs.declared.existing.Existing.TheVariants.{Replace, Refuse}
 use Rattle.commands.proofs.LedLaws.{led_asked, led_on}
-use Rattle.commands.proofs.PuttingLaws.{filled_then}
+use Rattle.commands.proofs.PutLaws.{filled_then}
 
--- another reply than that the file is there, or that there is no such file
+-- a reply other than that the file exists, or that there is no such file
 pub if_unsure : (moment : Moment) (next : Plan) (reply : Reply) → (reply ≡ Done → ⊥) → (reply ≡ Refused 0 → ⊥)
     → if_absent moment next reply ≡ fails moment reply
 if_unsure moment next Done there none = absurd (there refl)
@@ -40,25 +42,25 @@ if_unsure moment next DateRange there none = refl
 module _ {S : Type 0} (machine : S → Machine) (stands : AlwaysStands machine) (a b c : S) (moment : Moment)
     (spec : Spec) where
   module _ (names : List Event) (is : names ≡ looks_for moment spec) (lookup : Event)
-      (is_lookup : lookup ≡ calls moment (Lookup 1 file_words)) (reply : Reply)
-      (named : (m : Moment) (next : Plan) → Led machine a b (each m names next) next)
+      (is_lookup : lookup ≡ call_event moment (Lookup 1 file_words)) (reply : Reply)
+      (named : (m : Moment) (next : Plan) → FollowsPlan machine a b (each m names next) next)
       (answered : IsAnswered (machine b) (machine c) lookup reply) where
     pub looked_up : (result : Result (Unit {0}) Reply)
         → ((next : Plan) → followed moment result (λ unit. next) ≡ if_absent moment next reply) → (next : Plan)
-        → Led machine a c (absent moment spec next) (followed moment result (λ unit. next))
+        → FollowsPlan machine a c (absent moment spec next) (followed moment result (λ unit. next))
     looked_up result says next =
-        let behind : Plan = Ask (calls moment (Lookup 1 file_words)) (if_absent moment next) in
-        subst (λ (l : Plan). Led machine a c (absent moment spec next) l) (sym (says next))
+        let behind : Plan = Ask (call_event moment (Lookup 1 file_words)) (if_absent moment next) in
+        subst (λ (l : Plan). FollowsPlan machine a c (absent moment spec next) l) (sym (says next))
         (led_on machine a b c (absent moment spec next) behind (if_absent moment next reply)
-        (subst (λ (l : List Event). Led machine a b (each moment l behind) behind) is (named moment behind))
-        (led_asked machine stands b c (calls moment (Lookup 1 file_words)) reply (if_absent moment next)
+        (subst (λ (l : List Event). FollowsPlan machine a b (each moment l behind) behind) is (named moment behind))
+        (led_asked machine stands b c (call_event moment (Lookup 1 file_words)) reply (if_absent moment next)
         (subst (λ (e : Event). IsAnswered (machine b) (machine c) e reply) is_lookup answered)))
 
--- The plan of a put, by what becomes of a file that has its name.
+-- The plan of a put, by what happens to a file that has its name.
 
 pub keeps_some : (existing : Existing) (moment : Moment) (owner : ℕ) (encoding : Encoding) (spec : Spec)
     (words : List ℕ) → keeps_as existing moment owner encoding spec (Some words)
-    ≡ each moment (enters owner) (makes_way existing moment spec (each moment (creates moment encoding spec)
+    ≡ each moment (login_events owner) (makes_way existing moment spec (each moment (create_events moment encoding spec)
     (filled_then moment encoding words (ends moment ok))))
 keeps_some Replace moment owner encoding spec words = refl
 keeps_some Refuse moment owner encoding spec words = refl

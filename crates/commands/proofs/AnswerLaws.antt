@@ -1,10 +1,10 @@
--- What a line is answered with.
+-- The answer to a line.
 use Rattle.std.proofs.Common.{◌≡◌, ◌≢◌, ℕ, ◌||◌, Bool, true, false, List, [], ◌∷◌, refl, sym, ◌∙◌, ap, subst, Option}
 use Rattle.std.proofs.Common.{Some, None, Result, Ok, Err, IfOk, unwrap_or}
 use Rattle.std.specs.Prelude.{codes}
 use Rattle.words36.specs.declared.moment.Moment.{Moment}
 use Rattle.spec_language.specs.Common.{Spoken, complains, refuses, prints, refusal, is_broken, greeting, line}
-use Rattle.spec_language.specs.Common.{list_text, list_said, Act, Asks, Looks, Plan, Show, Say, Conducts, begins}
+use Rattle.spec_language.specs.Common.{list_text, list_said, Act, Asks, Looks, Plan, Show, Say, RunsPlan, begins}
 use Rattle.spec_language.specs.Common.{fails, ends, ok, Speaks, core_words}
 use Rattle.spec_image.specs.declared.entry.Entry.{Entry}
 use Rattle.spec_language.specs.declared.style.Style.{Style}
@@ -17,10 +17,11 @@ use Rattle.spec_machine.specs.declared.call.Event.TheVariants.{Login, Login as L
 use Rattle.spec_machine.specs.declared.call.Reply.{Reply}
 use Rattle.spec_machine.specs.declared.call.Reply.TheVariants.{Done, Value, Refused, Stopped, NoChannel, AddressCheck}
 use Rattle.spec_machine.specs.declared.call.Reply.TheVariants.{NoJob, NoMemory, Device, Failed, DateRange}
-use Rattle.commands.specs.Common.{Machine, AlwaysStands, IsAnswered, IsListed, GoesBy, Led, Concludes, HasShown}
-use Rattle.commands.specs.Common.{Spoke}
+use Rattle.commands.specs.Common.{Machine, AlwaysStands, IsAnswered, IsListed, GoesBy, FollowsPlan, FinishesPlan}
+use Rattle.commands.specs.Common.{HasShown}
+use Rattle.commands.specs.Common.{CommandDone}
 use Rattle.commands.specs.declared.answer.Tally.{Tally}
-use Rattle.commands.proofs.GoingLaws.{goes_nowhere, goes_answered, goes_listed}
+use Rattle.commands.proofs.ActLaws.{goes_nowhere, goes_answered, goes_listed}
 use Rattle.commands.proofs.LedLaws.{led_on}
 use Rattle.commands.proofs.TranscriptLaws.{or-false}
 
@@ -32,11 +33,11 @@ module _ {V E S : Type 0} (machine : S → Machine) (stands : AlwaysStands machi
     → List ℕ) (result : Result V E) (moment : Moment) (tally counted : Tally) where
   -- Refusals: without a call, and after one.
 
-  pub spoke_complaint : (m : S) (who : Option ℕ) (meant : Option Command) (words : List ℕ)
-      → Speaks moment who meant [] (complains words) who
+  pub spoke_complaint : (m : S) (user : Option ℕ) (meant : Option Command) (words : List ℕ)
+      → Speaks moment user meant [] (complains words) user
       → counted.refused ≡ true → counted.broke ≡ tally.broke || false → IfOk result (λ v. bytes v ≡ line words)
-      → Spoke bytes result machine m m moment who who tally counted meant
-  spoke_complaint m who meant words speaks refused broke text =
+      → CommandDone bytes result machine m m moment user user tally counted meant
+  spoke_complaint m user meant words speaks refused broke text =
       record {
         acts = [];
         said = complains words;
@@ -47,12 +48,12 @@ module _ {V E S : Type 0} (machine : S → Machine) (stands : AlwaysStands machi
         text = text;
       }
 
-  spoke_refusal : (old new : S) (who : Option ℕ) (meant : Option Command) (acts : List Act) (reply : Reply)
-      (words : List ℕ) (broken : Bool) → Speaks moment who meant acts (refuses reply) who → GoesBy machine old new acts
+  spoke_refusal : (old new : S) (user : Option ℕ) (meant : Option Command) (acts : List Act) (reply : Reply)
+      (words : List ℕ) (broken : Bool) → Speaks moment user meant acts (refuses reply) user → GoesBy machine old new acts
       → words ≡ refusal reply → broken ≡ is_broken reply → counted.refused ≡ true
       → counted.broke ≡ tally.broke || broken → IfOk result (λ v. bytes v ≡ line words)
-      → Spoke bytes result machine old new moment who who tally counted meant
-  spoke_refusal old new who meant acts reply words broken speaks goes same_words same_broken refused broke text =
+      → CommandDone bytes result machine old new moment user user tally counted meant
+  spoke_refusal old new user meant acts reply words broken speaks goes same_words same_broken refused broke text =
       record {
         acts = acts;
         said = refuses reply;
@@ -63,14 +64,14 @@ module _ {V E S : Type 0} (machine : S → Machine) (stands : AlwaysStands machi
         text = subst (λ (l : List ℕ). IfOk result (λ v. bytes v ≡ line l)) same_words text;
       }
 
-  pub spoke_unknown : (m : S) (who : Option ℕ) (meant : Option Command) → meant ≡ None → counted.refused ≡ true
+  pub spoke_unknown : (m : S) (user : Option ℕ) (meant : Option Command) → meant ≡ None → counted.refused ≡ true
       → counted.broke ≡ tally.broke || false → IfOk result (λ v. bytes v ≡ line (codes "?Command error"))
-      → Spoke bytes result machine m m moment who who tally counted meant
-  spoke_unknown m who meant e refused broke text =
-      subst (λ (o : Option Command). Spoke bytes result machine m m moment who who tally counted o) (sym e)
-      (spoke_complaint m who None (codes "?Command error") (refl, refl, refl) refused broke text)
+      → CommandDone bytes result machine m m moment user user tally counted meant
+  spoke_unknown m user meant e refused broke text =
+      subst (λ (o : Option Command). CommandDone bytes result machine m m moment user user tally counted o) (sym e)
+      (spoke_complaint m user None (codes "?Command error") (refl, refl, refl) refused broke text)
 
-  -- a line that needs a job, of which this is said without one
+  -- a line that needs a job, and its text without one
   needs_job : (command : Command) → ((owner : ℕ) → command ≡ LoginLine owner → ⊥)
       → Speaks moment None (Some command) [] (complains (codes "?Not logged in")) None
   needs_job (LoginLine owner) other = absurd (other owner refl)
@@ -83,50 +84,50 @@ module _ {V E S : Type 0} (machine : S → Machine) (stands : AlwaysStands machi
   needs_job (MakeDir owner protection) other = (refl, refl, refl)
   needs_job (Quota owner blocks) other = (refl, refl, refl)
 
-  pub spoke_stranger : (m : S) (who : Option ℕ) (command : Command)
-      → ((owner : ℕ) → command ≡ LoginLine owner → ⊥) → who ≡ None
+  pub spoke_stranger : (m : S) (user : Option ℕ) (command : Command)
+      → ((owner : ℕ) → command ≡ LoginLine owner → ⊥) → user ≡ None
       → counted.refused ≡ true → counted.broke ≡ tally.broke || false
       → IfOk result (λ v. bytes v ≡ line (codes "?Not logged in"))
-      → Spoke bytes result machine m m moment who who tally counted (Some command)
-  spoke_stranger m who command other e refused broke text =
-      subst (λ (o : Option ℕ). Spoke bytes result machine m m moment o o tally counted (Some command))
+      → CommandDone bytes result machine m m moment user user tally counted (Some command)
+  spoke_stranger m user command other e refused broke text =
+      subst (λ (o : Option ℕ). CommandDone bytes result machine m m moment o o tally counted (Some command))
       (sym e)
       (spoke_complaint m None (Some command) (codes "?Not logged in") (needs_job command other) refused broke text)
 
   -- LOGIN.
 
-  login_refused : (who : Option ℕ) (owner : ℕ) (reply : Reply) → reply ≢ Done
-      → Speaks moment who (Some (LoginLine owner)) (Asks (Login 1 owner core_words) reply ∷ []) (refuses reply) who
-  login_refused who owner Done h = absurd (h refl)
-  login_refused who owner (Value word) h = (Value word, refl, refl, refl)
-  login_refused who owner (Refused code) h = (Refused code, refl, refl, refl)
-  login_refused who owner (Stopped status) h = (Stopped status, refl, refl, refl)
-  login_refused who owner NoChannel h = (NoChannel, refl, refl, refl)
-  login_refused who owner AddressCheck h = (AddressCheck, refl, refl, refl)
-  login_refused who owner NoJob h = (NoJob, refl, refl, refl)
-  login_refused who owner NoMemory h = (NoMemory, refl, refl, refl)
-  login_refused who owner Device h = (Device, refl, refl, refl)
-  login_refused who owner Failed h = (Failed, refl, refl, refl)
-  login_refused who owner DateRange h = (DateRange, refl, refl, refl)
+  login_refused : (user : Option ℕ) (owner : ℕ) (reply : Reply) → reply ≢ Done
+      → Speaks moment user (Some (LoginLine owner)) (Asks (Login 1 owner core_words) reply ∷ []) (refuses reply) user
+  login_refused user owner Done h = absurd (h refl)
+  login_refused user owner (Value word) h = (Value word, refl, refl, refl)
+  login_refused user owner (Refused code) h = (Refused code, refl, refl, refl)
+  login_refused user owner (Stopped status) h = (Stopped status, refl, refl, refl)
+  login_refused user owner NoChannel h = (NoChannel, refl, refl, refl)
+  login_refused user owner AddressCheck h = (AddressCheck, refl, refl, refl)
+  login_refused user owner NoJob h = (NoJob, refl, refl, refl)
+  login_refused user owner NoMemory h = (NoMemory, refl, refl, refl)
+  login_refused user owner Device h = (Device, refl, refl, refl)
+  login_refused user owner Failed h = (Failed, refl, refl, refl)
+  login_refused user owner DateRange h = (DateRange, refl, refl, refl)
 
-  pub spoke_login_refused : (old new : S) (who : Option ℕ) (owner : ℕ) (reply : Reply) (words : List ℕ) (broken : Bool)
+  pub spoke_login_refused : (old new : S) (user : Option ℕ) (owner : ℕ) (reply : Reply) (words : List ℕ) (broken : Bool)
       → reply ≢ Done → IsAnswered (machine old) (machine new) (LogsIn 1 owner core_words) reply
       → words ≡ refusal reply → broken ≡ is_broken reply → counted.refused ≡ true
       → counted.broke ≡ tally.broke || broken → IfOk result (λ v. bytes v ≡ line words)
-      → Spoke bytes result machine old new moment who who tally counted (Some (LoginLine owner))
-  spoke_login_refused old new who owner reply words broken h answered same_words same_broken refused broke text =
-      spoke_refusal old new who (Some (LoginLine owner)) (Asks (Login 1 owner core_words) reply ∷ []) reply words broken
-      (login_refused who owner reply h) (goes_answered machine stands old new (LogsIn 1 owner core_words) reply
+      → CommandDone bytes result machine old new moment user user tally counted (Some (LoginLine owner))
+  spoke_login_refused old new user owner reply words broken h answered same_words same_broken refused broke text =
+      spoke_refusal old new user (Some (LoginLine owner)) (Asks (Login 1 owner core_words) reply ∷ []) reply words broken
+      (login_refused user owner reply h) (goes_answered machine stands old new (LogsIn 1 owner core_words) reply
       answered)
       same_words same_broken refused broke text
 
-  -- What is left of a line where a call was not done.
+  -- The rest of a line if a call was not done.
   pub concludes_refusal : (old new : S) (reply : Reply) (words : List ℕ) (broken : Bool)
-      → Led machine old new (fails moment reply) (Say (refuses reply))
+      → FollowsPlan machine old new (fails moment reply) (Say (refuses reply))
       → words ≡ refusal reply → broken ≡ is_broken reply → counted.refused ≡ true
       → counted.broke ≡ tally.broke || broken → counted.reason ≡ tally.reason
       → IfOk result (λ v. bytes v ≡ line words)
-      → Concludes bytes result machine old new (fails moment reply) tally counted
+      → FinishesPlan bytes result machine old new (fails moment reply) tally counted
   concludes_refusal old new reply words broken led same_words same_broken refused broke reason text =
       record {
         said = refuses reply;
@@ -139,10 +140,10 @@ module _ {V E S : Type 0} (machine : S → Machine) (stands : AlwaysStands machi
 
   -- A line that needs a job, led to its end.
   pub spoke_concluded : (old mid new : S) (me : ℕ) (command : Command) (rest : Plan)
-      → ((acts : List Act) (said : Spoken) → Conducts (begins moment me command) acts said
+      → ((acts : List Act) (said : Spoken) → RunsPlan (begins moment me command) acts said
       → Speaks moment (Some me) (Some command) acts said (Some me))
-      → Led machine old mid (begins moment me command) rest → Concludes bytes result machine mid new rest tally counted
-      → Spoke bytes result machine old new moment (Some me) (Some me) tally counted (Some command)
+      → FollowsPlan machine old mid (begins moment me command) rest → FinishesPlan bytes result machine mid new rest tally counted
+      → CommandDone bytes result machine old new moment (Some me) (Some me) tally counted (Some command)
   spoke_concluded old mid new me command rest speaks led p =
       let whole = led_on machine old mid new (begins moment me command) rest (Say p.said) led p.led in
       record {
@@ -155,14 +156,14 @@ module _ {V E S : Type 0} (machine : S → Machine) (stands : AlwaysStands machi
         text = p.text;
       }
 
--- The same where it was done: nothing is counted.
+-- The same if it was done: nothing is counted.
 module _ {V E S : Type 0} (machine : S → Machine) (stands : AlwaysStands machine) (bytes : V
     → List ℕ) (result : Result V E) (moment : Moment) (tally : Tally) where
-  pub spoke_login : (old new : S) (who : Option ℕ) (owner : ℕ) (reply : Reply) → reply ≡ Done
+  pub spoke_login : (old new : S) (user : Option ℕ) (owner : ℕ) (reply : Reply) → reply ≡ Done
       → IsAnswered (machine old) (machine new) (LogsIn 1 owner core_words) reply
       → IfOk result (λ v. bytes v ≡ greeting owner)
-      → Spoke bytes result machine old new moment who (Some owner) tally tally (Some (LoginLine owner))
-  spoke_login old new who owner reply e answered text =
+      → CommandDone bytes result machine old new moment user (Some owner) tally tally (Some (LoginLine owner))
+  spoke_login old new user owner reply e answered text =
       record {
         acts = Asks (Login 1 owner core_words) Done ∷ [];
         said = prints (greeting owner);
@@ -174,10 +175,10 @@ module _ {V E S : Type 0} (machine : S → Machine) (stands : AlwaysStands machi
         text = text;
       }
 
-  -- What is left of a line that prints OK, all calls of which were done.
-  pub concludes_ok : (old new : S) → Led machine old new (ends moment ok) (Say ok)
+  -- The rest of a line that prints OK, all calls of which were done.
+  pub concludes_ok : (old new : S) → FollowsPlan machine old new (ends moment ok) (Say ok)
       → IfOk result (λ v. bytes v ≡ line (codes "OK"))
-      → Concludes bytes result machine old new (ends moment ok) tally tally
+      → FinishesPlan bytes result machine old new (ends moment ok) tally tally
   concludes_ok old new led text = record {
     said = ok;
     led = led;
@@ -192,7 +193,7 @@ module _ {V E S : Type 0} (machine : S → Machine) (stands : AlwaysStands machi
     (result : Result V E) (tally : Tally) where
   led_shown : (old new : S) (owner : ℕ) (answer : Result (List Entry) Reply)
       → IsListed (machine old) (machine new) 1 owner answer → (next : Result (List Entry) Reply → Plan)
-      → Led machine old new (Show owner next) (next answer)
+      → FollowsPlan machine old new (Show owner next) (next answer)
   led_shown old new owner answer listed next = record {
     acts = Looks owner answer ∷ [];
     goes = goes_listed machine stands old new owner answer listed;
@@ -234,7 +235,7 @@ module _ {V E S : Type 0} (machine : S → Machine) (bytes : V → List ℕ) (re
     (tally counted : Tally) where
   pub spoke_shown : (old new : S) (me : ℕ) (place : Option ℕ) (owner : ℕ) → owner ≡ unwrap_or place me
       → HasShown bytes result machine old new Columns owner tally counted
-      → Spoke bytes result machine old new moment (Some me) (Some me) tally counted (Some (DirectoryLine place))
+      → CommandDone bytes result machine old new moment (Some me) (Some me) tally counted (Some (DirectoryLine place))
   spoke_shown old new me place owner e p =
       let q = subst (λ (o : ℕ). HasShown bytes result machine old new Columns o tally counted) e p in
       let led = q.led (λ answer. Say (list_said Columns (unwrap_or place me) answer)) in

@@ -1,26 +1,26 @@
--- What a monitor does at once is what it does event by event.
+-- The calls that a monitor does at once, and the same calls event by event.
 use Rattle.std.proofs.Common.{◌≡◌, ◌+◌, ◌<◌, ℕ, Bool, List, [], ◌∷◌, length, slice_index, Option, None, Some, refl}
 use Rattle.std.proofs.Common.{sym, subst, arith}
 use Rattle.std.specs.Prelude.{IfSome}
 use Rattle.blockdisk.specs.Common.{DiskState, Contents, MayLeave, still_start}
-use Rattle.spec_language.specs.Common.{Asks, each, deposits}
+use Rattle.spec_language.specs.Common.{Asks, each, deposit_events}
 use Rattle.spec_machine.specs.Common.{Service, Serving, Broken, Answers}
 use Rattle.spec_machine.specs.declared.call.Event.{Event}
 use Rattle.spec_machine.specs.declared.call.Event.TheVariants.{Deposit, Examine}
 use Rattle.spec_machine.specs.declared.call.Reply.{Reply}
 use Rattle.spec_machine.specs.declared.call.Reply.TheVariants.{Done, Value, Device}
-use Rattle.volume.specs.Common.{VolumeCore}
+use Rattle.volume.specs.Common.{MemoryMap}
 use Rattle.monitor.specs.Common.{DepositsBy, Serves, MonitorState}
 use Rattle.spec_image.specs.Common.{pack_of}
 use Rattle.spec_image.specs.declared.layout.Layout.{Layout}
 use Rattle.monitor.specs.declared.job.Job.{Job}
 use Rattle.monitor.proofs.Events.EventCrashes.{state_stands, untouched_event}
 use Rattle.commands.specs.Common.{HasDone, Machine, AlwaysStands, GoesBy, IsAnswered, KeepsPack, AreShown, machine_of}
-use Rattle.commands.proofs.GoingLaws.{goes_on, goes_answered, goes_nowhere}
+use Rattle.commands.proofs.ActLaws.{goes_on, goes_answered, goes_nowhere}
 
 module _ {D : Type 0} (state : D → DiskState) (only_now : (disk : D) (contents : Contents) → (state disk).honest
     → (state disk).left_since (state disk).clock contents → MayLeave (state disk) contents) (disk : D)
-    (map : VolumeCore) (failed : Bool) (layout : Layout) where
+    (map : MemoryMap) (failed : Bool) (layout : Layout) where
   abbrev of : MonitorState D → Machine
   of m = machine_of (state m.disk) m.map m.failed m.jobs
 
@@ -35,7 +35,7 @@ module _ {D : Type 0} (state : D → DiskState) (only_now : (disk : D) (contents
   kept jobs jobs' Broken = tt
   kept jobs jobs' (Serving s) = refl
 
-  -- an event that leaves the disk alone, of which it is known what it is answered
+  -- an event that leaves the disk alone, with a known answer
   answered : (jobs jobs' : List (Option Job)) (event : Event) (reply : Reply)
       → (reply ≡ Device → ⊥)
       → ((old : Service) → Serves (state disk) map failed jobs old → (new : Service)
@@ -72,7 +72,7 @@ module _ {D : Type 0} (state : D → DiskState) (only_now : (disk : D) (contents
 
   pub words_done : (words : List ℕ) (first : ℕ) (jobs last : List (Option Job))
       → DepositsBy (state disk) map failed 1 jobs first words last
-      → HasDone of (with_jobs jobs) (with_jobs last) (deposits first words)
+      → HasDone of (with_jobs jobs) (with_jobs last) (deposit_events first words)
   unfolding each
   words_done [] first jobs last is = record {
     acts = [];

@@ -1,4 +1,4 @@
--- What is found in the text of a day.
+-- The parts of the text of a day.
 use Rattle.std.proofs.Common.{◌≡◌, ℕ, ◌+◌, ◌-◌, ◌<◌, ◌≤◌, ◌==◌, true, List, ◌∷◌, length, get_or, refl, sym, ◌∙◌, ap}
 use Rattle.std.proofs.Common.{subst, arith, map, inl, inr, zero, suc, if◌then◌else◌, Option, Some, None, IfNone}
 use Rattle.std.proofs.Common.{Result, Ok, Err, IsOk, is_some, is_ok, false}
@@ -13,7 +13,7 @@ use Rattle.commands.proofs.MadeLaws.{AreParted}
 
 -- Months.
 
--- what tells their names apart, in lower case
+-- what distinguishes their names, in lower case
 abbrev mark : List ℕ → ℕ
 mark text = get_or text 0 0 + get_or text 1 0 + get_or text 2 0
 
@@ -46,7 +46,7 @@ month_value text m n a b =
     ∙ marked (n - 1) behind in
     omega (arith, same, a.first, b.first)
 
--- of the names up to here, a text is none
+-- a text differs from each name up to here
 abbrev pub IsNoMonth : List ℕ → ℕ → Type 0
 IsNoMonth text i = (m : ℕ) → m < i
     → map to_ascii_lowercase text ≡ map to_ascii_lowercase (month_text m) → ⊥
@@ -71,7 +71,7 @@ same_hyphen text before after front back a b =
     (sym b.spelled ∙ a.spelled) in
     (r.0, same_tail r.1)
 
--- what follows the first hyphen has none
+-- the text after the first hyphen has no hyphen
 pub one_hyphen : (text front back first second third : List ℕ) → IsAtHyphen text front back
     → ((before after : List ℕ) → IsAtHyphen back before after → ⊥) → IsHyphened text first second third → ⊥
 one_hyphen text front back first second third at none h =
@@ -106,7 +106,7 @@ same_day a b c year month day y m d (inr p) (inr q) = (
   decimal_value 1 2 1 2 d day a q.day_is p.day_is,
 )
 
--- the parts of a text say no day
+-- the parts of a text name no day
 pub no_day : (text a b c : List ℕ) (n : ℕ) → IsHyphened text a b c
     → ((year month day : ℕ) → AreDayParts a b c year month day → ⊥) → IsDayText text n → ⊥
 no_day text a b c n h none t =
@@ -128,7 +128,7 @@ no_date text a b c year month day n h parts none t =
     none (subst (λ k. IsDate year month k) same.2 (subst (λ k. IsDate year k t.day) same.1
     (subst (λ k. IsDate k t.month t.day) same.0 t.day_of_calendar)))
 
--- what is refused is no date of the calendar
+-- numbers that are refused are no date of the calendar
 pub if_refused : {E P : Type 0} {Q : ℕ → Type 0} (date : Result ℕ E) (found : Option ℕ) → is_some found ≡ is_ok date
     → (P → IsOk date) → ((P → ⊥) → (n : ℕ) → Q n → ⊥) → IfNone found ((n : ℕ) → Q n → ⊥)
 if_refused (Ok d) (Some n) same accepts none = tt

@@ -1,4 +1,4 @@
--- What decimal digits stand for.
+-- The value of decimal digits.
 use Rattle.std.proofs.Common.{◌≡◌, ℕ, ◌+◌, ◌*◌, ◌-◌, ◌^◌, ◌<◌, ◌≤◌, true, List, [], ◌∷◌, ◌++◌, length, take, get_or}
 use Rattle.std.proofs.Common.{refl, sym, ◌∙◌, ap, subst, arith}
 use Rattle.std.proofs.Math.Nat.{pow-succ', mul-le-mul_right, mul_assoc, pow-le-pow_right}
@@ -32,7 +32,7 @@ below_power high (x ∷ xs) a =
     (10 ^ length xs) ∙ ap (λ n. (high + 1) * n) (sym (pow-succ' 10 (length xs))) in
     omega (arith, first, next, same)
 
--- what is read of decimal digits so far
+-- the value of the decimal digits so far
 pub record ReadsDecimal (n : ℕ) (text : List ℕ) : Type 0 where
   pub digits : Are is_digit text
   pub value : n ≡ decimal_after 0 text

@@ -1,4 +1,4 @@
--- What is left of a service and of a writer where a job logs in for one thing.
+-- The state of a service and of a writer after a job logs in for one errand.
 use Rattle.std.proofs.Common.{◌≡◌, ◌⊎◌, ℕ, ◌||◌, Bool, true, false, List, [], Option, None, Some, Result, Ok, Err}
 use Rattle.std.proofs.Common.{refl, sym, ◌∙◌, ap, subst, inl, inr, IfOk, ℤ, ◌≤◌, length, arith}
 use Rattle.std.specs.Prelude.{IsErrOf}
@@ -12,7 +12,8 @@ use Rattle.spec_language.specs.declared.style.Style.{Style}
 use Rattle.spec_machine.specs.declared.call.Reply.{Reply}
 use Rattle.spec_machine.specs.declared.call.Reply.TheVariants.{NoMemory as NoMemoryReply, Failed}
 use Rattle.spec_language.specs.declared.encoding.Encoding.{Encoding}
-use Rattle.commands.specs.Common.{Led, Concludes, fresh, Carries, Performs, Errand, IsUnread, Delivery, Checked}
+use Rattle.commands.specs.Common.{FollowsPlan, FinishesPlan, fresh, Carries, Performs, Errand, IsUnread, Delivery}
+use Rattle.commands.specs.Common.{Checked}
 use Rattle.commands.specs.Common.{TellsMisfit, no_room, Machine, AlwaysStands, HasWords, IsInputReason, words_said}
 use Rattle.commands.specs.Common.{most_bytes, IsTooLong, BeginsNoFile, WritesText, spoken}
 use Rattle.commands.specs.declared.answer.Tally.{Tally}
@@ -21,11 +22,11 @@ use Rattle.commands.specs.declared.reason.Misfit.{Misfit}
 use Rattle.commands.specs.declared.error.SessionError.TheVariants.{Read, NoMemory}
 use Rattle.commands.specs.declared.reason.Misfit.TheVariants.{Excess}
 use Rattle.commands.specs.declared.reason.Reason.TheVariants.{Input}
-use Rattle.commands.proofs.GoingLaws.{goes_nowhere}
+use Rattle.commands.proofs.ActLaws.{goes_nowhere}
 use Rattle.commands.proofs.LedLaws.{led_on, led_still}
 use Rattle.commands.proofs.AnswerLaws.{or-true}
 
--- what was said where nothing was counted before
+-- the outcome if nothing was counted before
 said_spoken : (said : Spoken) (bytes : List ℕ) (tally counted : Tally) → tally ≡ fresh
     → counted.refused ≡ tally.refused || said.refused → counted.broke ≡ tally.broke || said.broke → bytes ≡ said.text
     → said ≡ spoken bytes counted
@@ -45,10 +46,10 @@ told_error : (error : SessionError) → told (Err error) ≡ told (Err NoMemory)
 told_error error e = cc
 
 module _ {V E S : Type 0} (machine : S → Machine) (bytes : V → List ℕ) where
-  -- what was led to comes before its end
+  -- the acts before an end
   pub concluded_behind : (result : Result V E) (a b c : S) (plan rest : Plan) (tally counted : Tally)
-      → Led machine a b plan rest → Concludes bytes result machine b c rest tally counted
-      → Concludes bytes result machine a c plan tally counted
+      → FollowsPlan machine a b plan rest → FinishesPlan bytes result machine b c rest tally counted
+      → FinishesPlan bytes result machine a c plan tally counted
   concluded_behind result a b c plan rest tally counted led p = record {
     said = p.said;
     led = led_on machine a b c plan rest (Say p.said) led p.led;
@@ -59,16 +60,16 @@ module _ {V E S : Type 0} (machine : S → Machine) (bytes : V → List ℕ) whe
   }
 
   pub carried : (result : Result V E) (a b : S) (plan : Plan) (tally counted : Tally) → tally ≡ fresh
-      → Concludes bytes result machine a b plan tally counted → Carries bytes result machine a b plan counted
+      → FinishesPlan bytes result machine a b plan tally counted → Carries bytes result machine a b plan counted
   carried (Ok v) a b plan tally counted none p = (
-    subst (λ (said : Spoken). Led machine a b plan (Say said))
+    subst (λ (said : Spoken). FollowsPlan machine a b plan (Say said))
         (said_spoken p.said (bytes v) tally counted none p.refused p.broke p.text) p.led,
     p.reason ∙ ap (λ (t : Tally). t.reason) none,
   )
   carried (Err error) a b plan tally counted none p = (Say p.said, p.led)
 
   pub carried_behind : (result : Result V E) (a b c : S) (plan rest : Plan) (counted : Tally)
-      → Led machine a b plan rest → Carries bytes result machine b c rest counted
+      → FollowsPlan machine a b plan rest → Carries bytes result machine b c rest counted
       → Carries bytes result machine a c plan counted
   carried_behind (Ok v) a b c plan rest counted led p =
       (led_on machine a b c plan rest (Say (spoken (bytes v) counted)) led p.0, p.1)
@@ -112,13 +113,13 @@ module _ {V E S : Type 0} (machine : S → Machine) (bytes : V → List ℕ) whe
         reason = tt;
       })
 
--- A refusal for which nothing is asked.
+-- A refusal without a call.
 module _ {V E S : Type 0} (machine : S → Machine) (stands : AlwaysStands machine) (bytes : V → List ℕ)
     (result : Result V E) (m : S) (tally counted : Tally) where
   pub refused_reply : (reply : Reply) (words : List ℕ) (broken : Bool) → words ≡ refusal reply
       → broken ≡ is_broken reply → counted.refused ≡ true → counted.broke ≡ tally.broke || broken
       → counted.reason ≡ tally.reason → IfOk result (λ v. bytes v ≡ line words)
-      → Concludes bytes result machine m m (Say (refuses reply)) tally counted
+      → FinishesPlan bytes result machine m m (Say (refuses reply)) tally counted
   refused_reply reply words broken same_words same_broken refused broke reason text = record {
     said = refuses reply;
     led = led_still machine stands m (Say (refuses reply));
@@ -131,7 +132,7 @@ module _ {V E S : Type 0} (machine : S → Machine) (stands : AlwaysStands machi
   pub refused_words : (words : List ℕ) (said : List ℕ) → words ≡ said → counted.refused ≡ true
       → counted.broke ≡ tally.broke || false → counted.reason ≡ tally.reason
       → IfOk result (λ v. bytes v ≡ line words)
-      → Concludes bytes result machine m m (Say (complains said)) tally counted
+      → FinishesPlan bytes result machine m m (Say (complains said)) tally counted
   refused_words words said same refused broke reason text = record {
     said = complains said;
     led = led_still machine stands m (Say (complains said));
@@ -189,7 +190,7 @@ pub tells_excess : (encoding : Encoding) (read : List ℕ) (most : ℕ) → most
     × (IsTooLong encoding read → Some (Input (Excess most)) ≡ Some (Input (Excess (most_bytes encoding))))
 tells_excess encoding read most same long = ((same, long), λ _. ap (λ (n : ℕ). Some (Input (Excess n))) same)
 
--- what an input has that says words, or none
+-- the words of an input, if it spells any
 pub words_are : {V : Type 0} (items : V → List ℕ) (encoding : Encoding) (bytes : List ℕ) (words : Result V Misfit)
     → HasWords items encoding bytes words → AreWords encoding bytes (words_said items words)
 words_are items encoding bytes (Ok words) has = has
@@ -222,7 +223,7 @@ unread_by error (inr memory) = subst (λ (e : SessionError). IsUnread (Err e)) (
 pub memory_unread : IsUnread (Err NoMemory)
 memory_unread = tt
 
--- Directories that were asked for.
+-- Directories that were requested.
 
 pub none_there : (place : Option ℕ) → ((owner : ℕ) → place ≡ Some owner → ⊥) → place ≡ None
 none_there None other = refl
@@ -244,7 +245,7 @@ pub surveyed : {S : Type 0} (machine : S → Machine) (moment : Moment) (style :
 surveyed machine moment style sink full a b shown owners result same p =
     subst (λ (l : List ℕ). Errand sink full machine a b (surveys moment style l) result) same p
 
--- What a volume has.
+-- The line about a volume.
 module _ {V E : Type 0} (machine : Machine) (bytes : V → List ℕ) where
   pub checked_cut : (text : Result V E) (sink full : Option (List ℕ)) (room : ℤ) (error : SessionError)
       → (machine.honest → (s : State) → machine.serves (Serving s) → room ≡ room_in machine.pack s)

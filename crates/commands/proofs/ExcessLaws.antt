@@ -1,4 +1,4 @@
--- How many words an input has, and which inputs are too long.
+-- The number of words in an input, and the inputs that are too long.
 use Rattle.std.proofs.Common.{◌≡◌, ◌↔◌, ◌+◌, ◌*◌, ◌<◌, ◌≤◌, ℕ, List, [], ◌∷◌, length, Some, ap, sym, ◌∙◌, arith}
 use Rattle.words36.specs.Common.{packed, octets_packed}
 use Rattle.spec_language.specs.Common.{AreWords}

@@ -1,11 +1,12 @@
--- What a directory has, and files that are taken out.
+-- The files of a directory, and files that are taken out.
 use Rattle.std.proofs.Common.{◌≡◌, ℕ, List, [], ◌∷◌, ◌++◌, All, Option, Some, None, Result, Ok, Err, IfOk, refl, sym}
 use Rattle.std.proofs.Common.{ap, subst, inl, inr, ◌+◌}
 use Rattle.std.specs.Prelude.{flat_map, MatchResult}
 use Rattle.words36.specs.Common.{word_bytes, IsOctet, IsWord}
 use Rattle.words36.specs.declared.moment.Moment.{Moment}
 use Rattle.spec_language.specs.Common.{AreWords, operator, Act, Asks, Looks, Plan, Show, Say, Leads, blocks_said}
-use Rattle.spec_language.specs.Common.{calls, each, ends, examines, fails, file_words, finds, lists, reads_file}
+use Rattle.spec_language.specs.Common.{call_event, each, ends, examines, fails, file_words, lookup_events, list_events}
+use Rattle.spec_language.specs.Common.{reads_file}
 use Rattle.spec_language.specs.Common.{types_body, until_end, Spoken, file_said, prints, refuses, core_words}
 use Rattle.spec_machine.specs.declared.call.Call.TheVariants.{Reset}
 use Rattle.spec_machine.specs.declared.call.Event.{Event}
@@ -16,14 +17,15 @@ use Rattle.spec_language.specs.declared.command.Spec.{Spec}
 use Rattle.spec_language.specs.declared.encoding.Encoding.{Encoding}
 use Rattle.spec_language.specs.declared.encoding.Encoding.TheVariants.{Words}
 use Rattle.spec_image.specs.declared.entry.Entry.{Entry}
-use Rattle.commands.specs.Common.{AreTyped, HasTyped, Led, Exports, HasBytes, HasEntries, HasExported, HasWordsRead}
+use Rattle.commands.specs.Common.{AreTyped, HasTyped, FollowsPlan, Exports, HasBytes, HasEntries, HasExported}
+use Rattle.commands.specs.Common.{HasWordsRead}
 use Rattle.commands.specs.Common.{IsExport, ComesBack, IsFirstFor, SaysWords, asks_for, entries_answered}
 use Rattle.commands.specs.Common.{AlwaysStands, IsAnswered, IsListed, Machine}
-use Rattle.commands.specs.declared.exporting.Exported.{Exported}
-use Rattle.commands.specs.declared.exporting.Exported.TheVariants.{File, Refused, NotBytes}
-use Rattle.commands.specs.declared.typing.Target.TheVariants.{List as ListTarget}
-use Rattle.commands.specs.declared.typing.Typed.{Typed}
-use Rattle.commands.proofs.GoingLaws.{goes_answered, goes_listed, goes_on}
+use Rattle.commands.specs.declared.export_file.Exported.{Exported}
+use Rattle.commands.specs.declared.export_file.Exported.TheVariants.{File, Refused, NotBytes}
+use Rattle.commands.specs.declared.type_line.Target.TheVariants.{List as ListTarget}
+use Rattle.commands.specs.declared.type_line.Typed.{Typed}
+use Rattle.commands.proofs.ActLaws.{goes_answered, goes_listed, goes_on}
 use Rattle.commands.proofs.InputLaws.{not_both}
 use Rattle.commands.proofs.LedLaws.{led_on, if_other}
 use Rattle.commands.proofs.WordBytes.{one_reading}
@@ -57,16 +59,16 @@ module _ (words : List ℕ) (order : List Encoding) (first second : Encoding) (i
 
 module _ {V E X S : Type 0} (machine : S → Machine) (items : V → List ℕ) (a b c : S) (moment : Moment) (spec : Spec)
     (read : Result X Reply) (before after : Typed)
-    (p : HasTyped machine a b moment (λ next. each moment (finds moment spec ++ lists 128)
+    (p : HasTyped machine a b moment (λ next. each moment (lookup_events moment spec ++ list_events 128)
     (examines moment (file_words + 3) (λ size. types_body moment (blocks_said size) size
     (λ words. until_end moment (next words))))) read before after)
-    (closed : (said : Spoken) → Led machine b c (ends moment said) (Say said)) where
+    (closed : (said : Spoken) → FollowsPlan machine b c (ends moment said) (Say said)) where
   pub words_out : (x : X) (result : Result V E) → read ≡ Ok x → AreTyped ListTarget before []
       → ((words : List ℕ) → AreTyped ListTarget after words → IfOk result (λ v. items v ≡ words))
       → HasWordsRead items (Ok result) machine a c (reads_file moment Words spec)
   words_out x result e fresh kept =
       let q = subst (λ (r : Result X Reply). HasTyped machine a b moment (λ next. each moment
-      (finds moment spec ++ lists 128) (examines moment (file_words + 3) (λ size. types_body moment (blocks_said size)
+      (lookup_events moment spec ++ list_events 128) (examines moment (file_words + 3) (λ size. types_body moment (blocks_said size)
       size (λ words. until_end moment (next words))))) r before after) e p in
       record {
         said = file_said Words q.words;
@@ -85,7 +87,7 @@ module _ {V E X S : Type 0} (machine : S → Machine) (items : V → List ℕ) (
       → HasWordsRead {V = V} {E = E} items (Err reply) machine a c (reads_file moment Words spec)
   words_refused reply e =
       let q = subst (λ (r : Result X Reply). HasTyped machine a b moment (λ next. each moment
-      (finds moment spec ++ lists 128) (examines moment (file_words + 3) (λ size. types_body moment (blocks_said size)
+      (lookup_events moment spec ++ list_events 128) (examines moment (file_words + 3) (λ size. types_body moment (blocks_said size)
       size (λ words. until_end moment (next words))))) r before after) e p in
       record {
         said = refuses reply;
@@ -97,8 +99,8 @@ module _ {V E X S : Type 0} (machine : S → Machine) (items : V → List ℕ) (
 -- Files that are taken out.
 
 module _ {V E S : Type 0} (machine : S → Machine) (items : V → List ℕ) (a b c : S) (plan : Plan) where
-  -- what was led to comes before its end
-  pub read_behind : (rest : Plan) (result : Result (Result V E) Reply) → Led machine a b plan rest
+  -- the acts before an end
+  pub read_behind : (rest : Plan) (result : Result (Result V E) Reply) → FollowsPlan machine a b plan rest
       → HasWordsRead items result machine b c rest → HasWordsRead items result machine a c plan
   read_behind rest result led p = record {
     said = p.said;
@@ -106,8 +108,8 @@ module _ {V E S : Type 0} (machine : S → Machine) (items : V → List ℕ) (a 
     says = p.says;
   }
 
-  pub not_begun : (moment : Moment) (reply : Reply) → Led machine a b plan (fails moment reply)
-      → Led machine b c (ends moment (refuses reply)) (Say (refuses reply))
+  pub not_begun : (moment : Moment) (reply : Reply) → FollowsPlan machine a b plan (fails moment reply)
+      → FollowsPlan machine b c (ends moment (refuses reply)) (Say (refuses reply))
       → HasWordsRead {V = V} {E = E} items (Err reply) machine a c plan
   not_begun moment reply led closed = record {
     said = refuses reply;
@@ -121,7 +123,7 @@ module _ {V E F S : Type 0} (machine : S → Machine) (items : V → List ℕ) (
       → All IsWord (items v) → HasWordsRead {E = E} items (Ok (Ok v)) machine a b plan
       → HasExported machine a b asked mode plan result
   exported v result is fit p =
-      let led = subst (λ (said : Spoken). Led machine a b plan (Say said)) p.says p.led in
+      let led = subst (λ (said : Spoken). FollowsPlan machine a b plan (Say said)) p.says p.led in
       record { acts = led.acts; goes = led.goes; exports = by result is led.acts led.leads }
     where
       by : (r : Result Exported F) → IfOk r (IsExport asked mode (items v)) → (acts : List Act)
@@ -138,18 +140,18 @@ module _ {V E F S : Type 0} (machine : S → Machine) (items : V → List ℕ) (
   pub no_memory : (error : F) (wanted : E) → HasWordsRead {V = V} items (Ok (Err wanted)) machine a b plan
       → HasExported machine a b asked mode plan (Err error)
   no_memory error wanted p =
-      let led = subst (λ (said : Spoken). Led machine a b plan (Say said)) p.says.1 p.led in
+      let led = subst (λ (said : Spoken). FollowsPlan machine a b plan (Say said)) p.says.1 p.led in
       record { acts = led.acts; goes = led.goes; exports = (p.says.0, led.leads) }
 
   pub not_exported : (reply : Reply) → HasWordsRead {V = V} {E = E} items (Err reply) machine a b plan
       → HasExported {E = F} machine a b asked mode plan (Ok (Refused reply))
   not_exported reply p =
-      let led = subst (λ (said : Spoken). Led machine a b plan (Say said)) p.says p.led in
+      let led = subst (λ (said : Spoken). FollowsPlan machine a b plan (Say said)) p.says p.led in
       record { acts = led.acts; goes = led.goes; exports = led.leads }
 
 -- all channels are closed by one act
 one_reset : (moment : Moment) (said : Spoken) (acts : List Act) → Leads (ends moment said) acts (Say said)
-    → (reset : Reply) × (acts ≡ Asks (calls moment Reset) reset ∷ [])
+    → (reset : Reply) × (acts ≡ Asks (call_event moment Reset) reset ∷ [])
 one_reset moment said [] p = let wrong = p in cc
 one_reset moment said (Asks asked reply ∷ []) p = (reply, ap (λ (e : Event). Asks e reply ∷ []) p.0)
 one_reset moment said (Asks asked reply ∷ (act ∷ acts)) p = absurd p.1
@@ -157,9 +159,9 @@ one_reset moment said (Looks owner answer ∷ acts) p = absurd p
 
 -- The files of a directory.
 module _ {V S : Type 0} (machine : S → Machine) (stands : AlwaysStands machine) (entries : V → List Entry)
-    (a b c : S) (moment : Moment) (who owner : ℕ) (is : who ≡ operator) where
+    (a b c : S) (moment : Moment) (user owner : ℕ) (is : user ≡ operator) where
   pub entries_are : (reply : Reply) (result : Result V Reply) → reply ≡ Done
-      → IsAnswered (machine a) (machine b) (Login 1 who core_words) reply
+      → IsAnswered (machine a) (machine b) (Login 1 user core_words) reply
       → MatchResult result (λ v. IsListed (machine b) (machine c) 1 owner (Ok (entries v)))
       (λ refused. IsListed (machine b) (machine c) 1 owner (Err refused))
       → HasEntries entries machine a c moment owner result
@@ -191,8 +193,8 @@ module _ {V S : Type 0} (machine : S → Machine) (stands : AlwaysStands machine
       asked_done moment owner answer next = (refl, (refl, refl))
 
   pub no_entries : (reply : Reply) → (reply ≡ Done → ⊥)
-      → IsAnswered (machine a) (machine b) (Login 1 who core_words) reply
-      → Led machine b c (ends moment (refuses reply)) (Say (refuses reply))
+      → IsAnswered (machine a) (machine b) (Login 1 user core_words) reply
+      → FollowsPlan machine b c (ends moment (refuses reply)) (Say (refuses reply))
       → HasEntries {V = V} entries machine a c moment owner (Err reply)
   unfolding each
   no_entries reply other answered closed =

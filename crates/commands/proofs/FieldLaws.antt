@@ -55,7 +55,7 @@ mark_stops text n mark h = stops_at (is_other_than mark) text n (λ l. not_other
 pub gap_stops : (text : List ℕ) (n : ℕ) → (n < length text → get_or text n 0 ≢ 32) → Stops is_space (drop n text)
 gap_stops text n h = stops_at is_space text n (λ l. not_same (get_or text n 0) 32 (h l))
 
--- A field, and spaces behind it.
+-- A field, and spaces after it.
 
 is_one_field : (text : List ℕ) → 0 < length text → Are is_visible text → IsField text
 is_one_field text some visible = record { some = some; visible = visible }
@@ -74,7 +74,7 @@ are_at is [] i h a = absurd (omega arith)
 are_at is (c ∷ cs) zero h a = a.0
 are_at is (c ∷ cs) (suc i) h a = are_at is cs i (omega arith) a.1
 
--- A text whose first word has n bytes, and the gap behind it m.
+-- A text whose first word has n bytes, and the gap after it m.
 pub record IsSplit (text word behind gap argument : List ℕ) : Type 0 where
   pub whole : text ≡ word ++ behind
   pub visible : Are is_visible word
@@ -130,7 +130,7 @@ fields_first g [] text a = subst (λ (l : List ℕ). Stops is_space l × (0 < le
 fields_first g (h ∷ hs) text a = subst (λ (l : List ℕ). Stops is_space l × (0 < length l)) (sym a.4)
     (field_first g (32 ∷ (a.1 ++ a.3)) a.0)
 
--- What begins with a field begins with the word that was found.
+-- A text that begins with a field begins with the word that was found.
 pub record IsFirst (word gap rest one : List ℕ) (more : List (List ℕ)) : Type 0 where
   pub some : 0 < length word
   pub is : one ≡ word

@@ -1,15 +1,15 @@
--- Plans behind a label, and files that are made of bytes in memory.
+-- Plans after a label, and files that are made of bytes in memory.
 use Rattle.std.proofs.Common.{◌≡◌, ◌≤◌, ℕ, List, [], ◌∷◌, ◌++◌, Option, Result, Ok, Err, IfOk, length, refl, ap, inl}
 use Rattle.std.proofs.Common.{inr, subst, sym}
 use Rattle.std.proofs.KnownBytes.{Appends-nil}
-use Rattle.spec_language.specs.Common.{AreWords, Act, Asks, Looks, Plan, Ask, Show, Say, Leads, Conducts, Spoken}
+use Rattle.spec_language.specs.Common.{AreWords, Act, Asks, Looks, Plan, Ask, Show, Say, Leads, RunsPlan, Spoken}
 use Rattle.spec_language.specs.declared.encoding.Encoding.{Encoding}
-use Rattle.commands.specs.Common.{Concludes, Errand, Performs, TellsMisfit, no_room, Imported, labels, said_behind}
+use Rattle.commands.specs.Common.{FinishesPlan, Errand, Performs, TellsMisfit, no_room, Imported, labels, said_behind}
 use Rattle.commands.specs.Common.{AlwaysStands, Machine, IsTooLong, most_bytes}
 use Rattle.commands.specs.declared.answer.Tally.{Tally}
 use Rattle.commands.specs.declared.error.SessionError.{SessionError}
 use Rattle.commands.specs.declared.error.SessionError.TheVariants.{NoMemory}
-use Rattle.commands.proofs.GoingLaws.{goes_nowhere}
+use Rattle.commands.proofs.ActLaws.{goes_nowhere}
 
 leads_labelled : (label : List ℕ) (plan rest : Plan) (acts : List Act) → Leads plan acts rest
     → Leads (labels label plan) acts (labels label rest)
@@ -22,10 +22,10 @@ leads_labelled label (Show owner next) rest (Looks shown answer ∷ acts) p =
     (p.0, leads_labelled label (next answer) rest acts p.1)
 leads_labelled label (Say said) rest (act ∷ acts) p = absurd p
 
--- what is said behind a label is what the plan says
+-- the text after a label is that of the plan
 pub unlabelled : (label : List ℕ) (plan : Plan) (acts : List Act) (said : Spoken)
-    → Conducts (labels label plan) acts said
-    → (inner : Spoken) × Conducts plan acts inner × (said ≡ said_behind label inner)
+    → RunsPlan (labels label plan) acts said
+    → (inner : Spoken) × RunsPlan plan acts inner × (said ≡ said_behind label inner)
 unlabelled label (Ask event next) [] said p = let wrong = p in cc
 unlabelled label (Ask event next) (Asks asked reply ∷ acts) said p =
     let more = unlabelled label (next reply) acts said p.1 in (more.0, (p.0, more.1), more.2)
@@ -41,8 +41,8 @@ module _ {V E S : Type 0} (machine : S → Machine) (bytes : V → List ℕ) (la
     (tally counted : Tally) where
   -- there was no memory for the text
   pub label_lost : (result line : Result V E) (error : E) → line ≡ Err error
-      → Concludes bytes result machine a b plan tally counted
-      → Concludes bytes line machine a b (labels label plan) tally counted
+      → FinishesPlan bytes result machine a b plan tally counted
+      → FinishesPlan bytes line machine a b (labels label plan) tally counted
   label_lost result line error none p = record {
     said = said_behind label p.said;
     led = record {
@@ -57,8 +57,8 @@ module _ {V E S : Type 0} (machine : S → Machine) (bytes : V → List ℕ) (la
   }
 
   pub labelled : (text : V) (line : Result V E) → IfOk line (λ v. bytes v ≡ label ++ bytes text)
-      → Concludes {E = E} bytes (Ok text) machine a b plan tally counted
-      → Concludes bytes line machine a b (labels label plan) tally counted
+      → FinishesPlan {E = E} bytes (Ok text) machine a b plan tally counted
+      → FinishesPlan bytes line machine a b (labels label plan) tally counted
   labelled text line put p = record {
     said = said_behind label p.said;
     led = record {

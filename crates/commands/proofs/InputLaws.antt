@@ -1,4 +1,4 @@
--- Inputs that are read piece by piece, and where that stops.
+-- Inputs that are read piece by piece, and the place at which that stops.
 use Rattle.std.proofs.Common.{◌⊎◌, ◌<◌, ◌≤◌, ℕ, Bool, List, [], ◌∷◌, ◌++◌, Some, None, subst, inl, inr, append-nil}
 use Rattle.std.proofs.Common.{arith}
 use Rattle.spec_language.specs.Common.{is_character, AreWords, Are}
@@ -14,7 +14,7 @@ are_back : (is : ℕ → Bool) (xs ys : List ℕ) → Are is (xs ++ ys) → Are 
 are_back is [] ys a = a
 are_back is (x ∷ xs) ys a = are_back is xs ys a.1
 
--- where a piece has a byte that is no character, no file begins so
+-- if a piece has a byte that is no character, no file begins with it
 pub begins_none : (piece : List ℕ) → (Are is_character piece → ⊥) → (before : List ℕ)
     → BeginsNoFile Characters (before ++ piece)
 begins_none piece none before more =

@@ -1,4 +1,4 @@
--- Plans that are led on by what a service answers.
+-- Plans that are led by the answers of a service.
 use Rattle.std.proofs.Common.{◌≡◌, ◌≢◌, ℕ, ◌+◌, ◌<◌, ◌≤◌, List, [], ◌∷◌, ◌++◌, length, take, drop, get_or, refl, sym}
 use Rattle.std.proofs.Common.{◌∙◌, ap, subst, append_assoc, append-nil, arith}
 use Rattle.std.proofs.lemmas.List.{take_more, take_all, take-append-drop}
@@ -11,8 +11,8 @@ use Rattle.spec_machine.specs.declared.call.Reply.TheVariants.{NoJob, NoMemory, 
 use Rattle.spec_machine.specs.declared.call.Call.TheVariants.{Reset}
 use Rattle.spec_machine.specs.declared.call.Event.{Event}
 use Rattle.spec_machine.specs.declared.call.Event.TheVariants.{Examine, Call as Calls}
-use Rattle.commands.specs.Common.{Led, HasDone, Machine, AlwaysStands, IsAnswered, GoesBy}
-use Rattle.commands.proofs.GoingLaws.{goes_nowhere, goes_on, goes_answered}
+use Rattle.commands.specs.Common.{FollowsPlan, HasDone, Machine, AlwaysStands, IsAnswered, GoesBy}
+use Rattle.commands.proofs.ActLaws.{goes_nowhere, goes_on, goes_answered}
 
 pub leads_on : (plan mid rest : Plan) (acts more : List Act) → Leads plan acts mid → Leads mid more rest
     → Leads plan (acts ++ more) rest
@@ -32,7 +32,7 @@ each_append moment [] more next = refl
 each_append moment (event ∷ events) more next = ap (λ (p : Plan). Ask event (if_done moment p))
     (each_append moment events more next)
 
--- what comes behind a reply that is not Done, and behind one that is no word
+-- the rest after a reply that is not Done, and after one that is no word
 pub if_other : (moment : Moment) (next : Plan) (reply : Reply) → reply ≢ Done
     → if_done moment next reply ≡ fails moment reply
 if_other moment next Done h = absurd (h refl)
@@ -88,8 +88,8 @@ unfolding each
 none_left moment events acts next p = p
 
 module _ {S : Type 0} (machine : S → Machine) where
-  pub led_on : (a b c : S) (plan mid rest : Plan) → Led machine a b plan mid → Led machine b c mid rest
-      → Led machine a c plan rest
+  pub led_on : (a b c : S) (plan mid rest : Plan) → FollowsPlan machine a b plan mid → FollowsPlan machine b c mid rest
+      → FollowsPlan machine a c plan rest
   led_on a b c plan mid rest p q = record {
     acts = p.acts ++ q.acts;
     goes = goes_on machine a b c p.acts q.acts p.goes q.goes;
@@ -97,11 +97,11 @@ module _ {S : Type 0} (machine : S → Machine) where
   }
 
   module _ (stands : AlwaysStands machine) where
-    pub led_still : (a : S) (plan : Plan) → Led machine a a plan plan
+    pub led_still : (a : S) (plan : Plan) → FollowsPlan machine a a plan plan
     led_still a plan = record { acts = []; goes = goes_nowhere machine stands a; leads = refl }
 
     pub led_asked : (a b : S) (event : Event) (reply : Reply) (next : Reply → Plan)
-        → IsAnswered (machine a) (machine b) event reply → Led machine a b (Ask event next) (next reply)
+        → IsAnswered (machine a) (machine b) event reply → FollowsPlan machine a b (Ask event next) (next reply)
     led_asked a b event reply next answered =
         record {
           acts = Asks event reply ∷ [];
@@ -143,7 +143,7 @@ module _ {S : Type 0} (machine : S → Machine) where
       }
 
       pub asked_until : reply ≢ Done → (moment : Moment) (next : Plan)
-          → Led machine a c (each moment events next) (fails moment reply)
+          → FollowsPlan machine a c (each moment events next) (fails moment reply)
       asked_until other moment next = record {
         acts = p.acts ++ Asks item reply ∷ [];
         goes = goes;
@@ -158,7 +158,7 @@ module _ {S : Type 0} (machine : S → Machine) where
       }
 
     pub asked_all : (a b : S) (events : List Event) (i : ℕ) → length events ≤ i → HasDone machine a b (take i events)
-        → (moment : Moment) (next : Plan) → Led machine a b (each moment events next) next
+        → (moment : Moment) (next : Plan) → FollowsPlan machine a b (each moment events next) next
     asked_all a b events i h p moment next =
         let q = subst (λ l. HasDone machine a b l) (take_all i events h) p in
         record {
@@ -170,28 +170,28 @@ module _ {S : Type 0} (machine : S → Machine) where
 
     -- events that were all done
     pub led_done : (a b : S) (events : List Event) → HasDone machine a b events → (moment : Moment) (next : Plan)
-        → Led machine a b (each moment events next) next
+        → FollowsPlan machine a b (each moment events next) next
     led_done a b events p = asked_all a b events (length events) (omega arith)
         (subst (HasDone machine a b) (sym (take_all (length events) events (omega arith))) p)
 
-    -- a word that is told, and another reply
+    -- a word that is returned, and another reply
     pub led_told : (a b : S) (address : ℕ) (reply : Reply) (word : ℕ) (moment : Moment) (next : ℕ → Plan)
         → reply ≡ Value word → IsAnswered (machine a) (machine b) (Examine 1 address) reply
-        → Led machine a b (examines moment address next) (next word)
+        → FollowsPlan machine a b (examines moment address next) (next word)
     led_told a b address reply word moment next is answered =
-        subst (λ (p : Plan). Led machine a b (examines moment address next) p) (ap (if_told moment next) is)
+        subst (λ (p : Plan). FollowsPlan machine a b (examines moment address next) p) (ap (if_told moment next) is)
         (led_asked a b (Examine 1 address) reply (if_told moment next) answered)
 
     pub led_untold : (a b : S) (address : ℕ) (reply : Reply) (moment : Moment) (next : ℕ → Plan)
         → ((word : ℕ) → reply ≡ Value word → ⊥) → IsAnswered (machine a) (machine b) (Examine 1 address) reply
-        → Led machine a b (examines moment address next) (fails moment reply)
+        → FollowsPlan machine a b (examines moment address next) (fails moment reply)
     led_untold a b address reply moment next other answered =
-        subst (λ (p : Plan). Led machine a b (examines moment address next) p) (if_untold moment next reply other)
+        subst (λ (p : Plan). FollowsPlan machine a b (examines moment address next) p) (if_untold moment next reply other)
         (led_asked a b (Examine 1 address) reply (if_told moment next) answered)
 
     -- all channels are closed
     pub led_reset : (a b : S) (moment : Moment) (answer : Reply) (said : Spoken)
         → IsAnswered (machine a) (machine b) (Calls 1 Reset moment) answer
-        → Led machine a b (ends moment said) (Say said)
+        → FollowsPlan machine a b (ends moment said) (Say said)
     led_reset a b moment answer said answered = led_asked a b (Calls 1 Reset moment) answer (λ reply. Say said)
         answered

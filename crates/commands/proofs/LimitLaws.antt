@@ -1,4 +1,4 @@
--- What is found in a line that gives a quota: QUOTA [p,n] N.
+-- The parts of a line that gives a quota: QUOTA [p,n] N.
 use Rattle.std.proofs.Common.{◌≡◌, ◌≢◌, ℕ, ◌<◌, nat_eq, not, Bool, true, false, List, [], ◌∷◌, ◌++◌, length, refl}
 use Rattle.std.proofs.Common.{sym, ◌∙◌, ap, subst, Option, Some, None, IfSome, IfNone, arith}
 use Rattle.std.specs.Prelude.{◌==◌, codes}
@@ -11,7 +11,7 @@ use Rattle.spec_image.proofs.Common.{same_head, same_tail}
 use Rattle.commands.specs.Common.{is_other_than, IsBehind}
 use Rattle.commands.proofs.FieldLaws.{IsSplit, not_same, one_gap, not_blank}
 use Rattle.commands.proofs.MadeLaws.{AreParted}
-use Rattle.commands.proofs.SayingLaws.{differ, agree}
+use Rattle.commands.proofs.SpokenLaws.{differ, agree}
 use Rattle.spec_machine.proofs.Common.{not_false}
 
 -- Two texts that were compared.

@@ -1,11 +1,11 @@
--- What is kept of a line is the line.
+-- The stored bytes of a line are the line.
 use Rattle.std.proofs.Common.{◌≡◌, ◌≢◌, ℕ, ◌<◌, ◌≤◌, ◌==◌, Bool, true, false, cond, List, [], ◌∷◌, ◌++◌, length, map}
 use Rattle.std.proofs.Common.{refl, sym, ◌∙◌, ap, arith}
 use Rattle.std.proofs.lemmas.Bool.Decides.{nat_tests}
 use Rattle.spec_language.specs.Common.{Line, TooLong, without_return, line_of, fitting, upper}
 use Rattle.commands.specs.Common.{KeepsLine, text_line}
 
--- A return in the place of the last byte.
+-- A return as the last byte.
 
 upper-return : (b : ℕ) → b ≢ 13 → upper b ≢ 13
 upper-return b h = grind (arith, nat_tests)

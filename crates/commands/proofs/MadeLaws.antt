@@ -1,4 +1,4 @@
--- What is found in [p,n]<PROT> and in SPEC<PROT>.
+-- The parts of [p,n]<PROT> and of SPEC<PROT>.
 use Rattle.std.proofs.Common.{◌≡◌, ℕ, ◌^◌, ◌<◌, ◌≤◌, List, [], ◌∷◌, ◌++◌, length, take, drop, get_or, refl, sym, ◌∙◌}
 use Rattle.std.proofs.Common.{subst, Option, Some, None, IfNone, arith}
 use Rattle.std.proofs.Math.Nat.{pow-le-pow_right}
@@ -40,7 +40,7 @@ pub none_in_angles : (found : Option ℕ) (text inner : List ℕ) → text ≡ 6
 none_in_angles (Some m) text inner e none = tt
 none_in_angles None text inner e none = λ n. no_number text inner n e none
 
--- nothing, or that
+-- an empty text, or <PROT>
 
 pub protection_angled : (text : List ℕ) (n : ℕ) → IsAngled text n → IsProtection text n
 protection_angled [] n a = cc a.spelled
@@ -59,7 +59,7 @@ pub protection_fits : (text : List ℕ) (n : ℕ) → IsProtection text n → n 
 protection_fits [] n a = omega (arith, a)
 protection_fits (c ∷ cs) n a = number_fits a.digits n a.number
 
--- A text, and its parts at the first of a mark.
+-- A text, and its parts at the first mark.
 pub record AreParted (mark : ℕ) (text front back : List ℕ) : Type 0 where
   pub whole : text ≡ front ++ back
   pub plain : Are (is_other_than mark) front

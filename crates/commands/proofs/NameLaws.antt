@@ -20,7 +20,7 @@ is_long [] = false
 is_long (Bytes text ∷ ls) = false
 is_long (TooLong ∷ ls) = true
 
--- the bytes of a line that there is
+-- the bytes of a line, if there is one
 pub name_bytes : (text t : List ℕ) → Bytes t ∷ [] ≡ fitting text text → t ≡ map upper text
 unfolding first_bytes bytes_in is_long
 name_bytes text t e = by (nat_lt 255 (length text)) refl e
@@ -45,7 +45,7 @@ short_name text name ext is =
     short_extension [] ext is = omega arith
     short_extension (c ∷ cs) ext is = let few = is.1 in omega arith
 
--- what stands between 1 and 255 bytes is a line of bytes
+-- a text of 1 to 255 bytes is a line of bytes
 fits : (text : List ℕ) → 0 < length text → length text ≤ 255 → (t : List ℕ) × (fitting text text ≡ Bytes t ∷ [])
 fits text some few =
     let short : nat_lt 255 (length text) ≡ false = grind (arith, nat_tests) in
@@ -63,7 +63,7 @@ named_fits text name ext is =
     let long : length (map upper text) ≡ length text = length-map text upper in
     fits text (omega arith) (omega arith)
 
--- where there is no line, or one that is too long, no file is named
+-- if there is no line, or one that is too long, no file is named
 pub no_name : (text : List ℕ) → [] ≡ fitting text text → (name ext : ℕ) → IsFileName (map upper text) name ext → ⊥
 no_name text e name ext is =
     let q = named_fits text name ext is in

@@ -1,5 +1,5 @@
--- A file that job 1 puts if there is none of its name: the name is looked up, and the file is put from where that
--- leaves the job.
+-- A file that job 1 puts if there is none of its name: the name is looked up, and the file is put from the job that
+-- this leaves.
 use Rattle.std.proofs.Common.{◌≡◌, ◌≢◌, ◌⊎◌, inl, inr, ⊎_elim, ℕ, ◌+◌, ◌*◌, ◌^◌, ◌<◌, ◌||◌, Bool, true, false}
 use Rattle.std.proofs.Common.{if◌then◌else◌, List, [], ◌∷◌, ◌++◌, length, Option, Some, None, refl, sym, ap, subst}
 use Rattle.std.proofs.Common.{◌∙◌, arith, zero, suc, nat_eq}
@@ -11,14 +11,16 @@ use Rattle.std.proofs.lemmas.List.{get_or-set_other}
 use Rattle.words36.specs.Common.{join}
 use Rattle.words36.specs.declared.moment.Moment.{Moment}
 use Rattle.spec_language.specs.Common.{Comes, HasHalfwordExtension, IsLineRefused, IsPut, made, place_of, put_mode}
-use Rattle.spec_language.specs.Common.{creates, fills_all, parts_of, Plan, Ask, asks_open, calls, each, ends, fails}
-use Rattle.spec_language.specs.Common.{file_words, names, ok, open_words, Spoken, core_words}
+use Rattle.spec_language.specs.Common.{create_events, fills_all, parts_of, Plan, Ask, open_events, call_event, each}
+use Rattle.spec_language.specs.Common.{ends, fails}
+use Rattle.spec_language.specs.Common.{file_words, name_events, ok, open_words, Spoken, core_words}
 use Rattle.spec_machine.specs.Common.{after_writes, first_free, lies_outside, placed, rings_begin, with_right}
-use Rattle.spec_machine.specs.Common.{Channel, Job, State, channel_at, job_at, with_job, digit_at, directory_digit_at}
+use Rattle.spec_machine.specs.Common.{Channel, SpecJob, State, channel_at, job_at, with_job, digit_at}
+use Rattle.spec_machine.specs.Common.{directory_digit_at}
 use Rattle.spec_machine.specs.Common.{has_no_directory, is_absent, lookup, lookup_answer, lookup_done, place_at, disk}
 use Rattle.spec_machine.specs.Common.{dump_mode, refused_at, settled, may_look, may_read, Answers, Broken, Service}
 use Rattle.spec_machine.specs.Common.{Serving, Steps, new_job, call_of, last_date, of_job, on_channel, on_job}
-use Rattle.spec_image.specs.Common.{File, Place, Version, file_at, Pack}
+use Rattle.spec_image.specs.Common.{File, Place, SpecVersion, file_at, Pack}
 use Rattle.spec_machine.specs.declared.call.Call.TheVariants.{Close, Lookup}
 use Rattle.spec_machine.specs.declared.call.Event.{Event}
 use Rattle.spec_machine.specs.declared.call.Event.TheVariants.{Login}
@@ -42,13 +44,13 @@ use Rattle.commands.specs.Common.{absent, if_absent, keeps_new, looks_for, IsFre
 abbrev logged : State → ℕ → State
 logged s me = with_job s 1 (new_job me core_words)
 
--- What comes before the LOOKUP.
+-- The events before the LOOKUP.
 
 quiet_looks : (moment : Moment) (spec : Spec) → AllByRecursion IsQuiet (looks_for moment spec)
 quiet_looks moment spec = (tt, (tt, (tt, (tt, (tt, (tt, (tt, (tt, tt))))))))
 
--- the job that is going to look a file up
-abbrev seeking : Job → Spec → Job
+-- the job that will look a file up
+abbrev seeking : SpecJob → Spec → SpecJob
 seeking j spec = naming (with_open (with_core j (opening j)) 1 open_channel) file_words spec
 
 abbrev named_words : Spec → List ℕ
@@ -57,21 +59,21 @@ named_words spec = spec.name.name ∷ join spec.name.ext 0 ∷ 0 * 2 ^ 27 ∷ un
 abbrev dump_words : List ℕ
 dump_words = dump_mode ∷ disk ∷ 0 ∷ []
 
-opened_job : (me : ℕ) (j : Job) → IsJob me j → IsJob me (with_core j (opening j))
+opened_job : (me : ℕ) (j : SpecJob) → IsJob me j → IsJob me (with_core j (opening j))
 opened_job me j is = job_core me j (opening j) is (writes_length j.core (placed open_words dump_words))
 
-seeking_job : (me : ℕ) (j : Job) (spec : Spec) → IsJob me j → IsJob me (seeking j spec)
+seeking_job : (me : ℕ) (j : SpecJob) (spec : Spec) → IsJob me j → IsJob me (seeking j spec)
 seeking_job me j spec is =
     let j1 = with_open (with_core j (opening j)) 1 open_channel in
     job_core me j1 (after_writes j1.core (placed file_words (named_words spec)))
     (job_open me (with_core j (opening j)) 1 open_channel (opened_job me j is))
     (writes_length j1.core (placed file_words (named_words spec)))
 
-seeking_free : (j : Job) (spec : Spec) → slice_index (seeking j spec).core first_free ≡ slice_index j.core first_free
+seeking_free : (j : SpecJob) (spec : Spec) → slice_index (seeking j spec).core first_free ≡ slice_index j.core first_free
 seeking_free j spec = spared (opening j) file_words (named_words spec) first_free (inr (omega arith))
     ∙ spared j.core open_words dump_words first_free (inr (omega arith))
 
--- A LOOKUP that is refused for want of the file.
+-- A LOOKUP that is refused because there is no file.
 
 not_late : (late : Bool) (s t : State) (r : Reply × State) → (if late then (DateRange, s) else r) ≡ (Refused 0, t)
     → r ≡ (Refused 0, t)
@@ -99,14 +101,14 @@ last_answer : (b : Bool) → (if b then Refused 2 else Done) ≢ Refused 0
 last_answer true e = cc
 last_answer false e = cc
 
-free_name : (name : ℕ) (found : Option Version) → (name == 0 || is_none found) ≡ true → (name ≡ 0) ⊎ (found ≡ None)
+free_name : (name : ℕ) (found : Option SpecVersion) → (name == 0 || is_none found) ≡ true → (name ≡ 0) ⊎ (found ≡ None)
 free_name zero found e = inl refl
 free_name (suc name) None e = inr refl
 free_name (suc name) (Some v) e =
     let other : nat_eq (suc name) 0 ≡ false = grind (arith, nat_tests) in
     let wrong : false ≡ true = sym (ap (λ (b : Bool). b || false) other) ∙ e in cc
 
-missing : (s : State) (j : Job) (c : Channel) (e : ℕ) (place : Place) → lookup_answer s j c e place ≡ Refused 0
+missing : (s : State) (j : SpecJob) (c : Channel) (e : ℕ) (place : Place) → lookup_answer s j c e place ≡ Refused 0
     → (place.name.name == 0 || is_absent s place) ≡ true
 missing s j c e place is =
     let a = passed (lies_outside j.core e 4) AddressCheck _ (λ w. cc) is in
@@ -115,22 +117,22 @@ missing s j c e place is =
     let f = passed (not (may_look (directory_digit_at s j place))) (Refused 2) _ (λ w. cc) d in
     stopped_at (place.name.name == 0 || is_absent s place) _ (last_answer (not (may_read (digit_at s j place)))) f
 
-module _ (pack : Pack) (s : State) (j0 : Job) (there : job_at s 1 ≡ Some j0) (moment : Moment) (me : ℕ) where
-  seeks_done : (j : Job) (spec : Spec) (t : State) → IsJob me j → AllDone pack (at s j) (looks_for moment spec) t
+module _ (pack : Pack) (s : State) (j0 : SpecJob) (there : job_at s 1 ≡ Some j0) (moment : Moment) (me : ℕ) where
+  seeks_done : (j : SpecJob) (spec : Spec) (t : State) → IsJob me j → AllDone pack (at s j) (looks_for moment spec) t
       → t ≡ at s (seeking j spec)
   seeks_done j spec t is all =
-      let both = split_done pack (at s j) (asks_open moment 1) (names file_words spec 0) t all in
+      let both = split_done pack (at s j) (open_events moment 1) (name_events file_words spec 0) t all in
       let j1 = with_open (with_core j (opening j)) 1 open_channel in
       let first = opens_done pack s j0 there moment me j 1 both.0 is both.1 in
       deposits_done pack s j0 there (named_words spec) j1 file_words t
-      (subst (λ u. AllDone pack u (names file_words spec 0) t) first both.2)
+      (subst (λ u. AllDone pack u (name_events file_words spec 0) t) first both.2)
 
-  -- what is left of the job: the refusal's code is in its core
-  abbrev missed : Job → Spec → Job
+  -- the state of the job: the refusal's code is in its core
+  abbrev missed : SpecJob → Spec → SpecJob
   missed j spec = refused_at (seeking j spec) file_words (Refused 0)
 
-  misses : (j : Job) (spec : Spec) (t : State) → IsJob me j → HasHalfwordExtension spec
-      → Steps pack (at s (seeking j spec)) (calls moment (Lookup 1 file_words)) (Refused 0) t
+  misses : (j : SpecJob) (spec : Spec) (t : State) → IsJob me j → HasHalfwordExtension spec
+      → Steps pack (at s (seeking j spec)) (call_event moment (Lookup 1 file_words)) (Refused 0) t
       → (t ≡ at s (missed j spec)) × IsFree me s spec
   misses j spec t is few (serial, fresh, e) =
       let j1 = with_open (with_core j (opening j)) 1 open_channel in
@@ -145,7 +147,7 @@ module _ (pack : Pack) (s : State) (j0 : Job) (there : job_at s 1 ≡ Some j0) (
       by j2 t own (place_named me j1 file_words spec
       (job_open me (with_core j (opening j)) 1 open_channel (opened_job me j is)) few (omega arith))
     where
-      by : (j2 : Job) (t : State)
+      by : (j2 : SpecJob) (t : State)
           → of_job (at s j2) 1 (settled (lookup_answer (at s j2) j2 open_channel file_words (place_at j2 file_words))
           (lookup_done pack (at s j2) j2 1 open_channel file_words (place_at j2 file_words)) (refused_at j2 file_words))
           ≡ (Refused 0, t) → place_at j2 file_words ≡ place_of me spec
@@ -163,35 +165,35 @@ module _ (pack : Pack) (s : State) (j0 : Job) (there : job_at s 1 ≡ Some j0) (
                 (subst (λ p. lookup_answer (at s j2) j2 open_channel file_words p ≡ Refused 0) place d.0)),
           )
 
-  missed_job : (j : Job) (spec : Spec) → IsJob me j → IsJob me (missed j spec)
+  missed_job : (j : SpecJob) (spec : Spec) → IsJob me j → IsJob me (missed j spec)
   missed_job j spec is =
       let j2 = seeking j spec in
       job_core me j2 (with_right j2.core (file_words + 1) 0) (seeking_job me j spec is)
       (length-set j2.core (file_words + 1) _)
 
-  missed_free : (j : Job) (spec : Spec) → slice_index (missed j spec).core first_free ≡ slice_index j.core first_free
+  missed_free : (j : SpecJob) (spec : Spec) → slice_index (missed j spec).core first_free ≡ slice_index j.core first_free
   missed_free j spec = get_or-set_other (seeking j spec).core (file_words + 1) first_free _ 0 (λ e. cc)
       ∙ seeking_free j spec
 
--- From the job of which the file was missed it is put.
+-- The file is put from the job that missed it.
 
 abbrev put_then : Moment → Encoding → Spec → List ℕ → Plan
-put_then moment encoding spec words = each moment (creates moment encoding spec)
-    (fills_all moment encoding words (each moment (calls moment (Close 2 0) ∷ []) (ends moment ok)))
+put_then moment encoding spec words = each moment (create_events moment encoding spec)
+    (fills_all moment encoding words (each moment (call_event moment (Close 2 0) ∷ []) (ends moment ok)))
 
-module _ (pack : Pack) (s : State) (j0 : Job) (there : job_at s 1 ≡ Some j0) (moment : Moment) (me : ℕ)
+module _ (pack : Pack) (s : State) (j0 : SpecJob) (there : job_at s 1 ≡ Some j0) (moment : Moment) (me : ℕ)
     (spec : Spec) (few : HasHalfwordExtension spec) (words : List ℕ) (said : Spoken) (new : Service) where
   abbrev here : Encoding → File
   here encoding = made s.files (place_of me spec) (put_mode encoding) moment []
 
   abbrev closing : Plan
-  closing = each moment (calls moment (Close 2 0) ∷ []) (ends moment ok)
+  closing = each moment (call_event moment (Close 2 0) ∷ []) (ends moment ok)
 
   abbrev fills : Encoding → Plan
   fills encoding = fills_all moment encoding words closing
 
-  put_by : (encoding : Encoding) (j : Job) (t : State) → IsJob me j → slice_index j.core first_free ≡ rings_begin
-      → AllDone pack (at s j) (creates moment encoding spec) t
+  put_by : (encoding : Encoding) (j : SpecJob) (t : State) → IsJob me j → slice_index j.core first_free ≡ rings_begin
+      → AllDone pack (at s j) (create_events moment encoding spec) t
       → Comes pack (Serving t) (fills encoding) said new
       → IsPut moment me s encoding spec words said new ⊎ IsLineRefused s.files said new
   put_by Words j t is free all rest =
@@ -220,12 +222,12 @@ module _ (pack : Pack) (s : State) (j0 : Job) (there : job_at s 1 ≡ Some j0) (
       (parts_of Characters (length words)) 0 [] words closing said new b.0 refl b.3 (λ some. refl)
       (subst (λ u. Comes pack (Serving u) (fills Characters) said new) b.2 rest))
 
-  put_from : (encoding : Encoding) (j : Job) → IsJob me j → slice_index j.core first_free ≡ rings_begin
+  put_from : (encoding : Encoding) (j : SpecJob) → IsJob me j → slice_index j.core first_free ≡ rings_begin
       → Comes pack (Serving (at s j)) (put_then moment encoding spec words) said new
       → IsPut moment me s encoding spec words said new ⊎ IsLineRefused s.files said new
   put_from encoding j is free come = ⊎_elim inr
       (λ (t, all, same, rest). put_by encoding j t is free all rest)
-      (each_done pack (at s j) moment (creates moment encoding spec) (fills encoding) said new
+      (each_done pack (at s j) moment (create_events moment encoding spec) (fills encoding) said new
       (quiet_creates moment encoding spec) come)
 
   -- the reply to the LOOKUP says that there is no such file, or the line is refused
@@ -252,25 +254,25 @@ module _ (pack : Pack) (s : State) (j0 : Job) (there : job_at s 1 ≡ Some j0) (
   refused_steps u event (Serving t) (inl steps) = (t, refl, steps)
   refused_steps u event (Serving t) (inr none) = let wrong = none.0 in cc
 
-  sought : (encoding : Encoding) (j : Job) → IsJob me j → slice_index j.core first_free ≡ rings_begin
-      → Comes pack (Serving (at s (seeking j spec))) (Ask (calls moment (Lookup 1 file_words))
+  sought : (encoding : Encoding) (j : SpecJob) → IsJob me j → slice_index j.core first_free ≡ rings_begin
+      → Comes pack (Serving (at s (seeking j spec))) (Ask (call_event moment (Lookup 1 file_words))
       (if_absent moment (put_then moment encoding spec words))) said new
       → (IsPut moment me s encoding spec words said new × IsFree me s spec) ⊎ IsLineRefused s.files said new
   sought encoding j is free come =
-      by (asked pack (Serving (at s (seeking j spec))) (calls moment (Lookup 1 file_words)) (if_absent moment next) said
+      by (asked pack (Serving (at s (seeking j spec))) (call_event moment (Lookup 1 file_words)) (if_absent moment next) said
       new come)
     where
       next : Plan
       next = put_then moment encoding spec words
 
       by : ((reply : Reply) × (mid : Service)
-          × Answers pack (Serving (at s (seeking j spec))) (calls moment (Lookup 1 file_words)) reply mid
+          × Answers pack (Serving (at s (seeking j spec))) (call_event moment (Lookup 1 file_words)) reply mid
           × Comes pack mid (if_absent moment next reply) said new)
           → (IsPut moment me s encoding spec words said new × IsFree me s spec) ⊎ IsLineRefused s.files said new
       by (reply, mid, answers, more) = ⊎_elim
           (λ none.
-          let st = refused_steps (at s (seeking j spec)) (calls moment (Lookup 1 file_words)) mid
-          (subst (λ r. Answers pack (Serving (at s (seeking j spec))) (calls moment (Lookup 1 file_words)) r mid) none
+          let st = refused_steps (at s (seeking j spec)) (call_event moment (Lookup 1 file_words)) mid
+          (subst (λ r. Answers pack (Serving (at s (seeking j spec))) (call_event moment (Lookup 1 file_words)) r mid) none
           answers) in
           let m = misses pack s j0 there moment me j spec st.0 is few st.2 in
           let rest = subst (λ (p : Plan). Comes pack (Serving st.0) p said new) (ap (if_absent moment next) none)
@@ -280,21 +282,21 @@ module _ (pack : Pack) (s : State) (j0 : Job) (there : job_at s 1 ≡ Some j0) (
           (missed_free pack s j0 there moment me j spec ∙ free)
           (subst (λ (u : State). Comes pack (Serving u) next said new) m.0 rest)))
           (λ (other, is). inr (failed pack s.files mid moment other said new
-          (answered_files pack (at s (seeking j spec)) (calls moment (Lookup 1 file_words)) reply mid
-          (λ t steps. quiet_files pack (at s (seeking j spec)) (calls moment (Lookup 1 file_words)) reply t tt steps)
+          (answered_files pack (at s (seeking j spec)) (call_event moment (Lookup 1 file_words)) reply mid
+          (λ t steps. quiet_files pack (at s (seeking j spec)) (call_event moment (Lookup 1 file_words)) reply t tt steps)
           answers)
           (subst (λ (p : Plan). Comes pack mid p said new) is more)))
           (reply_says next reply)
 
-  looked_for : (encoding : Encoding) (j : Job) → IsJob me j → slice_index j.core first_free ≡ rings_begin
+  looked_for : (encoding : Encoding) (j : SpecJob) → IsJob me j → slice_index j.core first_free ≡ rings_begin
       → Comes pack (Serving (at s j)) (absent moment spec (put_then moment encoding spec words)) said new
       → (IsPut moment me s encoding spec words said new × IsFree me s spec) ⊎ IsLineRefused s.files said new
   looked_for encoding j is free come = ⊎_elim inr
       (λ (t, all, same, rest). sought encoding j is free (subst (λ (u : State). Comes pack (Serving u)
-      (Ask (calls moment (Lookup 1 file_words)) (if_absent moment (put_then moment encoding spec words))) said new)
+      (Ask (call_event moment (Lookup 1 file_words)) (if_absent moment (put_then moment encoding spec words))) said new)
       (seeks_done pack s j0 there moment me j spec t is all) rest))
       (each_done pack (at s j) moment (looks_for moment spec)
-      (Ask (calls moment (Lookup 1 file_words)) (if_absent moment (put_then moment encoding spec words))) said new
+      (Ask (call_event moment (Lookup 1 file_words)) (if_absent moment (put_then moment encoding spec words))) said new
       (quiet_looks moment spec) come)
 
 pub new_puts_are_exact : (pack : Pack) (moment : Moment) (me : ℕ) (s : State) (encoding : Encoding) (spec : Spec)
@@ -311,7 +313,7 @@ new_puts_are_exact pack moment me s encoding spec words said new there few come 
     base : State
     base = logged s me
 
-    j0 : Job
+    j0 : SpecJob
     j0 = new_job me core_words
 
     there0 : job_at base 1 ≡ Some j0

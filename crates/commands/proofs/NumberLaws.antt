@@ -1,4 +1,4 @@
--- What digits stand for, and what is found in [p,n].
+-- The value of octal digits, and the parts of [p,n].
 use Rattle.std.proofs.Common.{◌≡◌, ℕ, ◌+◌, ◌*◌, ◌-◌, ◌^◌, ◌<◌, ◌≤◌, true, List, [], ◌∷◌, ◌++◌, length, take, get_or}
 use Rattle.std.proofs.Common.{refl, sym, Option, Some, None, IfSome, IfNone, IsSome, ◌∙◌, ap, subst, arith}
 use Rattle.std.proofs.Math.Nat.{pow-succ', mul-le-mul_right, mul_assoc, pow-le-pow_right}
@@ -33,7 +33,7 @@ below_power high (x ∷ xs) a =
     (8 ^ length xs) ∙ ap (λ n. (high + 1) * n) (sym (pow-succ' 8 (length xs))) in
     omega (arith, first, next, same)
 
--- what is read of digits so far
+-- the value of the digits so far
 pub record Reads (n : ℕ) (text : List ℕ) : Type 0 where
   pub digits : Are is_octal text
   pub value : n ≡ octal text
@@ -71,7 +71,7 @@ same_value most n m text a b = a.value ∙ sym b.value
 
 -- p,n
 
--- a text with a comma has no stretch without one
+-- a text with a comma isn't a text without one
 pub no_comma : (text : List ℕ) (most p : ℕ) → Are (other_than 44) text → IsPair most text p → ⊥
 no_comma text most p a s = absurd (wrong s.before s.behind (subst (Are (other_than 44)) s.spelled a))
   where
@@ -133,7 +133,7 @@ pub bracketed_inner : (text inner : List ℕ) (p : ℕ) → text ≡ 91 ∷ (inn
 bracketed_inner text inner p e s = subst (λ (l : List ℕ). IsPair 6 l p)
     (same_but_last 93 s.pair inner (same_tail (sym s.spelled ∙ e))) s.named
 
--- Where the two numbers make a project and a programmer, they are the pair.
+-- If the two numbers make a project and a programmer, they are the pair.
 
 pub if_none : {X : Type 0} (found : Option X) (P : Type 0) → P → IfNone found P
 if_none (Some x) P p = tt

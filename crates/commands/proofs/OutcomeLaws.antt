@@ -7,9 +7,9 @@ use Rattle.std.specs.declared.alloc.AllocError.{AllocError}
 use Rattle.words36.specs.Common.{word_bytes, IsWord}
 use Rattle.words36.specs.declared.moment.Moment.{Moment}
 use Rattle.spec_language.specs.Common.{AreShort, HasFiles, IsLineRefused, IsPrinted, HasHalfwordExtension}
-use Rattle.spec_language.specs.Common.{IsRefusedAt, AreWords, gets, keeps, operator, unfit, Act, Say, Conducts, ok}
+use Rattle.spec_language.specs.Common.{IsRefusedAt, AreWords, gets, keeps, operator, unfit, Act, Say, RunsPlan, ok}
 use Rattle.spec_language.specs.Common.{Spoken, complains, prints, refuses, Went}
-use Rattle.spec_image.specs.Common.{Files, Version, Pack}
+use Rattle.spec_image.specs.Common.{Files, SpecVersion, Pack}
 use Rattle.spec_machine.specs.Common.{State, Service, Serving}
 use Rattle.spec_machine.specs.declared.call.Reply.{Reply}
 use Rattle.spec_language.specs.declared.command.Spec.{Spec}
@@ -19,17 +19,17 @@ use Rattle.spec_language.proofs.Common.{put_refusals, get_refusals, puts_are_exa
 use Rattle.commands.specs.Common.{Machine, keeps_new, no_room, Exports, ExportsWords, takes_out, said_behind}
 use Rattle.commands.specs.Common.{IsStored, IsStoredNew, DeliveriesKeepFiles, DeliveriesMakeFiles, ErrandsShowFiles}
 use Rattle.commands.specs.Common.{AreReadOf, ExportsShowFiles, ImportsMakeFiles, IsExportOf, BeginsNoFile, spoken}
-use Rattle.commands.specs.declared.exporting.Exported.{Exported}
-use Rattle.commands.specs.declared.exporting.Exported.TheVariants.{File, Refused, NotBytes}
-use Rattle.commands.proofs.GoingLaws.{acts_went}
+use Rattle.commands.specs.declared.export_file.Exported.{Exported}
+use Rattle.commands.specs.declared.export_file.Exported.TheVariants.{File, Refused, NotBytes}
+use Rattle.commands.proofs.ActLaws.{acts_went}
 use Rattle.commands.proofs.ImportLaws.{unlabelled}
 use Rattle.commands.proofs.InputLaws.{no_file, not_both}
 use Rattle.commands.proofs.NewRuns.{new_puts_are_exact}
 use Rattle.commands.proofs.WordBytes.{words_same}
 
--- nothing is asked where the input is no file's
+-- no call is made if the input can't be a file
 complained : (pack : Pack) (s : State) (acts : List Act) (text : List ℕ) (said : Spoken) (last : Service)
-    → Conducts (Say (complains text)) acts said → Went pack (Serving s) acts last
+    → RunsPlan (Say (complains text)) acts said → Went pack (Serving s) acts last
     → IsTrue said.refused × HasFiles s.files last × (said ≡ complains text)
 complained pack s [] text said last led went =
     let e : said ≡ complains text = let f = led in cc in
@@ -42,7 +42,7 @@ not_refused : (said other : Spoken) → IsTrue said.refused → said ≡ other �
 not_refused said other refused e is =
     let wrong : true ≡ false = sym refused ∙ ap (λ (x : Spoken). x.refused) e ∙ is in cc
 
-says_refused : (files : Files Version) (said : Spoken) (last : Service) → IsLineRefused files said last
+says_refused : (files : Files SpecVersion) (said : Spoken) (last : Service) → IsLineRefused files said last
     → IsTrue said.refused
 says_refused files said last refused = ap (λ (x : Spoken). x.refused) refused.0.1
 
@@ -55,7 +55,7 @@ whole encoding read words are (inr none) = absurd (not_both encoding read words 
 delivered : (pack : Pack) (s : State) (moment : Moment) (me : ℕ) (encoding : Encoding) (spec : Spec) (at_end : Type 0)
     (read : List ℕ) (words : Option (List ℕ)) (acts : List Act) (said : Spoken) (last : Service) → 1 < length s.jobs
     → HasHalfwordExtension spec → at_end ⊎ BeginsNoFile encoding read
-    → AreWords encoding read words → Conducts (keeps moment me encoding spec words) acts said
+    → AreWords encoding read words → RunsPlan (keeps moment me encoding spec words) acts said
     → Went pack (Serving s) acts last → IsStored moment me s encoding spec at_end read acts said last
 delivered pack s moment me encoding spec at_end read None acts said last there few ended are led went =
     let c = complained pack s acts (unfit encoding) said last led went in
@@ -71,11 +71,11 @@ delivered pack s moment me encoding spec at_end read (Some words) acts said last
     ))
     (puts_are_exact pack moment me s encoding spec words said last there few (acts, led, went))
 
--- the same of a file that is put only if its name is free
+-- the same for a file that is put only if its name is free
 delivered_new : (pack : Pack) (s : State) (moment : Moment) (me : ℕ) (encoding : Encoding) (spec : Spec)
     (at_end : Type 0) (read : List ℕ) (words : Option (List ℕ)) (acts : List Act) (said : Spoken) (last : Service)
     → 1 < length s.jobs → HasHalfwordExtension spec → at_end ⊎ BeginsNoFile encoding read
-    → AreWords encoding read words → Conducts (keeps_new moment me encoding spec words) acts said
+    → AreWords encoding read words → RunsPlan (keeps_new moment me encoding spec words) acts said
     → Went pack (Serving s) acts last → IsStoredNew moment me s encoding spec at_end read said last
 delivered_new pack s moment me encoding spec at_end read None acts said last there few ended are led went =
     let c = complained pack s acts (unfit encoding) said last led went in
@@ -85,10 +85,10 @@ delivered_new pack s moment me encoding spec at_end read (Some words) acts said 
     (λ refused. inr (says_refused s.files said last refused, refused.1))
     (new_puts_are_exact pack moment me s encoding spec words said last there few (acts, led, went))
 
--- the same of a file that is got
+-- the same for a file that is got
 got : (pack : Pack) (s : State) (moment : Moment) (me : ℕ) (encoding : Encoding) (spec : Spec) (acts : List Act)
     (said : Spoken) (last : Service) → 1 < length s.jobs → HasHalfwordExtension spec → AreShort s.files
-    → Conducts (gets moment me encoding spec) acts said → Went pack (Serving s) acts last
+    → RunsPlan (gets moment me encoding spec) acts said → Went pack (Serving s) acts last
     → IsPrinted me s encoding spec said last ⊎ (IsLineRefused s.files said last × IsRefusedAt moment acts said)
 got pack s moment me encoding spec acts said last there few short led went = ⊎_elim inl
     (λ refused. inr (
@@ -100,7 +100,7 @@ got pack s moment me encoding spec acts said last there few short led went = ⊎
     ))
     (gets_are_exact pack moment me s encoding spec said last there few short (acts, led, went))
 
--- words that are printed as a body is
+-- words that are printed in the same way as a body
 read_of : (body words : List ℕ) → All IsWord words
     → prints (flat_map word_bytes words) ≡ prints (flat_map word_bytes body) → AreReadOf body words
 read_of body words fit is =
@@ -111,7 +111,7 @@ read_of body words fit is =
       same = λ fits. words_same words body fit fits printed;
     }
 
--- the same of a file that is taken out
+-- the same for a file that is taken out
 module _ (pack : Pack) (s : State) (moment : Moment) (asked : Option Encoding) (mode : ℕ) (spec : Spec)
     (acts : List Act) (last : Service) (there : 1 < length s.jobs) (few : HasHalfwordExtension spec)
     (short : AreShort s.files) (went : Went pack (Serving s) acts last) where
@@ -135,7 +135,7 @@ module _ (pack : Pack) (s : State) (moment : Moment) (asked : Option Encoding) (
       (λ refused. absurd (not_refused said said (says_refused s.files said last refused.0) refl refl))
       (got pack s moment operator Words spec acts said last there few short led went)
 
-  refused_out : (reply : Reply) → Conducts (takes_out moment spec) acts (refuses reply) → IsOut (Refused reply)
+  refused_out : (reply : Reply) → RunsPlan (takes_out moment spec) acts (refuses reply) → IsOut (Refused reply)
   refused_out reply led = ⊎_elim
       (λ printed. absurd (no_reply Words printed.0.0.file.body reply (sym printed.0.2)))
       (λ refused. (refused.0.1, inr (reply, refl, refused.1)))

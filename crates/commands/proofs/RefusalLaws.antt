@@ -1,17 +1,18 @@
--- Lines with their numbers, which of them are refused, and what is counted of them.
+-- Lines with their numbers, which of them are refused, and their tally.
 use Rattle.std.proofs.Common.{◌≡◌, ℕ, ◌+◌, ◌-◌, ◌^◌, ◌==◌, min, Bool, true, false, cond, List, [], ◌∷◌, ◌++◌, length}
 use Rattle.std.proofs.Common.{map, refl, sym, ◌∙◌, ap, subst, arith, append_assoc, append-nil, inl, inr, Option, Some}
 use Rattle.words36.specs.declared.moment.Moment.{Moment}
 use Rattle.spec_language.specs.Common.{Line, without_return, fitting, Act, Spoken, both_said, silent}
-use Rattle.commands.specs.Common.{LineSays, capped, feeds, numbered_after, numbered, mark, reason_of, counts, HeardIn}
-use Rattle.commands.specs.Common.{Hears, HasNoFeed, AreWholeLines, IsNumberedTranscript}
+use Rattle.commands.specs.Common.{LineSays, capped, feeds, numbered_after, numbered, mark, reason_of, counts}
+use Rattle.commands.specs.Common.{IsParsedLine}
+use Rattle.commands.specs.Common.{LineActs, HasNoFeed, AreWholeLines, IsNumberedTranscript}
 use Rattle.commands.specs.declared.language.Language.{Language}
 use Rattle.commands.specs.declared.reason.Reason.{Reason}
 use Rattle.commands.specs.declared.reason.Reason.TheVariants.{Lines}
-use Rattle.commands.specs.declared.run.Heard.{Heard}
-use Rattle.commands.specs.declared.run.Heard.TheVariants.{Nothing, Said, Ordered}
+use Rattle.commands.specs.declared.run.ParsedLine.{ParsedLine}
+use Rattle.commands.specs.declared.run.ParsedLine.TheVariants.{NoLine, CommandLine, EventLine}
 use Rattle.commands.proofs.SplitLaws.{unless}
-use Rattle.commands.proofs.TranscriptLaws.{heard_line, joined-silent, joined_assoc, joined-end}
+use Rattle.commands.proofs.TranscriptLaws.{parsed_line, joined-silent, joined_assoc, joined-end}
 
 -- The numbers of lines.
 
@@ -88,7 +89,7 @@ no_feeds (b ∷ bs) h =
     let none : cond (b == 10) one zero ≡ zero = unless (b == 10) one zero h.0 in
     omega (arith, none, no_feeds bs h.1)
 
--- a line feed more
+-- one more line feed
 pub feeds_fed : (read front seen : List ℕ) (b : ℕ) → b ≡ 10 → read ≡ front ++ seen → HasNoFeed seen
     → feeds (read ++ b ∷ []) ≡ feeds front + 1
 feeds_fed read front seen b feed parted unended =
@@ -100,24 +101,24 @@ feeds_fed read front seen b feed parted unended =
 -- Transcripts.
 
 module _ (language : Language) (moment : Moment) where
-  pub refusals_on : (who : Option ℕ) (lines more : List (ℕ × Line)) (acts next : List Act) (said here : Spoken)
+  pub refusals_on : (user : Option ℕ) (lines more : List (ℕ × Line)) (acts next : List Act) (said here : Spoken)
       (mid after : Option ℕ) (refused later : List ℕ)
-      → IsNumberedTranscript language moment who lines acts said mid refused
+      → IsNumberedTranscript language moment user lines acts said mid refused
       → IsNumberedTranscript language moment mid more next here after later
-      → IsNumberedTranscript language moment who (lines ++ more) (acts ++ next) (both_said said here) after
+      → IsNumberedTranscript language moment user (lines ++ more) (acts ++ next) (both_said said here) after
       (refused ++ later)
-  refusals_on who [] more acts next said here mid after refused later p q =
-      let w : mid ≡ who = p.2 in
+  refusals_on user [] more acts next said here mid after refused later p q =
+      let w : mid ≡ user = p.2 in
       let a : next ≡ acts ++ next = ap (λ (l : List Act). l ++ next) (sym p.0) in
       let s : here ≡ both_said said here = joined-silent said here p.1 in
       let r : later ≡ refused ++ later = ap (λ (l : List ℕ). l ++ later) (sym p.3) in
-      subst (λ (v : List ℕ). IsNumberedTranscript language moment who more (acts ++ next) (both_said said here) after v)
+      subst (λ (v : List ℕ). IsNumberedTranscript language moment user more (acts ++ next) (both_said said here) after v)
       r
       (subst (λ (v : Option ℕ). IsNumberedTranscript language moment v more (acts ++ next) (both_said said here) after
       later) w
       (subst (λ (v : Spoken). IsNumberedTranscript language moment mid more (acts ++ next) v after later) s
       (subst (λ (l : List Act). IsNumberedTranscript language moment mid more l here after later) a q)))
-  refusals_on who (line ∷ lines) more acts next said here mid after refused later p q = (
+  refusals_on user (line ∷ lines) more acts next said here mid after refused later p q = (
     p.0,
     p.1 ++ next,
     p.2,
@@ -131,10 +132,10 @@ module _ (language : Language) (moment : Moment) where
     ap (λ (l : List ℕ). l ++ later) p.10 ∙ append_assoc (mark p.2.refused line.0) p.5 later,
   )
 
-  refusal_one : (who : Option ℕ) (n : ℕ) (line : Line) (acts : List Act) (said : Spoken) (after : Option ℕ)
-      → LineSays language moment who line acts said after
-      → IsNumberedTranscript language moment who ((n, line) ∷ []) acts said after (mark said.refused n)
-  refusal_one who n line acts said after p = (
+  refusal_one : (user : Option ℕ) (n : ℕ) (line : Line) (acts : List Act) (said : Spoken) (after : Option ℕ)
+      → LineSays language moment user line acts said after
+      → IsNumberedTranscript language moment user ((n, line) ∷ []) acts said after (mark said.refused n)
+  refusal_one user n line acts said after p = (
     acts,
     [],
     said,
@@ -148,26 +149,26 @@ module _ (language : Language) (moment : Moment) where
     sym (append-nil (mark said.refused n)),
   )
 
-  nothing_heard : (who : Option ℕ) (n : ℕ) (acts : List Act) (said : Spoken) (after : Option ℕ)
-      → Hears moment who Nothing acts said after
-      → IsNumberedTranscript language moment who [] acts said after (mark said.refused n)
-  nothing_heard who n acts said after p = (p.0, p.1, p.2, ap (λ (v : Spoken). mark v.refused n) p.1)
+  no_line : (user : Option ℕ) (n : ℕ) (acts : List Act) (said : Spoken) (after : Option ℕ)
+      → LineActs moment user NoLine acts said after
+      → IsNumberedTranscript language moment user [] acts said after (mark said.refused n)
+  no_line user n acts said after p = (p.0, p.1, p.2, ap (λ (v : Spoken). mark v.refused n) p.1)
 
-  -- what was heard is what the lines of a number say
-  pub refusals_heard : (who : Option ℕ) (n : ℕ) (lines : List Line) (heard : Heard) (acts : List Act) (said : Spoken)
-      (after : Option ℕ) → HeardIn language moment lines heard → Hears moment who heard acts said after
-      → IsNumberedTranscript language moment who (with_number n lines) acts said after (mark said.refused n)
-  refusals_heard who n [] heard acts said after h p =
-      nothing_heard who n acts said after (subst (λ (x : Heard). Hears moment who x acts said after) h p)
-  refusals_heard who n (line ∷ lines) Nothing acts said after h p = absurd h
-  refusals_heard who n (line ∷ lines) (Said meant) acts said after h p =
-      let l = heard_line language moment who (line ∷ lines) (Said meant) acts said after (λ e. cc) h p in
-      subst (λ (m : List Line). IsNumberedTranscript language moment who (with_number n m) acts said after
-      (mark said.refused n)) (sym l.2) (refusal_one who n l.0 acts said after l.1)
-  refusals_heard who n (line ∷ lines) (Ordered order) acts said after h p =
-      let l = heard_line language moment who (line ∷ lines) (Ordered order) acts said after (λ e. cc) h p in
-      subst (λ (m : List Line). IsNumberedTranscript language moment who (with_number n m) acts said after
-      (mark said.refused n)) (sym l.2) (refusal_one who n l.0 acts said after l.1)
+  -- the parsed line is the one that has the number
+  pub refusals_parsed : (user : Option ℕ) (n : ℕ) (lines : List Line) (parsed : ParsedLine) (acts : List Act) (said : Spoken)
+      (after : Option ℕ) → IsParsedLine language moment lines parsed → LineActs moment user parsed acts said after
+      → IsNumberedTranscript language moment user (with_number n lines) acts said after (mark said.refused n)
+  refusals_parsed user n [] parsed acts said after h p =
+      no_line user n acts said after (subst (λ (x : ParsedLine). LineActs moment user x acts said after) h p)
+  refusals_parsed user n (line ∷ lines) NoLine acts said after h p = absurd h
+  refusals_parsed user n (line ∷ lines) (CommandLine meant) acts said after h p =
+      let l = parsed_line language moment user (line ∷ lines) (CommandLine meant) acts said after (λ e. cc) h p in
+      subst (λ (m : List Line). IsNumberedTranscript language moment user (with_number n m) acts said after
+      (mark said.refused n)) (sym l.2) (refusal_one user n l.0 acts said after l.1)
+  refusals_parsed user n (line ∷ lines) (EventLine order) acts said after h p =
+      let l = parsed_line language moment user (line ∷ lines) (EventLine order) acts said after (λ e. cc) h p in
+      subst (λ (m : List Line). IsNumberedTranscript language moment user (with_number n m) acts said after
+      (mark said.refused n)) (sym l.2) (refusal_one user n l.0 acts said after l.1)
 
 -- Counting.
 
@@ -178,7 +179,7 @@ length-more : (xs : List ℕ) (n : ℕ) → length (xs ++ n ∷ []) ≡ length x
 length-more [] n = refl
 length-more (x ∷ xs) n = omega (arith, length-more xs n)
 
--- one line more is counted
+-- one more line is counted
 pub reason_more : (refused : List ℕ) (n : ℕ) (more : Bool) (reason : Option Reason) → reason ≡ reason_of refused
     → counts reason (capped n) more ≡ reason_of (refused ++ mark more n)
 reason_more refused n false reason e = e ∙ ap reason_of (sym (append-nil refused))

@@ -1,4 +1,4 @@
--- What names a file, and what is found in it.
+-- Texts that name a file, and their parts.
 use Rattle.std.proofs.Common.{◌≡◌, ℕ, ◌<◌, ◌≤◌, true, false, List, [], ◌∷◌, ◌++◌, length, get_or, append_assoc, ◌==◌}
 use Rattle.std.proofs.Common.{not, Bool, refl, sym, ◌∙◌, ap, subst, Option, Some, None, IsSome, IfNone, arith, zero}
 use Rattle.std.proofs.Common.{suc}
@@ -30,7 +30,7 @@ pub not_letters : (text : List ℕ) (i : ℕ) → i < length text → false ≡ 
     → false ≡ true
 not_letters text i h e a = e ∙ are_at is_letter text i h a
 
--- what is there is not missing
+-- a value that was found isn't missing
 pub is_there : {X : Type 0} (found : Option X) (P : Type 0) → IsSome found → IfNone found P
 is_there (Some x) P e = tt
 is_there None P e = cc
@@ -59,7 +59,7 @@ file_parts text front back name ext parted f =
     (sym parted.whole ∙ f.spelled) in
     (subst (λ l. IsName l name) (sym r.0) f.named, subst (λ l. IsExtension l ext) (sym r.1) f.extended)
 
--- A file's name with whose it is, and its parts at the first bracket.
+-- A file's name with its owner, and its parts at the first bracket.
 
 extension_plain : (text : List ℕ) (ext : ℕ) → IsExtension text ext → Are (is_other_than 91) text
 extension_plain [] ext a = tt
@@ -115,7 +115,7 @@ specs_are text front behind back first to from parted e a b =
           ∙ ap (λ l. front ++ l) (e ∙ ap (λ c. c ∷ back) mark);
     }
 
--- the second begins behind the sign
+-- the second begins after the sign
 pub record AreSides (front behind : List ℕ) (to from : Spec) : Type 0 where
   pub rest : List ℕ
   pub begun : behind ≡ 61 ∷ rest

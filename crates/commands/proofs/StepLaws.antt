@@ -5,13 +5,14 @@ use Rattle.std.proofs.Common.{None, ◌⊎◌, Result, Ok, Err, IfErr, IfOk, OnO
 use Rattle.std.proofs.lemmas.List.{take-append-drop, take_more, take_all}
 use Rattle.std.proofs.KnownBytes.{Appends-nil, Appends-trans}
 use Rattle.words36.specs.declared.moment.Moment.{Moment}
-use Rattle.spec_language.specs.Common.{Line, without_return, fitting, lines, Spoken, silent, Act, Asks, calls}
+use Rattle.spec_language.specs.Common.{Line, without_return, fitting, lines, Spoken, silent, Act, Asks, call_event}
 use Rattle.spec_language.specs.declared.command.Command.{Command}
 use Rattle.spec_machine.specs.declared.call.Reply.{Reply}
 use Rattle.commands.specs.Common.{IsPartialLine, is_other_than, Machine, AlwaysStands, IsAnswered, fresh, capped}
 use Rattle.commands.specs.Common.{counts, feeds, mark, numbered, IsServedTranscript, IsNumberedTranscript, spoken}
-use Rattle.commands.specs.Common.{AreWholeLines, HeardIn, Hears, Replied, AddsText, IsFlushed, IsBreak, Told, Closed}
-use Rattle.commands.specs.Common.{SoFar, StepsOn, BreaksOff, EndsWell, Spoke}
+use Rattle.commands.specs.Common.{AreWholeLines, IsParsedLine, LineActs, LineDone, AddsText, IsFlushed, IsBreak}
+use Rattle.commands.specs.Common.{ReplyWritten, Closed}
+use Rattle.commands.specs.Common.{SoFar, StepsOn, BreaksOff, EndsWell, CommandDone}
 use Rattle.spec_machine.specs.declared.call.Call.TheVariants.{Reset}
 use Rattle.spec_machine.specs.declared.call.Event.{Event}
 use Rattle.spec_machine.specs.declared.call.Event.TheVariants.{Call as Calls}
@@ -21,37 +22,37 @@ use Rattle.commands.specs.declared.answer.Tally.{Tally}
 use Rattle.commands.specs.declared.input.PartialLine.{PartialLine}
 use Rattle.commands.specs.declared.language.Language.{Language}
 use Rattle.commands.specs.declared.language.Language.TheVariants.{Commands, Events}
-use Rattle.commands.specs.declared.run.Heard.{Heard}
-use Rattle.commands.specs.declared.run.Heard.TheVariants.{Nothing, Said, Ordered}
-use Rattle.commands.specs.declared.run.Talk.{Talk}
+use Rattle.commands.specs.declared.run.ParsedLine.{ParsedLine}
+use Rattle.commands.specs.declared.run.ParsedLine.TheVariants.{NoLine, CommandLine, EventLine}
+use Rattle.commands.specs.declared.run.SessionState.{SessionState}
 use Rattle.spec_language.proofs.Common.{are_append}
 use Rattle.commands.proofs.FieldLaws.{is_other}
-use Rattle.commands.proofs.GoingLaws.{goes_nowhere, goes_on, goes_answered}
+use Rattle.commands.proofs.ActLaws.{goes_nowhere, goes_on, goes_answered}
 use Rattle.commands.proofs.RefusalLaws.{with_number, numbered_fed, numbered_ended, feeds_fed, refusals_on}
-use Rattle.commands.proofs.RefusalLaws.{refusals_heard, capped_more, reason_more}
+use Rattle.commands.proofs.RefusalLaws.{refusals_parsed, capped_more, reason_more}
 use Rattle.commands.proofs.SplitLaws.{lines_fed, lines_ended}
-use Rattle.commands.proofs.TranscriptLaws.{transcript_on, transcript_heard, heard_line, spoken_more, or-false}
-use Rattle.commands.proofs.WaitingLaws.{adds_flushed, adds_unwritten, said_on, waits_on}
+use Rattle.commands.proofs.TranscriptLaws.{transcript_on, transcript_parsed, parsed_line, spoken_more, or-false}
+use Rattle.commands.proofs.OutputLaws.{adds_flushed, adds_unwritten, said_on, waits_on}
 use Rattle.spec_machine.specs.declared.call.Call.TheVariants as played
 
 -- Steps one after another.
 
 pub steps_none : {S : Type 0} (language : Language) (machine : S
-    → Machine) (stands : AlwaysStands machine) (m : S) (sink : Option (List ℕ)) (moment : Moment) (talk : Talk)
-    → StepsOn language machine m m sink sink moment talk talk []
-steps_none language machine stands m sink moment talk = record {
+    → Machine) (stands : AlwaysStands machine) (m : S) (sink : Option (List ℕ)) (moment : Moment) (session : SessionState)
+    → StepsOn language machine m m sink sink moment session session []
+steps_none language machine stands m sink moment session = record {
   acts = [];
   goes = goes_nowhere machine stands m;
   written = [];
   appended = Appends-nil sink;
-  steps = λ read past done so. subst (λ (l : List Act). SoFar language moment talk (read ++ []) (past ++ []) l)
+  steps = λ read past done so. subst (λ (l : List Act). SoFar language moment session (read ++ []) (past ++ []) l)
       (sym (append-nil done))
-      (subst (λ (l : List ℕ). SoFar language moment talk l (past ++ []) done) (sym (append-nil read))
-      (subst (λ (l : List ℕ). SoFar language moment talk read l done) (sym (append-nil past)) so));
+      (subst (λ (l : List ℕ). SoFar language moment session l (past ++ []) done) (sym (append-nil read))
+      (subst (λ (l : List ℕ). SoFar language moment session read l done) (sym (append-nil past)) so));
 }
 
 steps_more : {S : Type 0} (language : Language) (machine : S
-    → Machine) (a b c : S) (p q r : Option (List ℕ)) (moment : Moment) (x y z : Talk) (bytes more : List ℕ)
+    → Machine) (a b c : S) (p q r : Option (List ℕ)) (moment : Moment) (x y z : SessionState) (bytes more : List ℕ)
     → StepsOn language machine a b p q moment x y bytes → StepsOn language machine b c q r moment y z more
     → StepsOn language machine a c p r moment x z (bytes ++ more)
 steps_more language machine a b c p q r moment x y z bytes more s t = record {
@@ -79,7 +80,7 @@ break_behind language Write moment read written more acts u = record {
   parted = ap (λ (l : List ℕ). l ++ more) u.parted ∙ append_assoc u.front u.behind more;
   ended = elim u.ended [ inl whole ↦ inl whole | inr end ↦ absurd end.1 ];
   said = u.said;
-  who = u.who;
+  user = u.user;
   transcript = u.transcript;
   unwritten = u.unwritten;
   parts = u.parts;
@@ -99,14 +100,14 @@ break_behind language NoMemory moment read written more acts u = record {
   transcript = u.transcript;
   more = u.more;
   here = u.here;
-  who = u.who;
+  user = u.user;
   says = u.says;
   acts_are = u.acts_are;
   written_is = u.written_is;
 }
 
 breaks_more : {S : Type 0} (language : Language) (machine : S
-    → Machine) (a b c : S) (p q r : Option (List ℕ)) (moment : Moment) (x y : Talk) (error : SessionError)
+    → Machine) (a b c : S) (p q r : Option (List ℕ)) (moment : Moment) (x y : SessionState) (error : SessionError)
     (bytes more rest : List ℕ) → StepsOn language machine a b p q moment x y bytes
     → BreaksOff language ⊥ machine b c q r moment y error more
     → BreaksOff language ⊥ machine a c p r moment x error ((bytes ++ more) ++ rest)
@@ -130,7 +131,7 @@ breaks_more language machine a b c p q r moment x y error bytes more rest s t = 
 
 -- over the bytes of a piece
 pub steps_at : {S : Type 0} (language : Language) (machine : S
-    → Machine) (a b c : S) (p q r : Option (List ℕ)) (moment : Moment) (x y z : Talk) (piece : List ℕ) (i : ℕ)
+    → Machine) (a b c : S) (p q r : Option (List ℕ)) (moment : Moment) (x y z : SessionState) (piece : List ℕ) (i : ℕ)
     → i < length piece → StepsOn language machine a b p q moment x y (take i piece)
     → StepsOn language machine b c q r moment y z (get_or piece i 0 ∷ [])
     → StepsOn language machine a c p r moment x z (take (i + 1) piece)
@@ -139,7 +140,7 @@ steps_at language machine a b c p q r moment x y z piece i h s t =
     (steps_more language machine a b c p q r moment x y z (take i piece) (get_or piece i 0 ∷ []) s t)
 
 pub breaks_at : {S : Type 0} (language : Language) (machine : S
-    → Machine) (a b c : S) (p q r : Option (List ℕ)) (moment : Moment) (x y : Talk) (error : SessionError)
+    → Machine) (a b c : S) (p q r : Option (List ℕ)) (moment : Moment) (x y : SessionState) (error : SessionError)
     (piece : List ℕ) (i : ℕ) → i < length piece → StepsOn language machine a b p q moment x y (take i piece)
     → BreaksOff language ⊥ machine b c q r moment y error (get_or piece i 0 ∷ [])
     → BreaksOff language ⊥ machine a c p r moment x error piece
@@ -150,7 +151,7 @@ breaks_at language machine a b c p q r moment x y error piece i h s t =
     (drop (i + 1) piece) s t)
 
 pub steps_all : {S : Type 0} (language : Language) (machine : S
-    → Machine) (a c : S) (p r : Option (List ℕ)) (moment : Moment) (x z : Talk) (piece : List ℕ) (i : ℕ)
+    → Machine) (a c : S) (p r : Option (List ℕ)) (moment : Moment) (x z : SessionState) (piece : List ℕ) (i : ℕ)
     → length piece ≤ i → StepsOn language machine a c p r moment x z (take i piece)
     → StepsOn language machine a c p r moment x z piece
 steps_all language machine a c p r moment x z piece i h s = subst
@@ -158,11 +159,11 @@ steps_all language machine a c p r moment x z piece i h s = subst
 
 -- A byte that is no line feed.
 pub step_byte : {S : Type 0} (language : Language) (machine : S
-    → Machine) (stands : AlwaysStands machine) (m : S) (sink : Option (List ℕ)) (moment : Moment) (talk : Talk)
+    → Machine) (stands : AlwaysStands machine) (m : S) (sink : Option (List ℕ)) (moment : Moment) (session : SessionState)
     (held : PartialLine) (b : ℕ) → b ≢ 10
-    → ((seen : List ℕ) → IsPartialLine talk.held seen → IsPartialLine held (seen ++ b ∷ []))
-    → StepsOn language machine m m sink sink moment talk (record talk { held = held }) (b ∷ [])
-step_byte language machine stands m sink moment talk held b other keeps = record {
+    → ((seen : List ℕ) → IsPartialLine session.held seen → IsPartialLine held (seen ++ b ∷ []))
+    → StepsOn language machine m m sink sink moment session (record session { held = held }) (b ∷ [])
+step_byte language machine stands m sink moment session held b other keeps = record {
   acts = [];
   goes = goes_nowhere machine stands m;
   written = [];
@@ -176,53 +177,53 @@ step_byte language machine stands m sink moment talk held b other keeps = record
     held = keeps so.seen so.held;
     line = so.line;
     transcript = subst (λ (l : List Act). IsServedTranscript language moment None (lines so.front) l
-        (spoken ((past ++ []) ++ talk.waiting.items) talk.tally) talk.who) (sym (append-nil done))
+        (spoken ((past ++ []) ++ session.waiting.items) session.tally) session.user) (sym (append-nil done))
         (subst (λ (l : List ℕ). IsServedTranscript language moment None (lines so.front) done
-        (spoken (l ++ talk.waiting.items) talk.tally) talk.who) (sym (append-nil past)) so.transcript);
+        (spoken (l ++ session.waiting.items) session.tally) session.user) (sym (append-nil past)) so.transcript);
     refused = so.refused;
     refuses = subst (λ (l : List Act). IsNumberedTranscript language moment None (numbered so.front) l
-        (spoken ((past ++ []) ++ talk.waiting.items) talk.tally) talk.who so.refused) (sym (append-nil done))
+        (spoken ((past ++ []) ++ session.waiting.items) session.tally) session.user so.refused) (sym (append-nil done))
         (subst (λ (l : List ℕ). IsNumberedTranscript language moment None (numbered so.front) done
-        (spoken (l ++ talk.waiting.items) talk.tally) talk.who so.refused) (sym (append-nil past)) so.refuses);
+        (spoken (l ++ session.waiting.items) session.tally) session.user so.refused) (sym (append-nil past)) so.refuses);
     reason = so.reason;
   };
 }
 
--- The lines so far with those of the bytes behind them.
+-- The lines so far with those of the bytes after them.
 
-transcript_more : (language : Language) (moment : Moment) (talk : Talk) (who : Option ℕ) (counted : Tally)
-    (heard : Heard) (read past : List ℕ) (done : List Act) (so : SoFar language moment talk read past done)
+transcript_more : (language : Language) (moment : Moment) (session : SessionState) (user : Option ℕ) (counted : Tally)
+    (parsed : ParsedLine) (read past : List ℕ) (done : List Act) (so : SoFar language moment session read past done)
     (here : List Line) (acts : List Act) (said : Spoken) (text : List ℕ)
-    → (past ++ talk.waiting.items) ++ said.text ≡ text → counted.refused ≡ talk.tally.refused || said.refused
-    → counted.broke ≡ talk.tally.broke || said.broke → HeardIn language moment here heard
-    → Hears moment talk.who heard acts said who
-    → IsServedTranscript language moment None (lines so.front ++ here) (done ++ acts) (spoken text counted) who
-transcript_more language moment talk who counted heard read past done so here acts said text whole refused broke
-    hears says =
-    subst (λ (s : Spoken). IsServedTranscript language moment None (lines so.front ++ here) (done ++ acts) s who)
-    (spoken_more (past ++ talk.waiting.items) text talk.tally counted said whole refused broke)
+    → (past ++ session.waiting.items) ++ said.text ≡ text → counted.refused ≡ session.tally.refused || said.refused
+    → counted.broke ≡ session.tally.broke || said.broke → IsParsedLine language moment here parsed
+    → LineActs moment session.user parsed acts said user
+    → IsServedTranscript language moment None (lines so.front ++ here) (done ++ acts) (spoken text counted) user
+transcript_more language moment session user counted parsed read past done so here acts said text whole refused broke
+    line_acts says =
+    subst (λ (s : Spoken). IsServedTranscript language moment None (lines so.front ++ here) (done ++ acts) s user)
+    (spoken_more (past ++ session.waiting.items) text session.tally counted said whole refused broke)
     (transcript_on language moment None (lines so.front) here done acts
-    (spoken (past ++ talk.waiting.items) talk.tally) said talk.who who so.transcript
-    (transcript_heard language moment talk.who here heard acts said who hears says))
+    (spoken (past ++ session.waiting.items) session.tally) said session.user user so.transcript
+    (transcript_parsed language moment session.user here parsed acts said user line_acts says))
 
-refusals_more : (language : Language) (moment : Moment) (talk : Talk) (who : Option ℕ) (counted : Tally) (heard : Heard)
-    (read past : List ℕ) (done : List Act) (so : SoFar language moment talk read past done) (here : List Line)
-    (acts : List Act) (said : Spoken) (text : List ℕ) → (past ++ talk.waiting.items) ++ said.text ≡ text
-    → counted.refused ≡ talk.tally.refused || said.refused
-    → counted.broke ≡ talk.tally.broke || said.broke → HeardIn language moment here heard
-    → Hears moment talk.who heard acts said who
+refusals_more : (language : Language) (moment : Moment) (session : SessionState) (user : Option ℕ) (counted : Tally) (parsed : ParsedLine)
+    (read past : List ℕ) (done : List Act) (so : SoFar language moment session read past done) (here : List Line)
+    (acts : List Act) (said : Spoken) (text : List ℕ) → (past ++ session.waiting.items) ++ said.text ≡ text
+    → counted.refused ≡ session.tally.refused || said.refused
+    → counted.broke ≡ session.tally.broke || said.broke → IsParsedLine language moment here parsed
+    → LineActs moment session.user parsed acts said user
     → IsNumberedTranscript language moment None (numbered so.front ++ with_number (feeds so.front + 1) here)
-    (done ++ acts) (spoken text counted) who (so.refused ++ mark said.refused (feeds so.front + 1))
-refusals_more language moment talk who counted heard read past done so here acts said text whole refused broke
-    hears says =
+    (done ++ acts) (spoken text counted) user (so.refused ++ mark said.refused (feeds so.front + 1))
+refusals_more language moment session user counted parsed read past done so here acts said text whole refused broke
+    line_acts says =
     subst (λ (s : Spoken). IsNumberedTranscript language moment None
-    (numbered so.front ++ with_number (feeds so.front + 1) here) (done ++ acts) s who
+    (numbered so.front ++ with_number (feeds so.front + 1) here) (done ++ acts) s user
     (so.refused ++ mark said.refused (feeds so.front + 1)))
-    (spoken_more (past ++ talk.waiting.items) text talk.tally counted said whole refused broke)
+    (spoken_more (past ++ session.waiting.items) text session.tally counted said whole refused broke)
     (refusals_on language moment None (numbered so.front) (with_number (feeds so.front + 1) here) done acts
-    (spoken (past ++ talk.waiting.items) talk.tally) said talk.who who so.refused
+    (spoken (past ++ session.waiting.items) session.tally) said session.user user so.refused
     (mark said.refused (feeds so.front + 1)) so.refuses
-    (refusals_heard language moment talk.who (feeds so.front + 1) here heard acts said who hears says))
+    (refusals_parsed language moment session.user (feeds so.front + 1) here parsed acts said user line_acts says))
 
 -- the number of the line after
 line_more : (line n : ℕ) → line ≡ capped n → min (line + 1) (2 ^ 64 - 1) ≡ capped (n + 1)
@@ -231,22 +232,22 @@ line_more line n e = ap (λ (k : ℕ). min (k + 1) (2 ^ 64 - 1)) e ∙ capped_mo
 -- A line feed.
 pub step_feed : {S : Type 0} (language : Language) (machine : S
     → Machine) (result : Result (Unit {0}) SessionError) (a b : S) (p q : Option (List ℕ)) (moment : Moment)
-    (talk after : Talk) (heard : Heard) (byte : ℕ) → byte ≡ 10 → IsPartialLine after.held []
-    → after.line ≡ min (talk.line + 1) (2 ^ 64 - 1)
-    → ((seen : List ℕ) → IsPartialLine talk.held seen
-    → HeardIn language moment (fitting seen (without_return seen)) heard)
-    → Told result machine a b p q moment talk.who after.who talk.tally after.tally talk.line heard talk.waiting.items
+    (session after : SessionState) (parsed : ParsedLine) (byte : ℕ) → byte ≡ 10 → IsPartialLine after.held []
+    → after.line ≡ min (session.line + 1) (2 ^ 64 - 1)
+    → ((seen : List ℕ) → IsPartialLine session.held seen
+    → IsParsedLine language moment (fitting seen (without_return seen)) parsed)
+    → ReplyWritten result machine a b p q moment session.user after.user session.tally after.tally session.line parsed session.waiting.items
     after.waiting.items
-    → OnOk result (StepsOn language machine a b p q moment talk after (byte ∷ []))
-step_feed language machine (Err error) a b p q moment talk after heard byte feed none next hears t = tt
-step_feed language machine (Ok v) a b p q moment talk after heard byte feed none next hears t = record {
+    → OnOk result (StepsOn language machine a b p q moment session after (byte ∷ []))
+step_feed language machine (Err error) a b p q moment session after parsed byte feed none next line_acts t = tt
+step_feed language machine (Ok v) a b p q moment session after parsed byte feed none next line_acts t = record {
   acts = t.acts;
   goes = t.goes;
   written = t.adds.0;
   appended = t.adds.1;
   steps = λ read past done so.
       let text = (past ++ t.adds.0) ++ after.waiting.items in
-      let whole = said_on past talk.waiting.items t.said.text t.adds.0 after.waiting.items t.adds.2 in
+      let whole = said_on past session.waiting.items t.said.text t.adds.0 after.waiting.items t.adds.2 in
       record {
         front = read ++ byte ∷ [];
         seen = [];
@@ -254,23 +255,23 @@ step_feed language machine (Ok v) a b p q moment talk after heard byte feed none
         ended = inr (read, ap (λ (n : ℕ). read ++ n ∷ []) feed);
         unended = tt;
         held = none;
-        line = next ∙ line_more talk.line (feeds so.front + 1) so.line
+        line = next ∙ line_more session.line (feeds so.front + 1) so.line
             ∙ ap (λ (n : ℕ). capped (n + 1)) (sym (feeds_fed read so.front so.seen byte feed so.parted so.unended));
         refused = so.refused ++ mark t.said.refused (feeds so.front + 1);
         refuses = subst (λ (l : List (ℕ × Line)). IsNumberedTranscript language moment None l (done ++ t.acts)
-            (spoken text after.tally) after.who (so.refused ++ mark t.said.refused (feeds so.front + 1)))
+            (spoken text after.tally) after.user (so.refused ++ mark t.said.refused (feeds so.front + 1)))
             (sym (numbered_fed read so.front so.seen byte feed so.parted so.ended so.unended))
-            (refusals_more language moment talk after.who after.tally heard read past done so
+            (refusals_more language moment session after.user after.tally parsed read past done so
             (fitting so.seen (without_return so.seen)) t.acts t.said text whole t.refused t.broke
-            (hears so.seen so.held) t.hears);
-        reason = t.reason ∙ ap (λ (n : ℕ). counts talk.tally.reason n t.said.refused) so.line
-            ∙ reason_more so.refused (feeds so.front + 1) t.said.refused talk.tally.reason so.reason;
+            (line_acts so.seen so.held) t.line_acts);
+        reason = t.reason ∙ ap (λ (n : ℕ). counts session.tally.reason n t.said.refused) so.line
+            ∙ reason_more so.refused (feeds so.front + 1) t.said.refused session.tally.reason so.reason;
         transcript = subst (λ (l : List Line). IsServedTranscript language moment None l (done ++ t.acts)
-            (spoken text after.tally) after.who)
+            (spoken text after.tally) after.user)
             (sym (lines_fed read so.front so.seen byte feed so.parted so.ended so.unended))
-            (transcript_more language moment talk after.who after.tally heard read past done so
+            (transcript_more language moment session after.user after.tally parsed read past done so
             (fitting so.seen (without_return so.seen)) t.acts t.said text whole t.refused t.broke
-            (hears so.seen so.held) t.hears);
+            (line_acts so.seen so.held) t.line_acts);
       };
 }
 
@@ -278,22 +279,22 @@ abbrev no_bytes : List ℕ
 no_bytes = []
 
 -- The line that was answered last: these bytes end it, or the input ends.
-record Last (language : Language) (at_end : Type 0) (moment : Moment) (heard : Heard)
+record Last (language : Language) (at_end : Type 0) (moment : Moment) (parsed : ParsedLine)
     (front all : List ℕ) : Type 0 where
   here : List Line
   ended : AreWholeLines all ⊎ ((no_bytes ≡ no_bytes) × at_end)
   same : lines all ≡ lines front ++ here
-  hears : HeardIn language moment here heard
+  line_acts : IsParsedLine language moment here parsed
 
 -- It broke off there.
 module _ {S : Type 0} (language : Language) (machine : S → Machine) (at_end : Type 0) (a b : S)
-    (p q : Option (List ℕ)) (moment : Moment) (talk after : Talk) (heard : Heard) (waits bytes : List ℕ) where
+    (p q : Option (List ℕ)) (moment : Moment) (session after : SessionState) (parsed : ParsedLine) (waits bytes : List ℕ) where
   breaks_last : (error : SessionError) → ((read past : List ℕ) (done : List Act)
-      → (so : SoFar language moment talk read past done)
-      → Last language at_end moment heard so.front (read ++ bytes))
-      → Told (Err error) machine a b p q moment talk.who after.who talk.tally after.tally talk.line heard
-      talk.waiting.items waits
-      → BreaksOff language at_end machine a b p q moment talk error bytes
+      → (so : SoFar language moment session read past done)
+      → Last language at_end moment parsed so.front (read ++ bytes))
+      → ReplyWritten (Err error) machine a b p q moment session.user after.user session.tally after.tally session.line parsed
+      session.waiting.items waits
+      → BreaksOff language at_end machine a b p q moment session error bytes
   breaks_last Read ends t = absurd t.adds
   breaks_last Write ends t = record {
     acts = t.acts;
@@ -309,12 +310,12 @@ module _ {S : Type 0} (language : Language) (machine : S → Machine) (at_end : 
           parted = sym (append-nil (read ++ bytes));
           ended = l.ended;
           said = spoken text after.tally;
-          who = after.who;
+          user = after.user;
           transcript = subst (λ (k : List Line). IsServedTranscript language moment None k (done ++ t.acts)
-              (spoken text after.tally) after.who) (sym l.same)
-              (transcript_more language moment talk after.who after.tally heard read past done so l.here t.acts t.said
-              text (said_on past talk.waiting.items t.said.text t.adds.0 t.adds.1 t.adds.3) t.refused t.broke l.hears
-              t.hears);
+              (spoken text after.tally) after.user) (sym l.same)
+              (transcript_more language moment session after.user after.tally parsed read past done so l.here t.acts t.said
+              text (said_on past session.waiting.items t.said.text t.adds.0 t.adds.1 t.adds.3) t.refused t.broke l.line_acts
+              t.line_acts);
           unwritten = t.adds.1;
           parts = refl;
           some = t.adds.4;
@@ -323,11 +324,11 @@ module _ {S : Type 0} (language : Language) (machine : S → Machine) (at_end : 
   breaks_last NoMemory ends t = record {
     acts = t.acts;
     goes = t.goes;
-    written = talk.waiting.items;
+    written = session.waiting.items;
     appended = t.adds;
     breaks = λ read past done so.
         let l = ends read past done so in
-        let k = heard_line language moment talk.who l.here heard t.acts t.said after.who (t.line refl) l.hears t.hears in
+        let k = parsed_line language moment session.user l.here parsed t.acts t.said after.user (t.line refl) l.line_acts t.line_acts in
         record {
           front = read ++ bytes;
           behind = [];
@@ -337,12 +338,12 @@ module _ {S : Type 0} (language : Language) (machine : S → Machine) (at_end : 
           line = k.0;
           answered = l.same ∙ ap (λ (m : List Line). lines so.front ++ m) k.2;
           first = done;
-          earlier = spoken (past ++ talk.waiting.items) talk.tally;
-          mid = talk.who;
+          earlier = spoken (past ++ session.waiting.items) session.tally;
+          mid = session.user;
           transcript = so.transcript;
           more = t.acts;
           here = t.said;
-          who = after.who;
+          user = after.user;
           says = k.1;
           acts_are = refl;
           written_is = refl;
@@ -351,32 +352,32 @@ module _ {S : Type 0} (language : Language) (machine : S → Machine) (at_end : 
 
 pub break_feed : {S : Type 0} (language : Language) (machine : S
     → Machine) (result : Result (Unit {0}) SessionError) (a b : S) (p q : Option (List ℕ)) (moment : Moment)
-    (talk after : Talk) (heard : Heard) (byte : ℕ) → byte ≡ 10
-    → ((seen : List ℕ) → IsPartialLine talk.held seen
-    → HeardIn language moment (fitting seen (without_return seen)) heard)
-    → Told result machine a b p q moment talk.who after.who talk.tally after.tally talk.line heard talk.waiting.items
+    (session after : SessionState) (parsed : ParsedLine) (byte : ℕ) → byte ≡ 10
+    → ((seen : List ℕ) → IsPartialLine session.held seen
+    → IsParsedLine language moment (fitting seen (without_return seen)) parsed)
+    → ReplyWritten result machine a b p q moment session.user after.user session.tally after.tally session.line parsed session.waiting.items
     after.waiting.items
-    → IfErr result (λ error. BreaksOff language ⊥ machine a b p q moment talk error (byte ∷ []))
-break_feed language machine (Ok v) a b p q moment talk after heard byte feed hears t = tt
-break_feed language machine (Err error) a b p q moment talk after heard byte feed hears t =
-    breaks_last language machine ⊥ a b p q moment talk after heard after.waiting.items (byte ∷ []) error
+    → IfErr result (λ error. BreaksOff language ⊥ machine a b p q moment session error (byte ∷ []))
+break_feed language machine (Ok v) a b p q moment session after parsed byte feed line_acts t = tt
+break_feed language machine (Err error) a b p q moment session after parsed byte feed line_acts t =
+    breaks_last language machine ⊥ a b p q moment session after parsed after.waiting.items (byte ∷ []) error
     (λ read past done so. record {
       here = fitting so.seen (without_return so.seen);
       ended = inl (inr (read, ap (λ (n : ℕ). read ++ n ∷ []) feed));
       same = lines_fed read so.front so.seen byte feed so.parted so.ended so.unended;
-      hears = hears so.seen so.held;
+      line_acts = line_acts so.seen so.held;
     }) t
 
--- What waits is written, after bytes.
+-- The waiting text is written, after bytes.
 
 pub steps_flushed : {S : Type 0} (language : Language) (machine : S → Machine) (a b : S) (p q r : Option (List ℕ))
-    (moment : Moment) (talk mid after : Talk) (result : Result (Unit {0}) SessionError) (bytes : List ℕ)
-    → after.held ≡ mid.held → after.line ≡ mid.line → after.who ≡ mid.who → after.tally ≡ mid.tally
-    → StepsOn language machine a b p q moment talk mid bytes
+    (moment : Moment) (session mid after : SessionState) (result : Result (Unit {0}) SessionError) (bytes : List ℕ)
+    → after.held ≡ mid.held → after.line ≡ mid.line → after.user ≡ mid.user → after.tally ≡ mid.tally
+    → StepsOn language machine a b p q moment session mid bytes
     → IsFlushed q r mid.waiting.items after.waiting.items result
-    → OnOk result (StepsOn language machine a b p r moment talk after bytes)
-steps_flushed language machine a b p q r moment talk mid after (Err error) bytes held line who tally s f = tt
-steps_flushed language machine a b p q r moment talk mid after (Ok unit) bytes held line who tally s f = record {
+    → OnOk result (StepsOn language machine a b p r moment session after bytes)
+steps_flushed language machine a b p q r moment session mid after (Err error) bytes held line user tally s f = tt
+steps_flushed language machine a b p q r moment session mid after (Ok unit) bytes held line user tally s f = record {
   acts = s.acts;
   goes = s.goes;
   written = s.written ++ f.0;
@@ -385,7 +386,7 @@ steps_flushed language machine a b p q r moment talk mid after (Ok unit) bytes h
       let last = s.steps read past done so in
       let whole = waits_on past s.written mid.waiting.items f.0 after.waiting.items f.2 in
       let tally' = sym tally in
-      let who' = sym who in
+      let user' = sym user in
       record {
         front = last.front;
         seen = last.seen;
@@ -396,22 +397,22 @@ steps_flushed language machine a b p q r moment talk mid after (Ok unit) bytes h
         line = line ∙ last.line;
         transcript = subst (λ (x : List ℕ × Tally × Option ℕ). IsServedTranscript language moment None
             (lines last.front) (done ++ s.acts) (spoken x.0 x.1) x.2)
-            (λ i. (whole i, tally' i, who' i)) last.transcript;
+            (λ i. (whole i, tally' i, user' i)) last.transcript;
         refused = last.refused;
         refuses = subst (λ (x : List ℕ × Tally × Option ℕ). IsNumberedTranscript language moment None
             (numbered last.front) (done ++ s.acts) (spoken x.0 x.1) x.2 last.refused)
-            (λ i. (whole i, tally' i, who' i)) last.refuses;
+            (λ i. (whole i, tally' i, user' i)) last.refuses;
         reason = ap (λ (t : Tally). t.reason) tally ∙ last.reason;
       };
 }
 
 pub steps_unwritten : {S : Type 0} (language : Language) (machine : S → Machine) (a b : S) (p q r : Option (List ℕ))
-    (moment : Moment) (talk mid : Talk) (waits : List ℕ) (result : Result (Unit {0}) SessionError) (bytes : List ℕ)
-    → StepsOn language machine a b p q moment talk mid bytes → IsFlushed q r mid.waiting.items waits result
-    → IfErr result (λ error. BreaksOff language ⊥ machine a b p r moment talk error bytes)
-steps_unwritten language machine a b p q r moment talk mid waits (Ok unit) bytes s f = tt
-steps_unwritten language machine a b p q r moment talk mid waits (Err error) bytes s f =
-    subst (λ (e : SessionError). BreaksOff language ⊥ machine a b p r moment talk e bytes) (sym f.0) (record {
+    (moment : Moment) (session mid : SessionState) (waits : List ℕ) (result : Result (Unit {0}) SessionError) (bytes : List ℕ)
+    → StepsOn language machine a b p q moment session mid bytes → IsFlushed q r mid.waiting.items waits result
+    → IfErr result (λ error. BreaksOff language ⊥ machine a b p r moment session error bytes)
+steps_unwritten language machine a b p q r moment session mid waits (Ok unit) bytes s f = tt
+steps_unwritten language machine a b p q r moment session mid waits (Err error) bytes s f =
+    subst (λ (e : SessionError). BreaksOff language ⊥ machine a b p r moment session e bytes) (sym f.0) (record {
       acts = s.acts;
       goes = s.goes;
       written = s.written ++ f.1;
@@ -424,7 +425,7 @@ steps_unwritten language machine a b p q r moment talk mid waits (Err error) byt
             parted = last.parted;
             ended = inl last.ended;
             said = spoken ((past ++ s.written) ++ mid.waiting.items) mid.tally;
-            who = mid.who;
+            user = mid.user;
             transcript = last.transcript;
             unwritten = f.2;
             parts = waits_on past s.written mid.waiting.items f.1 f.2 f.4;
@@ -432,17 +433,17 @@ steps_unwritten language machine a b p q r moment talk mid waits (Err error) byt
           };
     })
 
--- What waits is written, after a line.
+-- The waiting text is written, after a line.
 
 module _ {S : Type 0} (machine : S → Machine) (a b : S) (p q r : Option (List ℕ)) (moment : Moment)
-    (who then_who : Option ℕ) (tally counted : Tally) (number : ℕ) (heard : Heard) (waiting mid after : List ℕ)
-    (t : Told (Ok tt) machine a b p q moment who then_who tally counted number heard waiting mid) where
+    (user then_who : Option ℕ) (tally counted : Tally) (number : ℕ) (parsed : ParsedLine) (waiting mid after : List ℕ)
+    (t : ReplyWritten (Ok tt) machine a b p q moment user then_who tally counted number parsed waiting mid) where
   pub told_flushed : IsFlushed q r mid after (Ok tt)
-      → Told (Ok tt) machine a b p r moment who then_who tally counted number heard waiting after
+      → ReplyWritten (Ok tt) machine a b p r moment user then_who tally counted number parsed waiting after
   told_flushed f = record {
     acts = t.acts;
     said = t.said;
-    hears = t.hears;
+    line_acts = t.line_acts;
     goes = t.goes;
     refused = t.refused;
     broke = t.broke;
@@ -452,11 +453,11 @@ module _ {S : Type 0} (machine : S → Machine) (a b : S) (p q r : Option (List 
   }
 
   pub told_unwritten : (error : SessionError) → IsFlushed q r mid after (Err error)
-      → Told (Err error) machine a b p r moment who then_who tally counted number heard waiting after
+      → ReplyWritten (Err error) machine a b p r moment user then_who tally counted number parsed waiting after
   told_unwritten error f = record {
     acts = t.acts;
     said = t.said;
-    hears = t.hears;
+    line_acts = t.line_acts;
     goes = t.goes;
     refused = t.refused;
     broke = t.broke;
@@ -470,65 +471,65 @@ module _ {S : Type 0} (machine : S → Machine) (a b : S) (p q r : Option (List 
 
 -- The end of the input.
 pub break_end : {S : Type 0} (language : Language) (machine : S → Machine) (error : SessionError) (a b : S)
-    (p q : Option (List ℕ)) (moment : Moment) (talk after : Talk) (heard : Heard) (waits : List ℕ)
-    → ((seen : List ℕ) → IsPartialLine talk.held seen → HeardIn language moment (fitting seen seen) heard)
-    → Told (Err error) machine a b p q moment talk.who after.who talk.tally after.tally talk.line heard
-    talk.waiting.items waits
-    → BreaksOff language (Unit {0}) machine a b p q moment talk error []
-break_end language machine error a b p q moment talk after heard waits hears t =
-    breaks_last language machine (Unit {0}) a b p q moment talk after heard waits [] error
+    (p q : Option (List ℕ)) (moment : Moment) (session after : SessionState) (parsed : ParsedLine) (waits : List ℕ)
+    → ((seen : List ℕ) → IsPartialLine session.held seen → IsParsedLine language moment (fitting seen seen) parsed)
+    → ReplyWritten (Err error) machine a b p q moment session.user after.user session.tally after.tally session.line parsed
+    session.waiting.items waits
+    → BreaksOff language (Unit {0}) machine a b p q moment session error []
+break_end language machine error a b p q moment session after parsed waits line_acts t =
+    breaks_last language machine (Unit {0}) a b p q moment session after parsed waits [] error
     (λ read past done so. record {
       here = fitting so.seen so.seen;
       ended = inr (refl, tt);
       same = ap lines (append-nil read) ∙ lines_ended read so.front so.seen so.parted so.ended so.unended;
-      hears = hears so.seen so.held;
+      line_acts = line_acts so.seen so.held;
     }) t
 
 pub end_well : {S : Type 0} (language : Language) (machine : S → Machine) (a b c : S)
-    (p q : Option (List ℕ)) (moment : Moment) (talk after : Talk) (heard : Heard) (waits : List ℕ)
-    → ((seen : List ℕ) → IsPartialLine talk.held seen → HeardIn language moment (fitting seen seen) heard)
-    → Told (Ok tt) machine a b p q moment talk.who after.who talk.tally after.tally talk.line heard talk.waiting.items
+    (p q : Option (List ℕ)) (moment : Moment) (session after : SessionState) (parsed : ParsedLine) (waits : List ℕ)
+    → ((seen : List ℕ) → IsPartialLine session.held seen → IsParsedLine language moment (fitting seen seen) parsed)
+    → ReplyWritten (Ok tt) machine a b p q moment session.user after.user session.tally after.tally session.line parsed session.waiting.items
     waits → waits ≡ [] → Closed language machine b c moment
-    → EndsWell language machine a c p q moment talk after.tally
-end_well language machine a b c p q moment talk after heard waits hears t none end = record {
+    → EndsWell language machine a c p q moment session after.tally
+end_well language machine a b c p q moment session after parsed waits line_acts t none end = record {
   acts = t.acts ++ end.acts;
   goes = goes_on machine a b c t.acts end.acts t.goes end.goes;
   written = t.adds.0;
   appended = t.adds.1;
   ends = λ read past done so.
       let text = past ++ t.adds.0 in
-      let whole = said_on past talk.waiting.items t.said.text t.adds.0 waits t.adds.2
+      let whole = said_on past session.waiting.items t.said.text t.adds.0 waits t.adds.2
       ∙ ap (λ (l : List ℕ). text ++ l) none ∙ append-nil text in
       record {
         talked = done ++ t.acts;
-        who = after.who;
+        user = after.user;
         transcript = subst (λ (l : List Line). IsServedTranscript language moment None l (done ++ t.acts)
-            (spoken text after.tally) after.who)
+            (spoken text after.tally) after.user)
             (sym (lines_ended read so.front so.seen so.parted so.ended so.unended))
-            (transcript_more language moment talk after.who after.tally heard read past done so
-            (fitting so.seen so.seen) t.acts t.said text whole t.refused t.broke (hears so.seen so.held) t.hears);
+            (transcript_more language moment session after.user after.tally parsed read past done so
+            (fitting so.seen so.seen) t.acts t.said text whole t.refused t.broke (line_acts so.seen so.held) t.line_acts);
         refused = so.refused ++ mark t.said.refused (feeds so.front + 1);
         refuses = subst (λ (l : List (ℕ × Line)). IsNumberedTranscript language moment None l (done ++ t.acts)
-            (spoken text after.tally) after.who (so.refused ++ mark t.said.refused (feeds so.front + 1)))
+            (spoken text after.tally) after.user (so.refused ++ mark t.said.refused (feeds so.front + 1)))
             (sym (numbered_ended read so.front so.seen so.parted so.ended so.unended))
-            (refusals_more language moment talk after.who after.tally heard read past done so (fitting so.seen so.seen)
-            t.acts t.said text whole t.refused t.broke (hears so.seen so.held) t.hears);
-        reason = t.reason ∙ ap (λ (n : ℕ). counts talk.tally.reason n t.said.refused) so.line
-            ∙ reason_more so.refused (feeds so.front + 1) t.said.refused talk.tally.reason so.reason;
+            (refusals_more language moment session after.user after.tally parsed read past done so (fitting so.seen so.seen)
+            t.acts t.said text whole t.refused t.broke (line_acts so.seen so.held) t.line_acts);
+        reason = t.reason ∙ ap (λ (n : ℕ). counts session.tally.reason n t.said.refused) so.line
+            ∙ reason_more so.refused (feeds so.front + 1) t.said.refused session.tally.reason so.reason;
         closing = end.acts;
         closes = end.closes;
         acts_are = sym (append_assoc done t.acts end.acts);
       };
 }
 
--- What is done at the end.
+-- The acts at the end.
 
 pub closed_reset : {S : Type 0} (machine : S → Machine) (stands : AlwaysStands machine) (language : Language)
     (a b : S) (moment : Moment) (reply : Reply) → language ≡ Commands
     → IsAnswered (machine a) (machine b) (Calls 1 Reset moment) reply → Closed language machine a b moment
 closed_reset machine stands language a b moment reply e answered = subst (λ (l : Language). Closed l machine a b moment)
     (sym e) (record {
-      acts = Asks (calls moment played.Reset) reply ∷ [];
+      acts = Asks (call_event moment played.Reset) reply ∷ [];
       closes = (reply, refl);
       goes = goes_answered machine stands a b (Calls 1 Reset moment) reply answered;
     })
@@ -538,15 +539,15 @@ pub closed_still : {S : Type 0} (machine : S → Machine) (stands : AlwaysStands
 closed_still machine stands language a moment e = subst (λ (l : Language). Closed l machine a a moment)
     (sym e) (record { acts = []; closes = refl; goes = goes_nowhere machine stands a })
 
--- What was heard is told.
+-- A parsed line is answered.
 
 pub told_nothing : {S : Type 0} (machine : S → Machine) (stands : AlwaysStands machine) (m : S) (sink : Option (List ℕ))
-    (moment : Moment) (who : Option ℕ) (tally : Tally) (number : ℕ) (heard : Heard) (waiting : List ℕ)
-    → heard ≡ Nothing → Told (Ok tt) machine m m sink sink moment who who tally tally number heard waiting waiting
-told_nothing machine stands m sink moment who tally number heard waiting e = record {
+    (moment : Moment) (user : Option ℕ) (tally : Tally) (number : ℕ) (parsed : ParsedLine) (waiting : List ℕ)
+    → parsed ≡ NoLine → ReplyWritten (Ok tt) machine m m sink sink moment user user tally tally number parsed waiting waiting
+told_nothing machine stands m sink moment user tally number parsed waiting e = record {
   acts = [];
   said = silent;
-  hears = subst (λ (h : Heard). Hears moment who h [] silent who) (sym e) (refl, refl, refl);
+  line_acts = subst (λ (h : ParsedLine). LineActs moment user h [] silent user) (sym e) (refl, refl, refl);
   goes = goes_nowhere machine stands m;
   refused = or-false tally.refused;
   broke = or-false tally.broke;
@@ -562,16 +563,16 @@ pub record IsCounted (tally : Tally) (number : ℕ) (line counted : Tally) : Typ
   pub reason : counted.reason ≡ counts tally.reason number line.refused
 
 module _ {V E S : Type 0} (machine : S → Machine) (bytes : V → List ℕ) (a b : S) (p q : Option (List ℕ))
-    (moment : Moment) (who after : Option ℕ) (tally line counted : Tally) (number : ℕ) (heard : Heard)
-    (waiting waits : List ℕ) (some : heard ≢ Nothing) (is : IsCounted tally number line counted) where
+    (moment : Moment) (user after : Option ℕ) (tally line counted : Tally) (number : ℕ) (parsed : ParsedLine)
+    (waiting waits : List ℕ) (some : parsed ≢ NoLine) (is : IsCounted tally number line counted) where
   told_put : (result : Result (Unit {0}) SessionError) (text : Result V E)
-      → Replied bytes text machine a b moment who after fresh line heard
+      → LineDone bytes text machine a b moment user after fresh line parsed
       → ((said : List ℕ) → IfOk text (λ v. bytes v ≡ said) → AddsText p q waiting waits said result)
-      → Told result machine a b p q moment who after tally counted number heard waiting waits
+      → ReplyWritten result machine a b p q moment user after tally counted number parsed waiting waits
   told_put result text s put = record {
     acts = s.acts;
     said = s.said;
-    hears = s.hears;
+    line_acts = s.line_acts;
     goes = s.goes;
     refused = is.refused ∙ ap (λ (t : Bool). tally.refused || t) s.refused;
     broke = is.broke ∙ ap (λ (t : Bool). tally.broke || t) s.broke;
@@ -581,44 +582,44 @@ module _ {V E S : Type 0} (machine : S → Machine) (bytes : V → List ℕ) (a 
   }
     where
       some_line : (result : Result (Unit {0}) SessionError)
-          → IfErr result (λ error. error ≡ NoMemory → heard ≢ Nothing)
+          → IfErr result (λ error. error ≡ NoMemory → parsed ≢ NoLine)
       some_line (Ok u) = tt
       some_line (Err error) = λ none. some
 
-is_something : (heard : Heard) (meant : Option Command) → heard ≡ Said meant → heard ≢ Nothing
-is_something heard meant e n = let wrong = sym e ∙ n in cc
+is_something : (parsed : ParsedLine) (meant : Option Command) → parsed ≡ CommandLine meant → parsed ≢ NoLine
+is_something parsed meant e n = let wrong = sym e ∙ n in cc
 
-is_an_order : (heard : Heard) (order : Option Event) → heard ≡ Ordered order → heard ≢ Nothing
-is_an_order heard order e n = let wrong = sym e ∙ n in cc
+is_an_order : (parsed : ParsedLine) (order : Option Event) → parsed ≡ EventLine order → parsed ≢ NoLine
+is_an_order parsed order e n = let wrong = sym e ∙ n in cc
 
 module _ {V E S : Type 0} (machine : S → Machine) (bytes : V
     → List ℕ) (result : Result (Unit {0}) SessionError) (text : Result V E) (a b : S) (p q : Option (List ℕ))
-    (moment : Moment) (who after : Option ℕ) (tally none line counted : Tally) (number : ℕ) (heard : Heard)
+    (moment : Moment) (user after : Option ℕ) (tally none line counted : Tally) (number : ℕ) (parsed : ParsedLine)
     (waiting waits : List ℕ) (is : IsCounted tally number line counted) (new : none ≡ fresh) where
-  pub told_said : (meant : Option Command) → heard ≡ Said meant
-      → Spoke bytes text machine a b moment who after none line meant
+  pub told_said : (meant : Option Command) → parsed ≡ CommandLine meant
+      → CommandDone bytes text machine a b moment user after none line meant
       → ((said : List ℕ) → IfOk text (λ v. bytes v ≡ said) → AddsText p q waiting waits said result)
-      → Told result machine a b p q moment who after tally counted number heard waiting waits
+      → ReplyWritten result machine a b p q moment user after tally counted number parsed waiting waits
   told_said meant e r put =
-      let s = subst (λ (t : Tally). Spoke bytes text machine a b moment who after t line meant) new r in
-      told_put machine bytes a b p q moment who after tally line counted number heard waiting waits
-      (is_something heard meant e) is result text
-      (subst (Replied bytes text machine a b moment who after fresh line) (sym e) (record {
+      let s = subst (λ (t : Tally). CommandDone bytes text machine a b moment user after t line meant) new r in
+      told_put machine bytes a b p q moment user after tally line counted number parsed waiting waits
+      (is_something parsed meant e) is result text
+      (subst (LineDone bytes text machine a b moment user after fresh line) (sym e) (record {
         acts = s.acts;
         said = s.said;
-        hears = s.speaks;
+        line_acts = s.speaks;
         goes = s.goes;
         refused = s.refused;
         broke = s.broke;
         text = s.text;
       })) put
 
-  pub told_ordered : (order : Option Event) → heard ≡ Ordered order
-      → Replied bytes text machine a b moment who after none line (Ordered order)
+  pub told_ordered : (order : Option Event) → parsed ≡ EventLine order
+      → LineDone bytes text machine a b moment user after none line (EventLine order)
       → ((said : List ℕ) → IfOk text (λ v. bytes v ≡ said) → AddsText p q waiting waits said result)
-      → Told result machine a b p q moment who after tally counted number heard waiting waits
+      → ReplyWritten result machine a b p q moment user after tally counted number parsed waiting waits
   told_ordered order e r put =
-      let s = subst (λ (t : Tally). Replied bytes text machine a b moment who after t line (Ordered order)) new r in
-      told_put machine bytes a b p q moment who after tally line counted number heard waiting waits
-      (is_an_order heard order e) is result text
-      (subst (Replied bytes text machine a b moment who after fresh line) (sym e) s) put
+      let s = subst (λ (t : Tally). LineDone bytes text machine a b moment user after t line (EventLine order)) new r in
+      told_put machine bytes a b p q moment user after tally line counted number parsed waiting waits
+      (is_an_order parsed order e) is result text
+      (subst (LineDone bytes text machine a b moment user after fresh line) (sym e) s) put

@@ -1,4 +1,4 @@
--- What a crash leaves in the course of acts.
+-- What a crash leaves during acts.
 use Rattle.std.proofs.Common.{◌≡◌, inl, inr, ⊎_elim, ℕ, List, [], ◌∷◌, refl, sym, subst, arith, Result, ◌∙◌}
 use Rattle.blockdisk.specs.Common.{Contents, DiskState, MayLeave, Still, Passes, passes_start, passes_on}
 use Rattle.blockdisk.specs.Common.{passes_weaker}
@@ -116,7 +116,7 @@ module _ {S : Type 0} (machine : S → Machine) (pack : Pack) where
       ⊎_elim (λ was. found_first pack s acts c (begins_with old s acts end new r c (only_now c was))) (λ found. found)
       ((acts_leave old s acts end new r).time.nothing_else (machine old).disk.clock c (omega arith) left)
 
--- What was left by the last of the starts that were stopped, after the acts, stands for the files after some of them.
+-- What the last of the stopped starts left, after the acts, stands for the files after some of them.
 module _ {D E : Type 0} (state : D → DiskState) (other : E → DiskState) (begun stopped : MonitorState D)
     (s : State) (acts : List Act) (last : Service) where
   abbrev pack : Pack

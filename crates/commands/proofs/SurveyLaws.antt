@@ -4,11 +4,11 @@ use Rattle.std.proofs.Common.{drop, length, get_or, IfOk}
 use Rattle.std.proofs.lemmas.List.{drop_more, drop_all}
 use Rattle.std.specs.Prelude.{IfErr}
 use Rattle.words36.specs.declared.moment.Moment.{Moment}
-use Rattle.spec_language.specs.Common.{enters, operator, shows_all, surveys, Plan, Show, Say, each, fails, Spoken}
+use Rattle.spec_language.specs.Common.{login_events, operator, shows_all, surveys, Plan, Show, Say, each, fails, Spoken}
 use Rattle.spec_language.specs.Common.{both_said, silent, list_said}
 use Rattle.spec_language.specs.declared.style.Style.{Style}
 use Rattle.spec_machine.specs.declared.call.Reply.{Reply}
-use Rattle.commands.specs.Common.{Led, Concludes, HasShown, Carries, fresh, Machine, AlwaysStands, spoken}
+use Rattle.commands.specs.Common.{FollowsPlan, FinishesPlan, HasShown, Carries, fresh, Machine, AlwaysStands, spoken}
 use Rattle.commands.specs.declared.answer.Tally.{Tally}
 use Rattle.commands.proofs.ErrandLaws.{carried, carried_behind}
 use Rattle.commands.proofs.LedLaws.{led_on, led_still}
@@ -24,9 +24,9 @@ unfolding shows_all
 shows_last style said = refl
 
 module _ {S : Type 0} (machine : S → Machine) (style : Style) (owners : List ℕ) (tally : Tally) where
-  -- what is left where i of them were listed, with this text and count so far
+  -- the rest after i of them were listed, with this text and tally so far
   abbrev pub Shows : S → S → ℕ → List ℕ → Tally → Type 0
-  Shows a b i bytes counted = Led machine a b (shows_all style owners (spoken [] tally))
+  Shows a b i bytes counted = FollowsPlan machine a b (shows_all style owners (spoken [] tally))
       (shows_all style (drop i owners) (spoken bytes counted))
 
   pub shows_none : AlwaysStands machine → (a : S) → Shows a a 0 [] tally
@@ -35,15 +35,15 @@ module _ {S : Type 0} (machine : S → Machine) (style : Style) (owners : List �
   module _ {V E : Type 0} (text : V → List ℕ) (a b c : S) (i owner : ℕ) (bytes : List ℕ) (counted mid : Tally)
       (h : i < length owners) (is : owner ≡ get_or owners i owner) (p : Shows a b i bytes counted)
       (result : Result V E) (q : HasShown text result machine b c style owner counted mid) where
-    next_led : Led machine a c (shows_all style owners (spoken [] tally))
+    next_led : FollowsPlan machine a c (shows_all style owners (spoken [] tally))
         (shows_all style (drop (i + 1) owners) (both_said (spoken bytes counted) (list_said style owner q.answer)))
     next_led =
         let at : drop i owners ≡ owner ∷ drop (i + 1) owners = drop_more owners i owner h
         ∙ ap (λ (o : ℕ). o ∷ drop (i + 1) owners) (sym is) in
         led_on machine a b c _ _ _
-        (subst (λ (l : List ℕ). Led machine a b (shows_all style owners (spoken [] tally))
+        (subst (λ (l : List ℕ). FollowsPlan machine a b (shows_all style owners (spoken [] tally))
         (shows_all style l (spoken bytes counted))) at p)
-        (subst (λ (l : Plan). Led machine b c l
+        (subst (λ (l : Plan). FollowsPlan machine b c l
         (shows_all style (drop (i + 1) owners) (both_said (spoken bytes counted) (list_said style owner q.answer))))
         (sym (shows_next style owner (drop (i + 1) owners) (spoken bytes counted)))
         (q.led (λ answer. shows_all style (drop (i + 1) owners)
@@ -54,48 +54,48 @@ module _ {S : Type 0} (machine : S → Machine) (style : Style) (owners : List �
         let said : text v ≡ (list_said style owner q.answer).text =
         subst (λ (r : Result V E). IfOk r (λ w. text w ≡ (list_said style owner q.answer).text)) ok q.text in
         let grown : bytes ++ (list_said style owner q.answer).text ≡ more = sym (put ∙ ap (λ l. bytes ++ l) said) in
-        subst (λ (said : Spoken). Led machine a c (shows_all style owners (spoken [] tally))
+        subst (λ (said : Spoken). FollowsPlan machine a c (shows_all style owners (spoken [] tally))
         (shows_all style (drop (i + 1) owners) said))
         (λ j. record { text = grown j; refused = sym q.refused j; broke = sym q.broke j }) next_led
 
-    pub shows_cut : (rest : Plan) × Led machine a c (shows_all style owners (spoken [] tally)) rest
+    pub shows_cut : (rest : Plan) × FollowsPlan machine a c (shows_all style owners (spoken [] tally)) rest
     shows_cut = (_, next_led)
 
   pub shows_done : (a b : S) (i : ℕ) (bytes : List ℕ) (counted : Tally) → length owners ≤ i → Shows a b i bytes counted
-      → Led machine a b (shows_all style owners (spoken [] tally)) (Say (spoken bytes counted))
-  shows_done a b i bytes counted h p = subst (λ (l : Plan). Led machine a b
+      → FollowsPlan machine a b (shows_all style owners (spoken [] tally)) (Say (spoken bytes counted))
+  shows_done a b i bytes counted h p = subst (λ (l : Plan). FollowsPlan machine a b
       (shows_all style owners (spoken [] tally)) l)
       (ap (λ (l : List ℕ). shows_all style l (spoken bytes counted)) (drop_all i owners h)
       ∙ shows_last style (spoken bytes counted)) p
 
--- who logs in may look into all directories
-pub entered_as : {S : Type 0} (machine : S → Machine) (a b : S) (moment : Moment) (who : ℕ) → who ≡ operator
-    → (next rest : Plan) → Led machine a b (each moment (enters who) next) rest
-    → Led machine a b (each moment (enters operator) next) rest
-entered_as machine a b moment who is next rest entered =
-    subst (λ (n : ℕ). Led machine a b (each moment (enters n) next) rest) is entered
+-- the job that logs in may list all directories
+pub entered_as : {S : Type 0} (machine : S → Machine) (a b : S) (moment : Moment) (user : ℕ) → user ≡ operator
+    → (next rest : Plan) → FollowsPlan machine a b (each moment (login_events user) next) rest
+    → FollowsPlan machine a b (each moment (login_events operator) next) rest
+entered_as machine a b moment user is next rest entered =
+    subst (λ (n : ℕ). FollowsPlan machine a b (each moment (login_events n) next) rest) is entered
 
 -- The job has logged in, or it is refused.
 module _ {V E S : Type 0} (machine : S → Machine) (bytes : V → List ℕ) (result : Result V E) (a b c : S)
-    (moment : Moment) (style : Style) (owners : List ℕ) (tally counted : Tally) (who : ℕ) (is : who ≡ operator) where
+    (moment : Moment) (style : Style) (owners : List ℕ) (tally counted : Tally) (user : ℕ) (is : user ≡ operator) where
   pub survey_carried : tally ≡ fresh → counted.reason ≡ tally.reason
-      → Led machine a b (each moment (enters who) (shows_all style owners silent)) (shows_all style owners silent)
-      → IfOk result (λ v. Led machine b c (shows_all style owners (spoken [] tally)) (Say (spoken (bytes v) counted)))
-      → IfErr result (λ error. (rest : Plan) × Led machine b c (shows_all style owners (spoken [] tally)) rest)
+      → FollowsPlan machine a b (each moment (login_events user) (shows_all style owners silent)) (shows_all style owners silent)
+      → IfOk result (λ v. FollowsPlan machine b c (shows_all style owners (spoken [] tally)) (Say (spoken (bytes v) counted)))
+      → IfErr result (λ error. (rest : Plan) × FollowsPlan machine b c (shows_all style owners (spoken [] tally)) rest)
       → Carries bytes result machine a c (surveys moment style owners) counted
   survey_carried none reason entered ok err =
-      let led = subst (λ (n : ℕ). Led machine a b (each moment (enters n) (shows_all style owners silent))
+      let led = subst (λ (n : ℕ). FollowsPlan machine a b (each moment (login_events n) (shows_all style owners silent))
       (shows_all style owners silent)) is entered in
       let start : spoken [] tally ≡ silent = ap (λ (t : Tally). spoken [] t) none in
       by result (subst (λ (said : Spoken). IfOk result
-      (λ v. Led machine b c (shows_all style owners said) (Say (spoken (bytes v) counted)))) start ok)
+      (λ v. FollowsPlan machine b c (shows_all style owners said) (Say (spoken (bytes v) counted)))) start ok)
       (subst (λ (said : Spoken). IfErr result
-      (λ error. (rest : Plan) × Led machine b c (shows_all style owners said) rest)) start err) led
+      (λ error. (rest : Plan) × FollowsPlan machine b c (shows_all style owners said) rest)) start err) led
     where
       by : (r : Result V E)
-          → IfOk r (λ v. Led machine b c (shows_all style owners silent) (Say (spoken (bytes v) counted)))
-          → IfErr r (λ error. (rest : Plan) × Led machine b c (shows_all style owners silent) rest)
-          → Led machine a b (surveys moment style owners) (shows_all style owners silent)
+          → IfOk r (λ v. FollowsPlan machine b c (shows_all style owners silent) (Say (spoken (bytes v) counted)))
+          → IfErr r (λ error. (rest : Plan) × FollowsPlan machine b c (shows_all style owners silent) rest)
+          → FollowsPlan machine a b (surveys moment style owners) (shows_all style owners silent)
           → Carries bytes r machine a c (surveys moment style owners) counted
       by (Ok v) p q led = (
         led_on machine a b c (surveys moment style owners) (shows_all style owners silent)
@@ -106,11 +106,11 @@ module _ {V E S : Type 0} (machine : S → Machine) (bytes : V → List ℕ) (re
           (q.0, led_on machine a b c (surveys moment style owners) (shows_all style owners silent) q.0 led q.1)
 
   pub survey_refused : (reply : Reply) → tally ≡ fresh
-      → Led machine a b (each moment (enters who) (shows_all style owners silent)) (fails moment reply)
-      → Concludes bytes result machine b c (fails moment reply) tally counted
+      → FollowsPlan machine a b (each moment (login_events user) (shows_all style owners silent)) (fails moment reply)
+      → FinishesPlan bytes result machine b c (fails moment reply) tally counted
       → Carries bytes result machine a c (surveys moment style owners) counted
   survey_refused reply none entered p =
-      let led = subst (λ (n : ℕ). Led machine a b (each moment (enters n) (shows_all style owners silent))
+      let led = subst (λ (n : ℕ). FollowsPlan machine a b (each moment (login_events n) (shows_all style owners silent))
       (fails moment reply)) is entered in
       carried_behind machine bytes result a b c (surveys moment style owners) (fails moment reply) counted led
       (carried machine bytes result b c (fails moment reply) tally counted none p)

@@ -18,7 +18,7 @@ use Rattle.spec_image.specs.declared.entry.Entry.{Entry}
 pub behind : (old a b x p : List ℕ) → a ≡ old ++ x → b ≡ a ++ p → b ≡ old ++ (x ++ p)
 behind old a b x p e f = f ∙ ap (λ (l : List ℕ). l ++ p) e ∙ append_assoc old x p
 
--- of the characters from a blank on, a blank alone is white space
+-- among the characters from the blank upwards, only a blank is white space
 blank_alone : (c : ℕ) → 32 ≤ c → is_ascii_whitespace c ≡ (c == 32)
 blank_alone c h = grind (arith, nat_tests)
 

@@ -5,12 +5,12 @@ use Rattle.words36.specs.declared.moment.Moment.{Moment}
 use Rattle.spec_language.specs.Common.{Means, Line, Spoken, both_said, silent, Act, Speaks, Orders, MeansEvent}
 use Rattle.spec_language.specs.declared.command.Command.{Command}
 use Rattle.spec_machine.specs.declared.call.Event.{Event}
-use Rattle.commands.specs.Common.{LineSays, IsServedTranscript, spoken, HeardIn, Hears}
+use Rattle.commands.specs.Common.{LineSays, IsServedTranscript, spoken, IsParsedLine, LineActs}
 use Rattle.commands.specs.declared.answer.Tally.{Tally}
 use Rattle.commands.specs.declared.language.Language.{Language}
 use Rattle.commands.specs.declared.language.Language.TheVariants.{Commands, Events}
-use Rattle.commands.specs.declared.run.Heard.{Heard}
-use Rattle.commands.specs.declared.run.Heard.TheVariants.{Nothing, Said, Ordered}
+use Rattle.commands.specs.declared.run.ParsedLine.{ParsedLine}
+use Rattle.commands.specs.declared.run.ParsedLine.TheVariants.{NoLine, CommandLine, EventLine}
 
 pub or-false : (b : Bool) → b ≡ b || false
 or-false true = refl
@@ -38,18 +38,18 @@ joined_assoc a b c =
     λ i. record { text = e i; refused = f i; broke = h i }
 
 module _ (language : Language) (moment : Moment) where
-  pub transcript_on : (who : Option ℕ) (lines more : List Line) (acts next : List Act) (said here : Spoken)
-      (mid after : Option ℕ) → IsServedTranscript language moment who lines acts said mid
+  pub transcript_on : (user : Option ℕ) (lines more : List Line) (acts next : List Act) (said here : Spoken)
+      (mid after : Option ℕ) → IsServedTranscript language moment user lines acts said mid
       → IsServedTranscript language moment mid more next here after
-      → IsServedTranscript language moment who (lines ++ more) (acts ++ next) (both_said said here) after
-  transcript_on who [] more acts next said here mid after p q =
-      let w : mid ≡ who = p.2 in
+      → IsServedTranscript language moment user (lines ++ more) (acts ++ next) (both_said said here) after
+  transcript_on user [] more acts next said here mid after p q =
+      let w : mid ≡ user = p.2 in
       let a : next ≡ acts ++ next = ap (λ (l : List Act). l ++ next) (sym p.0) in
       let s : here ≡ both_said said here = joined-silent said here p.1 in
       subst (λ (v : Option ℕ). IsServedTranscript language moment v more (acts ++ next) (both_said said here) after) w
       (subst (λ (v : Spoken). IsServedTranscript language moment mid more (acts ++ next) v after) s
       (subst (λ (l : List Act). IsServedTranscript language moment mid more l here after) a q))
-  transcript_on who (line ∷ lines) more acts next said here mid after p q = (
+  transcript_on user (line ∷ lines) more acts next said here mid after p q = (
     p.0,
     p.1 ++ next,
     p.2,
@@ -61,10 +61,10 @@ module _ (language : Language) (moment : Moment) where
     ap (λ (v : Spoken). both_said v here) p.8 ∙ joined_assoc p.2 p.3 here,
   )
 
-  transcript_one : (who : Option ℕ) (line : Line) (acts : List Act) (said : Spoken) (after : Option ℕ)
-      → LineSays language moment who line acts said after
-      → IsServedTranscript language moment who (line ∷ []) acts said after
-  transcript_one who line acts said after p = (
+  transcript_one : (user : Option ℕ) (line : Line) (acts : List Act) (said : Spoken) (after : Option ℕ)
+      → LineSays language moment user line acts said after
+      → IsServedTranscript language moment user (line ∷ []) acts said after
+  transcript_one user line acts said after p = (
     acts,
     [],
     said,
@@ -76,55 +76,55 @@ module _ (language : Language) (moment : Moment) where
     joined-end said,
   )
 
-  -- What was heard is what the line says.
+  -- The parsed line is what the line means.
 
-  says_said : (who : Option ℕ) (line : Line) (meant : Option Command) (acts : List Act) (said : Spoken)
+  says_said : (user : Option ℕ) (line : Line) (meant : Option Command) (acts : List Act) (said : Spoken)
       (after : Option ℕ) → language ≡ Commands → Means line meant
-      → Speaks moment who meant acts said after
-      → LineSays language moment who line acts said after
-  says_said who line meant acts said after e m p =
-      subst (λ (l : Language). LineSays l moment who line acts said after) (sym e)
+      → Speaks moment user meant acts said after
+      → LineSays language moment user line acts said after
+  says_said user line meant acts said after e m p =
+      subst (λ (l : Language). LineSays l moment user line acts said after) (sym e)
       (meant, m, p)
 
-  says_ordered : (who : Option ℕ) (line : Line) (order : Option Event) (acts : List Act) (said : Spoken)
-      (after : Option ℕ) → language ≡ Events → MeansEvent line moment order → Orders order acts said × (after ≡ who)
-      → LineSays language moment who line acts said after
-  says_ordered who line order acts said after e m p =
-      subst (λ (l : Language). LineSays l moment who line acts said after) (sym e) (order, m, p.0, p.1)
+  says_ordered : (user : Option ℕ) (line : Line) (order : Option Event) (acts : List Act) (said : Spoken)
+      (after : Option ℕ) → language ≡ Events → MeansEvent line moment order → Orders order acts said × (after ≡ user)
+      → LineSays language moment user line acts said after
+  says_ordered user line order acts said after e m p =
+      subst (λ (l : Language). LineSays l moment user line acts said after) (sym e) (order, m, p.0, p.1)
 
-  -- where something was heard there is a line
-  pub heard_line : (who : Option ℕ) (lines : List Line) (heard : Heard) (acts : List Act) (said : Spoken)
-      (after : Option ℕ) → heard ≢ Nothing → HeardIn language moment lines heard
-      → Hears moment who heard acts said after
-      → (line : Line) × LineSays language moment who line acts said after × (lines ≡ line ∷ [])
-  heard_line who [] heard acts said after n h p = absurd (n h)
-  heard_line who (line ∷ lines) Nothing acts said after n h p = absurd h
-  heard_line who (line ∷ lines) (Said meant) acts said after n h p =
-      (line, says_said who line meant acts said after h.0 h.1 p, ap (λ (l : List Line). line ∷ l) h.2)
-  heard_line who (line ∷ lines) (Ordered order) acts said after n h p =
-      (line, says_ordered who line order acts said after h.0 h.1 p, ap (λ (l : List Line). line ∷ l) h.2)
+  -- if something was parsed there is a line
+  pub parsed_line : (user : Option ℕ) (lines : List Line) (parsed : ParsedLine) (acts : List Act) (said : Spoken)
+      (after : Option ℕ) → parsed ≢ NoLine → IsParsedLine language moment lines parsed
+      → LineActs moment user parsed acts said after
+      → (line : Line) × LineSays language moment user line acts said after × (lines ≡ line ∷ [])
+  parsed_line user [] parsed acts said after n h p = absurd (n h)
+  parsed_line user (line ∷ lines) NoLine acts said after n h p = absurd h
+  parsed_line user (line ∷ lines) (CommandLine meant) acts said after n h p =
+      (line, says_said user line meant acts said after h.0 h.1 p, ap (λ (l : List Line). line ∷ l) h.2)
+  parsed_line user (line ∷ lines) (EventLine order) acts said after n h p =
+      (line, says_ordered user line order acts said after h.0 h.1 p, ap (λ (l : List Line). line ∷ l) h.2)
 
-  -- what was heard is what the lines say
-  pub transcript_heard : (who : Option ℕ) (lines : List Line) (heard : Heard) (acts : List Act) (said : Spoken)
-      (after : Option ℕ) → HeardIn language moment lines heard → Hears moment who heard acts said after
-      → IsServedTranscript language moment who lines acts said after
-  transcript_heard who [] heard acts said after h p = subst (λ (x : Heard). Hears moment who x acts said after) h p
-  transcript_heard who (line ∷ lines) Nothing acts said after h p = absurd h
-  transcript_heard who (line ∷ lines) (Said meant) acts said after h p =
-      subst (λ (l : List Line). IsServedTranscript language moment who (line ∷ l) acts said after) (sym h.2)
-      (transcript_one who line acts said after (says_said who line meant acts said after h.0 h.1 p))
-  transcript_heard who (line ∷ lines) (Ordered order) acts said after h p =
-      subst (λ (l : List Line). IsServedTranscript language moment who (line ∷ l) acts said after) (sym h.2)
-      (transcript_one who line acts said after (says_ordered who line order acts said after h.0 h.1 p))
+  -- the parsed lines are what the lines mean
+  pub transcript_parsed : (user : Option ℕ) (lines : List Line) (parsed : ParsedLine) (acts : List Act) (said : Spoken)
+      (after : Option ℕ) → IsParsedLine language moment lines parsed → LineActs moment user parsed acts said after
+      → IsServedTranscript language moment user lines acts said after
+  transcript_parsed user [] parsed acts said after h p = subst (λ (x : ParsedLine). LineActs moment user x acts said after) h p
+  transcript_parsed user (line ∷ lines) NoLine acts said after h p = absurd h
+  transcript_parsed user (line ∷ lines) (CommandLine meant) acts said after h p =
+      subst (λ (l : List Line). IsServedTranscript language moment user (line ∷ l) acts said after) (sym h.2)
+      (transcript_one user line acts said after (says_said user line meant acts said after h.0 h.1 p))
+  transcript_parsed user (line ∷ lines) (EventLine order) acts said after h p =
+      subst (λ (l : List Line). IsServedTranscript language moment user (line ∷ l) acts said after) (sym h.2)
+      (transcript_one user line acts said after (says_ordered user line order acts said after h.0 h.1 p))
 
--- of events nobody is logged in
-pub events_who : (moment : Moment) (who : Option ℕ) (lines : List Line) (acts : List Act) (said : Spoken)
-    (after : Option ℕ) → IsServedTranscript Events moment who lines acts said after → after ≡ who
-events_who moment who [] acts said after p = p.2
-events_who moment who (line ∷ lines) acts said after (first, more, here, there, mid, says, rest, split, text) =
+-- nobody is logged in for events
+pub events_who : (moment : Moment) (user : Option ℕ) (lines : List Line) (acts : List Act) (said : Spoken)
+    (after : Option ℕ) → IsServedTranscript Events moment user lines acts said after → after ≡ user
+events_who moment user [] acts said after p = p.2
+events_who moment user (line ∷ lines) acts said after (first, more, here, there, mid, says, rest, split, text) =
     events_who moment mid lines more there after rest ∙ says.3
 
--- what is said when a line is added to what was said
+-- the outcome if a line is added to those before
 pub spoken_more : (past after : List ℕ) (tally counted : Tally) (said : Spoken) → past ++ said.text ≡ after
     → counted.refused ≡ tally.refused || said.refused → counted.broke ≡ tally.broke || said.broke
     → both_said (spoken past tally) said ≡ spoken after counted

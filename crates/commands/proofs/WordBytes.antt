@@ -33,7 +33,7 @@ character_shown zero is = let wrong : false ≡ true = is in cc
 character_shown (suc c) is = let some : nat_eq (suc c) 0 ≡ false = grind (arith, nat_tests) in
     ap (λ (b : Bool). if b then [] else suc c ∷ []) some
 
--- what is typed of a text's words is the text
+-- the text that is printed for a text's words is the text
 pub typed_packed : (text : List ℕ) → Are is_character text → typed (packed text) ≡ text
 typed_packed [] are = refl
 typed_packed (a ∷ []) are =
@@ -61,7 +61,7 @@ typed_packed (a ∷ b ∷ c ∷ d ∷ e ∷ rest) are =
     ++ (character_shown d are.1.1.1.0 i ++ (character_shown e are.1.1.1.1.0 i
     ++ typed_packed rest are.1.1.1.1.1 i)))))
 
--- What is typed are characters of a file.
+-- The text that is printed has only characters of a file.
 
 shown_is : (c : ℕ) → c ≤ 127 → Are is_character (not_null c)
 shown_is zero few = tt
@@ -181,7 +181,7 @@ module _ (words text : List ℕ) (is : text ≡ typed words) where
       let same : text ≡ bytes = is ∙ ap typed are.1 ∙ typed_packed bytes are.0 in
       other (ap packed same ∙ sym are.1)
 
--- what there is to say if nothing was found
+-- the result if nothing was found
 pub none_of : {X P : Type 0} (found : Option X) → ((x : X) → found ≡ Some x → ⊥) → IfNone found P → P
 none_of None other p = p
 none_of (Some x) other p = absurd (other x refl)
@@ -212,7 +212,7 @@ pub words_exact : (words bytes : List ℕ) → All IsWord words → bytes ≡ fl
 words_exact words bytes all is =
     (subst (λ (l : List ℕ). All IsOctet l) (sym is) (words_fit words), (all, sym is))
 
--- Pieces of words that are typed one after the other.
+-- Pieces of words that are printed one after the other.
 pub typed_pieces : (before after words rest piece behind : List ℕ) (n : ℕ) → after ≡ before ++ typed piece
     → piece ≡ take n rest → behind ≡ drop n rest → before ++ typed rest ≡ typed words
     → after ++ typed behind ≡ typed words
@@ -221,7 +221,7 @@ typed_pieces before after words rest piece behind n put is_piece is_behind was =
     ap (λ (l : List ℕ). l ++ typed behind) put ∙ append_assoc before (typed piece) (typed behind)
     ∙ ap (λ (l : List ℕ). before ++ l) (sym (typed-append piece behind) ∙ ap typed whole) ∙ was
 
--- Bytes have the same words, whatever they are asked for.
+-- In each encoding, bytes have at most one list of words.
 
 pub words_same : (a b : List ℕ) → All IsWord a → All IsWord b → flat_map word_bytes a ≡ flat_map word_bytes b → a ≡ b
 words_same a b fit other same =

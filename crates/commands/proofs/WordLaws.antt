@@ -1,4 +1,4 @@
--- Bytes of an input as the words that a file gets of them.
+-- Bytes of an input, and the words that a file gets of them.
 use Rattle.std.proofs.Common.{◌≡◌, ℕ, ◌+◌, ◌*◌, ◌/◌, ◌%◌, ◌^◌, ◌<◌, ◌≤◌, true, false, List, [], ◌∷◌, length, get_or}
 use Rattle.std.proofs.Common.{All, Some, refl, sym, ◌∙◌, ap, subst, arith, zero, suc, nat_eq, Bool, ◌++◌, ◌||◌}
 use Rattle.std.proofs.Common.{if◌then◌else◌}
@@ -27,7 +27,7 @@ not_eights bytes words odd same =
     let long : length bytes ≡ 8 * length words = sym (ap length same) ∙ length-words words in
     odd (omega arith)
 
--- where a place's bytes are no word, no words have the bytes
+-- if a place's bytes are no word, no words have the bytes
 pub no_word : (bytes words : List ℕ) (i : ℕ) → 8 * i + 8 ≤ length bytes → 2 ^ 36 ≤ number_at bytes i → All IsWord words
     → flat_map word_bytes words ≡ bytes → ⊥
 no_word bytes words i inside bad all same =

@@ -1,11 +1,11 @@
--- The texts that a day may be given as: `1975-01-04`, as `list --tsv` prints it, or `4-Jan-1975`, as DIRECTORY does.
+-- The two texts of a day: `1975-01-04`, as `list --tsv` prints it, or `4-Jan-1975`, as DIRECTORY does.
 use Rattle.std.specs.Prelude.{◌≡◌, ◌⊎◌, ℕ, ◌-◌, ◌≤◌, List, ◌∷◌, ◌++◌, length, map}
 use Rattle.std.specs.Char.{to_ascii_lowercase}
 use Rattle.words36.specs.Common.{IsDate, date_number}
 use Rattle.spec_language.specs.Common.{Are, is_digit, decimal_after, month_text}
 use Rattle.commands.specs.Characters.{is_other_than}
 
--- a number of at least and at most so many digits
+-- a number of `least` to `most` digits
 pub record IsDecimal (least most : ℕ) (text : List ℕ) (n : ℕ) : Type 0 where
   pub enough : least ≤ length text
   pub few : length text ≤ most

@@ -1,9 +1,9 @@
--- The parts of what names a file.
+-- The parts of a text that names a file.
 use Rattle.std.specs.Prelude.{◌≡◌, ◌⊎◌, ℕ, ◌≤◌, List, ◌++◌, length}
 use Rattle.words36.specs.Common.{sixbit}
 use Rattle.spec_language.specs.Common.{is_letter, Are, IsName, IsExtension, IsPair, IsBracketed}
 
--- at most so many letters and digits, and the word that they pack into
+-- at most `most` letters and digits, and the word that they pack into
 pub record AreLetters (most : ℕ) (text : List ℕ) (word : ℕ) : Type 0 where
   pub few : length text ≤ most
   pub letters : Are is_letter text

@@ -1,4 +1,4 @@
--- What the errands of job 1 come to, where the service has kept its promises.
+-- What the errands of job 1 come to, if the service has kept its promises.
 use Rattle.std.specs.Prelude.{◌≡◌, ◌⊎◌, ◌<◌, ℕ, IsTrue, List, All, length, Option, None, Some, Ok, codes, flat_map}
 use Rattle.std.specs.declared.alloc.AllocError.{AllocError}
 use Rattle.std.specs.Io.KnownBytes.{Appends, Consumes, IsAtEnd}
@@ -8,22 +8,22 @@ use Rattle.spec_language.specs.Common.{AreShort, HasFiles, IsPut, IsLineRefused,
 use Rattle.spec_language.specs.Common.{place_of, IsRefusedAt, AreWords, gets, keeps, operator, unfit, Act, Spoken}
 use Rattle.spec_language.specs.Common.{complains, refuses}
 use Rattle.spec_machine.specs.Common.{State, Service, Serving}
-use Rattle.spec_image.specs.Common.{Version, file_at}
+use Rattle.spec_image.specs.Common.{SpecVersion, file_at}
 use Rattle.spec_machine.specs.declared.call.Reply.{Reply}
 use Rattle.spec_language.specs.declared.command.Spec.{Spec}
 use Rattle.spec_language.specs.declared.encoding.Encoding.{Encoding}
-use Rattle.commands.specs.Errands.{Delivery, Errand, keeps_new}
-use Rattle.commands.specs.Exporting.{HasExported, IsExport, takes_out}
-use Rattle.commands.specs.Importing.{Imported, said_behind}
+use Rattle.commands.specs.Transfers.{Delivery, Errand, keeps_new}
+use Rattle.commands.specs.Export.{HasExported, IsExport, takes_out}
+use Rattle.commands.specs.Import.{Imported, said_behind}
 use Rattle.commands.specs.Machines.{Machine}
 use Rattle.commands.specs.Reasons.{BeginsNoFile, IsTooLong}
 use Rattle.commands.specs.Streams.{spoken}
 use Rattle.commands.specs.declared.answer.Tally.{Tally}
-use Rattle.commands.specs.declared.exporting.Exported.{Exported}
-use Rattle.commands.specs.declared.exporting.Exported.TheVariants.{Refused}
+use Rattle.commands.specs.declared.export_file.Exported.{Exported}
+use Rattle.commands.specs.declared.export_file.Exported.TheVariants.{Refused}
 
--- Why an input was refused: it is no file, read to its end or to bytes with which none begins; it is too long; or a
--- reply was not the one wanted.
+-- Why an input was refused: it can't be a file, read to its end or to bytes with which no file begins; it is too long;
+-- or a reply was not the wanted one.
 abbrev pub IsRefusedFor : Moment → Encoding → Type 0 → List ℕ → List Act → Spoken → Type 0
 IsRefusedFor moment encoding at_end read acts said =
     ((at_end ⊎ BeginsNoFile encoding read) × AreWords encoding read None × (said ≡ complains (unfit encoding)))
@@ -36,7 +36,7 @@ IsStored moment me s encoding spec at_end read acts said last =
     (at_end × (words : List ℕ) × AreWords encoding read (Some words) × IsPut moment me s encoding spec words said last)
     ⊎ (IsTrue said.refused × HasFiles s.files last × IsRefusedFor moment encoding at_end read acts said)
 
--- An input whose answer was written is kept or refused; it is kept only if it was read to its end.
+-- An input whose answer was written is stored or refused; it is stored only if it was read to its end.
 abbrev pub DeliveriesKeepFiles : {S : Type 0} → (S → Machine) → Type 0
 DeliveriesKeepFiles {S} machine =
     (source left sink full : Option (List ℕ)) (old new : S) (moment : Moment) (me : ℕ) (encoding : Encoding)
@@ -48,7 +48,7 @@ DeliveriesKeepFiles {S} machine =
     × (last : Service) × (machine new).serves last
     × IsStored moment me s encoding spec (IsAtEnd left) read delivery.acts (spoken written tally) last
 
--- No file has the name, and 0 is no name.
+-- No file has the name, or it is 0, which is no name.
 abbrev pub IsFree : ℕ → State → Spec → Type 0
 IsFree me s spec = (spec.name.name ≡ 0) ⊎ (file_at s.files (place_of me spec) ≡ None)
 
@@ -60,7 +60,7 @@ IsStoredNew moment me s encoding spec at_end read said last =
     × IsPut moment me s encoding spec words said last × IsFree me s spec)
     ⊎ (IsTrue said.refused × HasFiles s.files last)
 
--- The same of an input that is kept only if there is no file of its name.
+-- The same for an input that is stored only if there is no file of its name.
 abbrev pub DeliveriesMakeFiles : {S : Type 0} → (S → Machine) → Type 0
 DeliveriesMakeFiles {S} machine =
     (source left sink full : Option (List ℕ)) (old new : S) (moment : Moment) (me : ℕ) (encoding : Encoding)
@@ -73,7 +73,7 @@ DeliveriesMakeFiles {S} machine =
     × (last : Service) × (machine new).serves last
     × IsStoredNew moment me s encoding spec (IsAtEnd left) read (spoken written tally) last
 
--- What is written of bytes that are imported is, behind their label, what such a put says.
+-- The text that is written for imported bytes is, after their label, the text of such a put.
 abbrev pub ImportsMakeFiles : {S : Type 0} → (S → Machine) → Type 0
 ImportsMakeFiles {S} machine =
     (sink full : Option (List ℕ)) (old new : S) (moment : Moment) (me : ℕ) (encoding : Encoding) (spec : Spec)
@@ -85,8 +85,8 @@ ImportsMakeFiles {S} machine =
     × (last : Service) × (machine new).serves last
     × IsStoredNew moment me s encoding spec (Unit {0}) bytes said last
 
--- What its version's words come to is written of a file that is got, or it is refused at a reply that was not wanted;
--- the files stay.
+-- For a file that is got, its version's words are written in the encoding, or it is refused at a reply that was not the
+-- wanted one; the files stay.
 abbrev pub ErrandsShowFiles : {S : Type 0} → (S → Machine) → Type 0
 ErrandsShowFiles {S} machine =
     (sink full : Option (List ℕ)) (old new : S) (moment : Moment) (me : ℕ) (encoding : Encoding) (spec : Spec)
@@ -98,22 +98,23 @@ ErrandsShowFiles {S} machine =
     × (IsPrinted me s encoding spec (spoken written tally) last
     ⊎ (IsLineRefused s.files (spoken written tally) last × IsRefusedAt moment errand.acts (spoken written tally)))
 
--- Words that were read of a body. Their bytes, eight for each, are those of the body, so they are its own words, if
+-- Words that were read from a body. Their bytes, eight for each, are those of the body, so they are its own words, if
 -- these fit.
 pub record AreReadOf (body words : List ℕ) : Type 0 where
   pub fit : All IsWord words
   pub printed : flat_map word_bytes words ≡ flat_map word_bytes body
   pub same : All IsWord body → words ≡ body
 
--- The words of the version that was found are taken out; or the file is refused, at the reply that was not wanted.
+-- The words of the version that was found are taken out; or the file is refused, at the reply that was not the wanted
+-- one.
 abbrev pub IsExportOf : Moment → Option Encoding → ℕ → State → Spec → List Act → Exported → Type 0
 IsExportOf moment asked mode s spec acts exported =
-    ((v : Version) × (file_at s.files (place_of operator spec) ≡ Some v)
+    ((v : SpecVersion) × (file_at s.files (place_of operator spec) ≡ Some v)
     × (words : List ℕ) × AreReadOf v.file.body words × IsExport asked mode words exported)
     ⊎ ((reply : Reply) × (exported ≡ Refused reply) × IsRefusedAt moment acts (refuses reply))
 
--- What is answered for a file that is taken out is what its version's words come to, or a refusal at a reply that was
--- not wanted; the files stay.
+-- The answer for a file that is taken out is what its version's words come to, or a refusal at a reply that was not the
+-- wanted one; the files stay.
 abbrev pub ExportsShowFiles : {S : Type 0} → (S → Machine) → Type 0
 ExportsShowFiles {S} machine =
     (old new : S) (moment : Moment) (asked : Option Encoding) (mode : ℕ) (spec : Spec) (exported : Exported)

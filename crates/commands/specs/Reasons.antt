@@ -1,4 +1,4 @@
--- What people may be told of a refusal beside what is printed: which lines were refused, and why bytes can't be a file.
+-- The details of a refusal, besides what is printed: which lines were refused, and why bytes can't be a file.
 use Rattle.std.specs.Prelude.{◌≡◌, ◌≢◌, ◌+◌, ◌-◌, ◌*◌, ◌%◌, ◌^◌, ◌<◌, ◌≤◌, ◌==◌, ℕ, Bool, true, false, min, List, []}
 use Rattle.std.specs.Prelude.{◌∷◌, ◌++◌, length, map, take, slice_index, Option, Some, None, Result, Ok, Err}
 use Rattle.std.specs.Prelude.{if◌then◌else◌}
@@ -39,7 +39,7 @@ IsMisfit encoding bytes (Word place) =
     × ((before : ℕ) → before + 1 < place → number_at bytes before < 2 ^ 36) × (2 ^ 36 ≤ number_at bytes (place - 1))
 IsMisfit encoding bytes (Excess most) = (most ≡ most_bytes encoding) × IsTooLong encoding bytes
 
--- the words that bytes say, or why they don't say any
+-- the words that bytes spell, or why they don't spell any
 abbrev pub HasWords : {V : Type 0} → (V → List ℕ) → Encoding → List ℕ → Result V Misfit → Type 0
 HasWords items encoding bytes (Ok words) = AreWords encoding bytes (Some (items words))
 HasWords items encoding bytes (Err misfit) = AreWords encoding bytes None × IsMisfit encoding bytes misfit
@@ -48,7 +48,7 @@ abbrev pub words_said : {V : Type 0} → (V → List ℕ) → Result V Misfit �
 words_said items (Ok words) = Some (items words)
 words_said items (Err misfit) = None
 
--- the reason that the tally of an input has: there is no reason exactly if it can be a file
+-- the reason in the tally of an input: there is no reason exactly if it can be a file
 abbrev pub IsInputReason : Encoding → List ℕ → Option Reason → Type 0
 IsInputReason encoding bytes None = (words : List ℕ) × AreWords encoding bytes (Some words)
 IsInputReason encoding bytes (Some (Lines lines)) = ⊥
@@ -76,12 +76,12 @@ numbered_after n raw (b ∷ bs) =
 abbrev pub numbered : List ℕ → List (ℕ × Line)
 numbered input = numbered_after 1 [] input
 
--- the number of a line that was refused, or nothing
+-- the number of a line if it was refused
 abbrev pub mark : Bool → ℕ → List ℕ
 mark true n = n ∷ []
 mark false n = []
 
--- the reason by the numbers of the lines that were refused
+-- the reason for the numbers of the lines that were refused
 abbrev pub reason_of : List ℕ → Option Reason
 reason_of [] = None
 reason_of (n ∷ more) = Some (Lines (record { count = capped (length more + 1); first = capped n }))

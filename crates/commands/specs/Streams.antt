@@ -1,7 +1,7 @@
 -- How far an input has been answered, in bytes that were read and bytes that were written.
 use Rattle.std.specs.Prelude.{◌≡◌, ◌<◌, ℕ, List, [], ◌∷◌, ◌++◌, length, Option, None, ◌⊎◌}
 use Rattle.words36.specs.declared.moment.Moment.{Moment}
-use Rattle.spec_language.specs.Common.{Line, feed, lines, Are, Spoken, silent, both_said, Act, calls, Went}
+use Rattle.spec_language.specs.Common.{Line, feed, lines, Are, Spoken, silent, both_said, Act, call_event, Went}
 use Rattle.spec_image.specs.Common.{Pack}
 use Rattle.spec_machine.specs.Common.{Service, Answers}
 use Rattle.spec_machine.specs.declared.call.Call.TheVariants.{Reset}
@@ -15,23 +15,23 @@ use Rattle.commands.specs.declared.answer.Tally.{Tally}
 use Rattle.commands.specs.declared.language.Language.{Language}
 use Rattle.commands.specs.declared.language.Language.TheVariants.{Commands, Events}
 
--- What lines ask, one after the other, and what they say.
+-- The acts of lines, one after the other, and their outcome.
 abbrev pub IsServedTranscript : Language → Moment → Option ℕ → List Line → List Act → Spoken → Option ℕ → Type 0
-IsServedTranscript language moment who [] acts said then_who = (acts ≡ []) × (said ≡ silent) × (then_who ≡ who)
-IsServedTranscript language moment who (line ∷ lines) acts said then_who =
+IsServedTranscript language moment user [] acts said then_who = (acts ≡ []) × (said ≡ silent) × (then_who ≡ user)
+IsServedTranscript language moment user (line ∷ lines) acts said then_who =
     (first : List Act) × (more : List Act) × (here : Spoken) × (there : Spoken) × (mid : Option ℕ)
-    × LineSays language moment who line first here mid
+    × LineSays language moment user line first here mid
     × IsServedTranscript language moment mid lines more there then_who
     × (acts ≡ first ++ more) × (said ≡ both_said here there)
 
--- The same of lines with their numbers, and with the numbers of those that are refused.
+-- The same for lines with their numbers, and with the numbers of those that are refused.
 abbrev pub IsNumberedTranscript : Language → Moment → Option ℕ → List (ℕ × Line) → List Act → Spoken → Option ℕ
     → List ℕ → Type 0
-IsNumberedTranscript language moment who [] acts said then_who refused =
-    (acts ≡ []) × (said ≡ silent) × (then_who ≡ who) × (refused ≡ [])
-IsNumberedTranscript language moment who (line ∷ lines) acts said then_who refused =
+IsNumberedTranscript language moment user [] acts said then_who refused =
+    (acts ≡ []) × (said ≡ silent) × (then_who ≡ user) × (refused ≡ [])
+IsNumberedTranscript language moment user (line ∷ lines) acts said then_who refused =
     (first : List Act) × (more : List Act) × (here : Spoken) × (there : Spoken) × (mid : Option ℕ)
-    × (later : List ℕ) × LineSays language moment who line.1 first here mid
+    × (later : List ℕ) × LineSays language moment user line.1 first here mid
     × IsNumberedTranscript language moment mid lines more there then_who later
     × (acts ≡ first ++ more) × (said ≡ both_said here there) × (refused ≡ mark here.refused line.0 ++ later)
 
@@ -41,11 +41,11 @@ pub record IsServedSession (pack : Pack) (moment : Moment) (input : List ℕ) (o
     (said : Spoken) : Type 0 where
   pub acts : List Act
   pub mid : Service
-  pub who : Option ℕ
-  pub transcript : IsServedTranscript Commands moment None (lines input) acts said who
+  pub user : Option ℕ
+  pub transcript : IsServedTranscript Commands moment None (lines input) acts said user
   pub went : Went pack old acts mid
   pub answer : Reply
-  pub reset : Answers pack mid (calls moment Reset) answer new
+  pub reset : Answers pack mid (call_event moment Reset) answer new
 
 pub record IsServedScript (pack : Pack) (moment : Moment) (input : List ℕ) (old new : Service)
     (said : Spoken) : Type 0 where
@@ -53,7 +53,7 @@ pub record IsServedScript (pack : Pack) (moment : Moment) (input : List ℕ) (ol
   pub ordered : IsServedTranscript Events moment None (lines input) acts said None
   pub went : Went pack old acts new
 
--- a text with what was counted of its lines
+-- a text with the tally of its lines, as an outcome
 abbrev pub spoken : List ℕ → Tally → Spoken
 spoken text tally = record { text = text; refused = tally.refused; broke = tally.broke }
 
@@ -64,21 +64,21 @@ HasNoFeed bytes = Are (is_other_than feed) bytes
 abbrev pub AreWholeLines : List ℕ → Type 0
 AreWholeLines bytes = (bytes ≡ []) ⊎ ((before : List ℕ) × (bytes ≡ before ++ feed ∷ []))
 
--- All was answered and written, and then what is done at the end, for which nothing is written. It is told which lines
--- were refused.
+-- All was answered and written, and then the acts at the end were done, for which nothing is written. The tally's
+-- reason is that of the refused lines.
 pub record Finished (language : Language) (moment : Moment) (read written : List ℕ) (acts : List Act)
     (tally : Tally) : Type 0 where
   pub talked : List Act
-  pub who : Option ℕ
-  pub transcript : IsServedTranscript language moment None (lines read) talked (spoken written tally) who
+  pub user : Option ℕ
+  pub transcript : IsServedTranscript language moment None (lines read) talked (spoken written tally) user
   pub refused : List ℕ
-  pub refuses : IsNumberedTranscript language moment None (numbered read) talked (spoken written tally) who refused
+  pub refuses : IsNumberedTranscript language moment None (numbered read) talked (spoken written tally) user refused
   pub reason : tally.reason ≡ reason_of refused
   pub closing : List Act
   pub closes : ClosesSession language moment closing
   pub acts_are : acts ≡ talked ++ closing
 
--- All lines were answered and written but for one that had not ended.
+-- All lines were answered and written except one that had not ended.
 pub record CutShort (language : Language) (moment : Moment) (read written : List ℕ) (acts : List Act) : Type 0 where
   pub front : List ℕ
   pub seen : List ℕ
@@ -86,17 +86,17 @@ pub record CutShort (language : Language) (moment : Moment) (read written : List
   pub ended : AreWholeLines front
   pub unended : HasNoFeed seen
   pub said : Spoken
-  pub who : Option ℕ
-  pub transcript : IsServedTranscript language moment None (lines front) acts said who
+  pub user : Option ℕ
+  pub transcript : IsServedTranscript language moment None (lines front) acts said user
   pub whole : written ≡ said.text
 
--- Of a text this was written and this was not: the writer refused some of it, or there was no memory for it.
+-- The written and the unwritten part of a text: the writer refused some of it, or there was no memory for it.
 abbrev pub IsCut : SessionError → List ℕ → List ℕ → Type 0
 IsCut Read written unwritten = ⊥
 IsCut Write written unwritten = 0 < length unwritten
 IsCut NoMemory written unwritten = written ≡ []
 
--- Lines were answered, and the writer holds a beginning of their text: it refused the rest.
+-- Lines were answered, and the writer has a beginning of their text: it refused the rest.
 pub record CutOff (language : Language) (at_end : Type 0) (moment : Moment) (read written : List ℕ)
     (acts : List Act) : Type 0 where
   pub front : List ℕ
@@ -104,8 +104,8 @@ pub record CutOff (language : Language) (at_end : Type 0) (moment : Moment) (rea
   pub parted : read ≡ front ++ behind
   pub ended : AreWholeLines front ⊎ ((behind ≡ []) × at_end)
   pub said : Spoken
-  pub who : Option ℕ
-  pub transcript : IsServedTranscript language moment None (lines front) acts said who
+  pub user : Option ℕ
+  pub transcript : IsServedTranscript language moment None (lines front) acts said user
   pub unwritten : List ℕ
   pub parts : said.text ≡ written ++ unwritten
   pub some : 0 < length unwritten
@@ -127,7 +127,7 @@ pub record Unfinished (language : Language) (at_end : Type 0) (moment : Moment) 
   pub transcript : IsServedTranscript language moment None before first earlier mid
   pub more : List Act
   pub here : Spoken
-  pub who : Option ℕ
-  pub says : LineSays language moment mid line more here who
+  pub user : Option ℕ
+  pub says : LineSays language moment mid line more here user
   pub acts_are : acts ≡ first ++ more
   pub written_is : written ≡ earlier.text

@@ -1,18 +1,19 @@
+//! The command of a line: its calls, its text, and the tally of all lines.
 ghost use Rattle.std.specs.Prelude.{◌≡◌, ◌||◌, ℕ, IfOk, Some, codes, false, true};
 ghost use Rattle.spec_language.specs.Common.{line, is_broken};
 ghost use Rattle.spec_language.specs.declared.command.Command.TheVariants.{Login as LoginLine};
 ghost use Rattle.spec_language.specs.declared.command.Command.TheVariants.{Directory as DirectoryLine};
-ghost use Rattle.commands.specs.Common.{fresh, Fits, counts, Spoke};
+ghost use Rattle.commands.specs.Common.{fresh, Fits, counts, CommandDone};
 
-use crate::changing::{delete, protect, rename};
-use crate::copying::copy;
-use crate::limiting::limit;
-use crate::makdir::make_dir;
+use crate::change_file::{delete, protect, rename};
+use crate::copy_file::copy;
+use crate::list_directories::show;
+use crate::make_dir::make_dir;
 use crate::reason::{Reason, with_line};
 use crate::service::FileService;
-use crate::survey::show;
+use crate::set_quota::limit;
 use crate::text;
-use crate::typing::type_out;
+use crate::type_line::type_out;
 use spec_language::{Command, Spec, Style};
 use spec_machine::{Event, Reply};
 use std::alloc::{AllocError, Global};
@@ -21,7 +22,7 @@ use words36::{Moment, Ppn};
 /// The job that a session acts as.
 pub const SESSION_JOB: u32 = 1;
 
-/// How many words its core has.
+/// The number of words of its core.
 pub const CORE_WORDS: u32 = 0o10000;
 
 /// What is counted of a session's lines.
@@ -36,7 +37,7 @@ pub struct Tally {
 }
 
 impl Tally {
-    /// Nothing counted yet.
+    /// Returns a tally of no lines.
     pub fn none() -> Tally
         ensures { result ≡ fresh }
     {
@@ -47,7 +48,7 @@ impl Tally {
         }
     }
 
-    /// The same after one more line, which has this number, by what was counted of that line alone.
+    /// Returns the tally after one more line, which has this number, by what was counted of that line alone.
     pub(crate) fn with_line(self, line: Tally, number: u64) -> Tally
         ensures refused { result.refused ≡ self.refused || line.refused }
         ensures broke { result.broke ≡ self.broke || line.broke }
@@ -66,7 +67,7 @@ impl Tally {
     }
 }
 
-/// Whether a reply tells of a fault of the disk, in this call or before.
+/// Returns whether a reply reports a fault of the disk, in this call or before.
 pub fn is_broken(reply: &Reply) -> bool
     ensures { result ≡ is_broken reply.now }
 {
@@ -84,7 +85,7 @@ pub fn is_broken(reply: &Reply) -> bool
     }
 }
 
-/// Counts a refused line, and gives its text.
+/// Counts a refused line, and returns its text.
 pub fn refuse(
     alloc: Global,
     tally: &mut Tally,
@@ -101,8 +102,8 @@ pub fn refuse(
     text::line(alloc, text)
 }
 
-/// Refuses a line that needs a job.
-fn turn_away(alloc: Global, tally: &mut Tally) -> Result<Vec<u8>, AllocError>
+/// Refuses a line that needs a job, and returns its text.
+fn refuse_not_logged_in(alloc: Global, tally: &mut Tally) -> Result<Vec<u8>, AllocError>
     ensures refused { tally.new.refused ≡ true }
     ensures broke { tally.new.broke ≡ tally.old.broke || false }
     ensures reason { tally.new.reason ≡ tally.old.reason }
@@ -116,17 +117,17 @@ fn log_in<S: FileService>(
     alloc: Global,
     service: &mut S,
     moment: Moment,
-    who: &mut Option<Ppn>,
+    user: &mut Option<Ppn>,
     tally: &mut Tally,
     owner: Ppn,
 ) -> Result<Vec<u8>, AllocError>
-    ensures { Spoke (λ bytes. bytes.items) result S.machine service.old service.new moment who.old who.new
+    ensures { CommandDone (λ bytes. bytes.items) result S.machine service.old service.new moment user.old user.new
         tally.old tally.new (Some (LoginLine owner)) }
 {
     let reply = service.event(alloc, &Event::Login(SESSION_JOB, owner, CORE_WORDS));
     match reply {
         Reply::Done => {
-            *who = Some(owner);
+            *user = Some(owner);
             text::greeting(alloc, owner)
         }
         _ => refuse(alloc, tally, text::refusal(&reply), is_broken(&reply)),
@@ -142,13 +143,13 @@ fn list<S: FileService>(
     tally: &mut Tally,
     place: Option<Ppn>,
 ) -> Result<Vec<u8>, AllocError>
-    ensures { Spoke (λ bytes. bytes.items) result S.machine service.old service.new moment (Some me)
+    ensures { CommandDone (λ bytes. bytes.items) result S.machine service.old service.new moment (Some me)
         (Some me) tally.old tally.new (Some (DirectoryLine place)) }
 {
     show(alloc, service, tally, Style::Columns, place.unwrap_or(me))
 }
 
-/// Makes the calls of a command of a job that is logged in, and gives the bytes that it prints.
+/// Makes the calls of a command of a job that is logged in, and returns the bytes that it prints.
 fn serve_command<S: FileService>(
     alloc: Global,
     service: &mut S,
@@ -159,7 +160,7 @@ fn serve_command<S: FileService>(
 ) -> Result<Vec<u8>, AllocError>
     requires fits { Fits (Some command) }
     requires later { (owner : ℕ) → command ≡ LoginLine owner → ⊥ }
-    ensures { Spoke (λ bytes. bytes.items) result S.machine service.old service.new moment (Some me) (Some me)
+    ensures { CommandDone (λ bytes. bytes.items) result S.machine service.old service.new moment (Some me) (Some me)
         tally.old tally.new (Some command) }
 {
     match command {
@@ -179,27 +180,27 @@ fn serve_command<S: FileService>(
     }
 }
 
-/// Makes the calls of a line that means this, and gives the bytes that it prints.
+/// Makes the calls of a line that has this command, or none, and returns the bytes that it prints.
 pub fn answer<S: FileService>(
     alloc: Global,
     service: &mut S,
     moment: Moment,
-    who: &mut Option<Ppn>,
+    user: &mut Option<Ppn>,
     tally: &mut Tally,
     meant: Option<Command>,
 ) -> Result<Vec<u8>, AllocError>
     requires { Fits meant }
-    ensures { Spoke (λ bytes. bytes.items) result S.machine service.old service.new moment who.old who.new
+    ensures { CommandDone (λ bytes. bytes.items) result S.machine service.old service.new moment user.old user.new
         tally.old tally.new meant }
 {
     let Some(command) = meant else {
         return refuse(alloc, tally, "?Command error", false);
     };
     if let Command::Login(owner) = command {
-        return log_in(alloc, service, moment, who, tally, owner);
+        return log_in(alloc, service, moment, user, tally, owner);
     }
-    match *who {
+    match *user {
         Some(me) => serve_command(alloc, service, moment, me, tally, command),
-        None => turn_away(alloc, tally),
+        None => refuse_not_logged_in(alloc, tally),
     }
 }

@@ -1,3 +1,4 @@
+//! The days that texts name.
 ghost use Rattle.std.specs.Prelude.{◌≤◌, IfSome, IfNone, ℕ, List};
 ghost use Rattle.commands.specs.Common.{AreDayFirst, AreDayParts, AreYearFirst, IsDayText, IsDecimal, IsHyphened};
 ghost use Rattle.commands.specs.Common.{IsAtHyphen, IsMonthName};
@@ -6,10 +7,10 @@ use crate::fields::{decimal_number, length_before};
 use crate::text::month_text;
 use words36::date_of;
 
-/// How many months a year has.
+/// The number of months in a year.
 const MONTHS: u32 = 12;
 
-/// The month that a text names, from 1 on: `Jan` to `Dec`, with letters of either case.
+/// Returns the month that a text names, counted from 1: `Jan` to `Dec`, with letters of either case.
 fn month_named(text: &[u8]) -> Option<u32>
     ensures some { IfSome result (λ month. IsMonthName text.now month) }
     ensures none { IfNone result ((month : ℕ) → IsMonthName text.now month → ⊥) }
@@ -22,7 +23,7 @@ fn month_named(text: &[u8]) -> Option<u32>
     None
 }
 
-/// What a text has before its first hyphen, and after it.
+/// Returns what a text has before its first hyphen, and after it.
 fn at_hyphen(text: &[u8]) -> Option<(&[u8], &[u8])>
     ensures some { IfSome result (λ parts. IsAtHyphen text.now parts.0.now parts.1.now) }
     ensures none { IfNone result ((before after : List ℕ) → IsAtHyphen text.now before after → ⊥) }
@@ -32,7 +33,7 @@ fn at_hyphen(text: &[u8]) -> Option<(&[u8], &[u8])>
     Some((before, after))
 }
 
-/// The three parts of a text, with hyphens between them.
+/// Returns the three parts of a text, with hyphens between them.
 fn hyphened(text: &[u8]) -> Option<(&[u8], &[u8], &[u8])>
     ensures some { IfSome result (λ parts. IsHyphened text.now parts.0.now parts.1.now parts.2.now) }
     ensures none { IfNone result ((first second third : List ℕ) → IsHyphened text.now first second third → ⊥) }
@@ -42,7 +43,7 @@ fn hyphened(text: &[u8]) -> Option<(&[u8], &[u8], &[u8])>
     Some((first, second, third))
 }
 
-/// The year, the month and the day of `1975-01-04`, whose parts these are.
+/// Returns the year, the month and the day of `1975-01-04`, whose parts these are.
 fn year_first(first: &[u8], second: &[u8], third: &[u8]) -> Option<(u32, u32, u32)>
     ensures some { IfSome result (λ day. AreYearFirst first.now second.now third.now day.0 day.1 day.2) }
     ensures none { IfNone result ((year month day : ℕ)
@@ -54,7 +55,7 @@ fn year_first(first: &[u8], second: &[u8], third: &[u8]) -> Option<(u32, u32, u3
     Some((year, month, day))
 }
 
-/// The same of `4-Jan-1975`.
+/// Returns the year, the month and the day of `4-Jan-1975`, whose parts these are.
 fn day_first(first: &[u8], second: &[u8], third: &[u8]) -> Option<(u32, u32, u32)>
     ensures some { IfSome result (λ day. AreDayFirst first.now second.now third.now day.0 day.1 day.2) }
     ensures none { IfNone result ((year month day : ℕ)
@@ -66,7 +67,7 @@ fn day_first(first: &[u8], second: &[u8], third: &[u8]) -> Option<(u32, u32, u32
     Some((year, month, day))
 }
 
-/// The year, the month and the day that three parts name.
+/// Returns the year, the month and the day that three parts name.
 fn day_parts(first: &[u8], second: &[u8], third: &[u8]) -> Option<(u32, u32, u32)>
     ensures some { IfSome result (λ day. AreDayParts first.now second.now third.now day.0 day.1 day.2) }
     ensures none { IfNone result ((year month day : ℕ)
@@ -78,7 +79,7 @@ fn day_parts(first: &[u8], second: &[u8], third: &[u8]) -> Option<(u32, u32, u32
     }
 }
 
-/// The number of the day that a text names: `1975-01-04`, or `4-Jan-1975` with a day of one or two digits.
+/// Returns the number of the day that a text names: `1975-01-04`, or `4-Jan-1975` with a day of one or two digits.
 pub fn date_named(text: &[u8]) -> Option<u32>
     ensures some { IfSome result (λ date. IsDayText text.now date) }
     ensures none { IfNone result ((date : ℕ) → IsDayText text.now date → ⊥) }

@@ -1,3 +1,4 @@
+//! Fields, numbers and pairs in the text of a line.
 ghost use Rattle.std.specs.Prelude.{◌≡◌, ◌≢◌, ◌<◌, ◌≤◌, ◌++◌, ◌∷◌, [], length, slice_index, take, IfSome, IfNone, ℕ};
 ghost use Rattle.std.specs.Prelude.{List};
 ghost use Rattle.spec_language.specs.Common.{is_space, is_visible, Are, AreFields, IsNumber, IsSmall, IsPair};
@@ -6,7 +7,7 @@ ghost use Rattle.commands.specs.Common.{is_other_than, IsDecimal, Begins, IsBehi
 
 use words36::Ppn;
 
-/// How many bytes stand before the first of these.
+/// Returns how many bytes come before the first one that is `mark`.
 pub(crate) fn length_before(text: &[u8], mark: u8) -> usize
     ensures within { result ≤ length text.now }
     ensures other { Are (is_other_than mark) (take result text.now) }
@@ -20,7 +21,7 @@ pub(crate) fn length_before(text: &[u8], mark: u8) -> usize
     text.len()
 }
 
-/// How many bytes stand before the first space.
+/// Returns how many bytes come before the first space.
 fn word_length(text: &[u8]) -> usize
     ensures within { result ≤ length text.now }
     ensures visible { Are is_visible (take result text.now) }
@@ -29,7 +30,7 @@ fn word_length(text: &[u8]) -> usize
     length_before(text, b' ')
 }
 
-/// How many spaces stand before anything else.
+/// Returns how many spaces come before anything else.
 fn gap_length(text: &[u8]) -> usize
     ensures within { result ≤ length text.now }
     ensures spaces { Are is_space (take result text.now) }
@@ -43,7 +44,7 @@ fn gap_length(text: &[u8]) -> usize
     text.len()
 }
 
-/// The first field of a text, and the text of the fields behind it: one that begins with a field, has spaces
+/// Returns the first field of a text, and the text of the fields after it: one that begins with a field, has spaces
 /// between fields, and none at its end.
 pub(crate) fn first_field(text: &[u8]) -> Option<(&[u8], &[u8])>
     ensures some { IfSome result (λ parts. Begins text.now parts.0.now parts.1.now) }
@@ -60,7 +61,7 @@ pub(crate) fn first_field(text: &[u8]) -> Option<(&[u8], &[u8])>
     Some((field, rest))
 }
 
-/// The number that a text of at most so many octal digits spells.
+/// Returns the number that a text of at most `most` octal digits spells.
 pub(crate) fn octal_number(text: &[u8], most: usize) -> Option<u64>
     requires { most ≤ 12 }
     ensures some { IfSome result (λ n. IsNumber most text.now n) }
@@ -79,7 +80,7 @@ pub(crate) fn octal_number(text: &[u8], most: usize) -> Option<u64>
     Some(number)
 }
 
-/// The same of a number that fits in a half word.
+/// Returns the same as `octal_number`, if the number fits in a half word.
 pub(crate) fn small_number(text: &[u8], most: usize) -> Option<u32>
     requires { most ≤ 12 }
     ensures some { IfSome result (λ n. IsSmall most text.now n) }
@@ -91,7 +92,7 @@ pub(crate) fn small_number(text: &[u8], most: usize) -> Option<u32>
     }
 }
 
-/// The number that a text of at least and at most so many decimal digits spells.
+/// Returns the number that a text of `least` to `most` decimal digits spells.
 pub(crate) fn decimal_number(text: &[u8], least: usize, most: usize) -> Option<u32>
     requires { most ≤ 6 }
     ensures some { IfSome result (λ n. IsDecimal least most text.now n) }
@@ -110,7 +111,7 @@ pub(crate) fn decimal_number(text: &[u8], least: usize, most: usize) -> Option<u
     Some(number)
 }
 
-/// The number of blocks that a text of one to six decimal digits spells, at most 262143.
+/// Returns the number of blocks that a text of one to six decimal digits spells, at most 262143.
 pub(crate) fn block_count(text: &[u8]) -> Option<u32>
     ensures some { IfSome result (λ n. IsBlockCount text.now n) }
     ensures none { IfNone result ((n : ℕ) → IsBlockCount text.now n → ⊥) }
@@ -121,7 +122,7 @@ pub(crate) fn block_count(text: &[u8]) -> Option<u32>
     }
 }
 
-/// The text after this word and the spaces that follow it.
+/// Returns the text after this word and the spaces that follow it.
 pub(crate) fn behind_word<'a>(text: &'a [u8], word: &[u8]) -> Option<&'a [u8]>
     requires { Are is_visible word.now }
     ensures some { IfSome result (λ rest. IsBehind text.now word.now rest.now) }
@@ -138,7 +139,7 @@ pub(crate) fn behind_word<'a>(text: &'a [u8], word: &[u8]) -> Option<&'a [u8]>
     Some(rest)
 }
 
-/// What stands before the first comma and behind it.
+/// Returns the texts before and after the first comma.
 fn at_comma(text: &[u8]) -> Option<(&[u8], &[u8])>
     ensures some { IfSome result (λ parts. Are (is_other_than 44) parts.0.now
         × (text.now ≡ parts.0.now ++ 44 ∷ parts.1.now)) }
@@ -152,8 +153,8 @@ fn at_comma(text: &[u8]) -> Option<(&[u8], &[u8])>
     None
 }
 
-/// The project and the programmer, with a comma between them, that a text names by at most so many octal
-/// digits each.
+/// Returns the project and the programmer that a text names by at most `most` octal digits each, with a comma between
+/// them.
 pub(crate) fn pair(text: &[u8], most: usize) -> Option<Ppn>
     requires { most ≤ 12 }
     ensures some { IfSome result (λ owner. IsPair most text.now owner) }

@@ -1,3 +1,4 @@
+//! The grammar of the command language: the command of a line.
 ghost use Rattle.std.specs.Prelude.{◌≡◌, ◌++◌, ◌∷◌, [], length, IfSome, IfNone, ℕ, List};
 ghost use Rattle.spec_language.specs.Common.{AreFields, IsBracketed, IsAngled, IsProtection, IsProtected};
 ghost use Rattle.spec_language.specs.Common.{IsNewDirectory, IsLimit, IsCommand, Says, Means};
@@ -6,12 +7,12 @@ ghost use Rattle.spec_language.specs.declared.command.Spec.{Spec as SpecValue};
 ghost use Rattle.commands.specs.Common.{line_of};
 
 use crate::fields::{behind_word, block_count, first_field, length_before, pair, small_number};
+use crate::file_spec::{spec, specs};
 use crate::input::InputLine;
-use crate::specs::{spec, specs};
 use spec_language::{Command, Spec};
 use words36::Ppn;
 
-/// The two fields of a text that has two, with spaces between them and none at its ends.
+/// Returns the two fields of a text that has two, with spaces between them and none at its ends.
 fn two_fields(text: &[u8]) -> Option<(&[u8], &[u8])>
     ensures some { IfSome result (λ fields. AreFields (fields.0.now ∷ fields.1.now ∷ []) text.now) }
     ensures none { IfNone result ((word argument : List ℕ) → AreFields (word ∷ argument ∷ []) text.now → ⊥) }
@@ -25,7 +26,7 @@ fn two_fields(text: &[u8]) -> Option<(&[u8], &[u8])>
     }
 }
 
-/// What stands between two brackets of a kind.
+/// Returns the text between two brackets of a kind.
 fn between(text: &[u8], begin: u8, end: u8) -> Option<&[u8]>
     ensures some { IfSome result (λ inner. text.now ≡ begin ∷ (inner.now ++ end ∷ [])) }
     ensures none { IfNone result ((inner : List ℕ) → text.now ≡ begin ∷ (inner ++ end ∷ []) → ⊥) }
@@ -39,7 +40,7 @@ fn between(text: &[u8], begin: u8, end: u8) -> Option<&[u8]>
     }
 }
 
-/// The project and the programmer of `[p,n]`.
+/// Returns the project and the programmer of `[p,n]`.
 pub(crate) fn bracketed(text: &[u8]) -> Option<Ppn>
     ensures some { IfSome result (λ owner. IsBracketed text.now owner) }
     ensures none { IfNone result ((owner : ℕ) → IsBracketed text.now owner → ⊥) }
@@ -47,7 +48,7 @@ pub(crate) fn bracketed(text: &[u8]) -> Option<Ppn>
     pair(between(text, b'[', b']')?, 6)
 }
 
-/// The protection of `<PROT>`, one to three digits.
+/// Returns the protection of `<PROT>`, one to three digits.
 fn angled(text: &[u8]) -> Option<u32>
     ensures some { IfSome result (λ number. IsAngled text.now number) }
     ensures none { IfNone result ((number : ℕ) → IsAngled text.now number → ⊥) }
@@ -55,7 +56,7 @@ fn angled(text: &[u8]) -> Option<u32>
     small_number(between(text, b'<', b'>')?, 3)
 }
 
-/// The same, or 0 where there is nothing.
+/// Returns the protection of `<PROT>`, or 0 for an empty text.
 fn protection(text: &[u8]) -> Option<u32>
     ensures some { IfSome result (λ number. IsProtection text.now number) }
     ensures none { IfNone result ((number : ℕ) → IsProtection text.now number → ⊥) }
@@ -66,7 +67,7 @@ fn protection(text: &[u8]) -> Option<u32>
     angled(text)
 }
 
-/// The directory and the protection of `[p,n]` or `[p,n]<PROT>`.
+/// Returns the directory and the protection of `[p,n]` or `[p,n]<PROT>`.
 fn made(text: &[u8]) -> Option<(Ppn, u32)>
     ensures some { IfSome result (λ made. IsNewDirectory text.now made.0 made.1) }
     ensures none { IfNone result ((owner number : ℕ) → IsNewDirectory text.now owner number → ⊥) }
@@ -77,7 +78,7 @@ fn made(text: &[u8]) -> Option<(Ppn, u32)>
     Some((owner, number))
 }
 
-/// The directory and the number of blocks of `[p,n] N`, with one space between the two.
+/// Returns the directory and the number of blocks of `[p,n] N`, with one space between the two.
 fn limit(text: &[u8]) -> Option<(Ppn, u32)>
     ensures some { IfSome result (λ limit. IsLimit text.now limit.0 limit.1) }
     ensures none { IfNone result ((owner blocks : ℕ) → IsLimit text.now owner blocks → ⊥) }
@@ -89,7 +90,7 @@ fn limit(text: &[u8]) -> Option<(Ppn, u32)>
     Some((owner, blocks))
 }
 
-/// The same of `QUOTA [p,n] N`.
+/// Returns the directory and the number of blocks of `QUOTA [p,n] N`.
 fn quota_line(text: &[u8]) -> Option<(Ppn, u32)>
     ensures some { IfSome result (λ limit. IsCommand text.now (QuotaLine limit.0 limit.1)) }
     ensures none { IfNone result ((owner blocks : ℕ) → IsCommand text.now (QuotaLine owner blocks) → ⊥) }
@@ -97,7 +98,7 @@ fn quota_line(text: &[u8]) -> Option<(Ppn, u32)>
     limit(behind_word(text, b"QUOTA".as_slice())?)
 }
 
-/// The file and the protection of `SPEC<PROT>`.
+/// Returns the file and the protection of `SPEC<PROT>`.
 fn protected(text: &[u8]) -> Option<(Spec, u32)>
     ensures some { IfSome result (λ found. IsProtected text.now found.0 found.1) }
     ensures none { IfNone result ((spec : SpecValue) (number : ℕ) → IsProtected text.now spec number → ⊥) }
@@ -108,7 +109,7 @@ fn protected(text: &[u8]) -> Option<(Spec, u32)>
     Some((spec, number))
 }
 
-/// The command that a word and the text behind it spell.
+/// Returns the command that a word and the text after it spell.
 fn command_with(word: &[u8], argument: &[u8]) -> Option<Command>
     ensures { (text : List ℕ) → AreFields (word.now ∷ argument.now ∷ []) text → Says text result }
 {
@@ -143,7 +144,7 @@ fn command_with(word: &[u8], argument: &[u8]) -> Option<Command>
     None
 }
 
-/// The command that a text in upper case spells.
+/// Returns the command that a text in upper case spells.
 pub fn command_of(text: &[u8]) -> Option<Command>
     ensures { Says text.now result }
 {
@@ -157,8 +158,8 @@ pub fn command_of(text: &[u8]) -> Option<Command>
     command_with(word, argument)
 }
 
-/// What a line says, where that is a command; a line that is too long says nothing.
-pub fn meant_by(line: InputLine<'_>) -> Option<Command>
+/// Returns the command of a line, if it has one; a line that is too long has none.
+pub fn parse_command(line: InputLine<'_>) -> Option<Command>
     ensures { Means (line_of line.entry) result }
 {
     match line {

@@ -1,10 +1,11 @@
+//! The lines of an input, byte by byte.
 ghost use Rattle.std.specs.Prelude.{◌≡◌, ◌++◌, ◌∷◌, [], List, ℕ, if◌then◌else◌};
 ghost use Rattle.spec_language.specs.Common.{fitting, without_return, upper, TooLong};
 ghost use Rattle.commands.specs.Common.{IsPartialLine, line_list, text_line};
 
 use arrayvec::ArrayVec;
 
-/// How many bytes a line may have: a carriage return before its line feed counts, the feed doesn't.
+/// The most bytes that a line may have: a carriage return before its line feed counts, the feed doesn't.
 const LINE_BYTES: usize = 255;
 
 /// A line of an input.
@@ -16,7 +17,7 @@ pub enum InputLine<'a> {
     TooLong,
 }
 
-/// A line that hasn't ended: its bytes so far, or that there are too many of them.
+/// A line that hasn't ended: its bytes so far, or the fact that there are too many of them.
 #[derive(Drop)]
 pub struct PartialLine {
     bytes: ArrayVec<u8, LINE_BYTES>,
@@ -30,7 +31,7 @@ impl Default for PartialLine {
 }
 
 impl PartialLine {
-    /// No byte of a line yet.
+    /// Returns a line with no byte yet.
     pub fn new() -> Self
         ensures { IsPartialLine result [] }
     {
@@ -40,7 +41,7 @@ impl PartialLine {
         }
     }
 
-    /// One more byte of the line, that is no line feed.
+    /// Adds one more byte to the line, which is no line feed.
     pub fn push(&mut self, byte: u8)
         ensures { (seen : List ℕ) → IsPartialLine self.old seen → IsPartialLine self.new (seen ++ byte ∷ []) }
     {
@@ -49,8 +50,8 @@ impl PartialLine {
         }
     }
 
-    /// The line that a line feed ends here, without a carriage return just before the feed; none where
-    /// it is empty.
+    /// Returns the line that a line feed ends here, without a carriage return just before the feed, or None if it is
+    /// empty.
     pub fn ended(&self) -> Option<InputLine<'_>>
         ensures { (seen : List ℕ) → IsPartialLine self.now seen
             → line_list result ≡ fitting seen (without_return seen) }
@@ -58,7 +59,7 @@ impl PartialLine {
         input_line(self.is_too_long, without_return(self.bytes.as_slice()))
     }
 
-    /// The line that the end of the input ends here, with all its bytes; none where it is empty.
+    /// Returns the line that the end of the input ends here, with all its bytes, or None if it is empty.
     pub fn last(&self) -> Option<InputLine<'_>>
         ensures { (seen : List ℕ) → IsPartialLine self.now seen → line_list result ≡ fitting seen seen }
     {
@@ -66,7 +67,7 @@ impl PartialLine {
     }
 }
 
-/// A letter in upper case; any other byte as it is.
+/// Returns a letter in upper case, and any other byte unchanged.
 fn upper(byte: u8) -> u8
     ensures { result ≡ upper byte }
 {
@@ -77,7 +78,7 @@ fn upper(byte: u8) -> u8
     }
 }
 
-/// The bytes without a carriage return at their end.
+/// Returns the bytes without a carriage return at their end.
 fn without_return(text: &[u8]) -> &[u8]
     ensures { result.now ≡ without_return text.now }
 {
@@ -87,7 +88,7 @@ fn without_return(text: &[u8]) -> &[u8]
     }
 }
 
-/// The line of these bytes in upper case.
+/// Returns the line of these bytes, which are in upper case, or None if there are none.
 fn input_line(is_too_long: bool, text: &[u8]) -> Option<InputLine<'_>>
     ensures { line_list result ≡ (if is_too_long then TooLong ∷ [] else text_line text.now) }
 {

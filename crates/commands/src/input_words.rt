@@ -1,3 +1,4 @@
+//! The words that the bytes of an input spell, and the bytes that can't be a file.
 ghost use Rattle.std.specs.Prelude.{◌≡◌, ◌<◌, ◌↔◌, ◌⊎◌, ◌*◌, ◌+◌, ◌≤◌, ◌^◌, ◌++◌, ℕ, List, IfOk, IfErr, IfSome};
 ghost use Rattle.std.specs.Prelude.{IsSome, length, take, IfNone, IsTrue, OnErr};
 ghost use Rattle.std.specs.Io.{ReadsAtMost};
@@ -15,19 +16,19 @@ use std::alloc::{AllocError, Global};
 use std::io::{ErrorKind, Read};
 use words36::{Word, pack_ascii, pack_octets};
 
-/// How many bytes a word takes.
+/// The number of bytes that a word takes.
 const WORD_BYTES: usize = 8;
 
-/// How many characters a word has.
+/// The number of characters in a word.
 const WORD_CHARACTERS: usize = 5;
 
-/// How many bytes of eight bits a word has.
+/// The number of bytes of eight bits in a word.
 const WORD_OCTETS: usize = 4;
 
-/// How many bytes are read at once.
+/// The number of bytes that are read at once.
 const PIECE_BYTES: usize = 4096;
 
-/// The most bytes that a file can hold.
+/// Returns the most bytes that a file can hold.
 pub fn most_bytes(encoding: Encoding) -> usize
     ensures { result ≡ most_bytes encoding }
 {
@@ -38,7 +39,7 @@ pub fn most_bytes(encoding: Encoding) -> usize
     }
 }
 
-/// Reads a piece of an input, and tries again if a signal came between.
+/// Reads a piece of an input, and tries again if a signal interrupted it.
 fn read_piece<R: Read>(reader: &mut R, piece: &mut [u8]) -> Result<usize, SessionError>
     ensures bound { ReadsAtMost result piece.new }
     ensures ok { IfOk result (λ n. Consumes (R.remaining reader.old) (R.remaining reader.new) (take n piece.new)) }
@@ -59,7 +60,7 @@ fn read_piece<R: Read>(reader: &mut R, piece: &mut [u8]) -> Result<usize, Sessio
     Err(SessionError::Read)
 }
 
-/// Whether no input that has this piece can be a file, wherever the piece begins.
+/// Returns whether it is certain that no input with this piece can be a file, wherever the piece begins.
 fn is_hopeless(encoding: Encoding, piece: &[u8]) -> bool
     ensures { IsTrue result → (before : List ℕ) → BeginsNoFile encoding (before ++ piece.now) }
 {
@@ -105,7 +106,7 @@ pub fn read_input<R: Read>(
     Ok(bytes)
 }
 
-/// Whether a byte is a character that a file can have: ASCII, and no null.
+/// Returns whether a byte is a character that a file can have: ASCII, and not a null.
 fn is_character(byte: u8) -> bool
     ensures { result ≡ is_character byte }
 {
@@ -126,7 +127,7 @@ fn first_misfit(bytes: &[u8]) -> Option<Misfit>
     None
 }
 
-/// What bytes are taken for if nobody says it: characters if all of them are, else bytes of eight bits.
+/// Returns the encoding of bytes if none is given: characters if all of them are, else bytes of eight bits.
 pub fn encoding_of(bytes: &[u8]) -> Encoding
     ensures characters { (result ≡ Characters) ↔ Are is_character bytes.now }
     ensures octets { (result ≡ Characters → ⊥) → result ≡ Octets }
@@ -137,7 +138,7 @@ pub fn encoding_of(bytes: &[u8]) -> Encoding
     }
 }
 
-/// The words of these characters.
+/// Returns the words of these characters.
 fn words_of_characters(alloc: Global, bytes: &[u8]) -> Result<Result<Vec<Word>, Misfit>, AllocError>
     ensures { IfOk result (HasWords (λ v. v.items) Characters bytes.now) }
 {
@@ -150,7 +151,7 @@ fn words_of_characters(alloc: Global, bytes: &[u8]) -> Result<Result<Vec<Word>, 
     }
 }
 
-/// The word in the eight bytes at a word's place, counted from 0, where they are one.
+/// Returns the word in the eight bytes at a word's place, counted from 0, if they are one.
 fn word_at(bytes: &[u8], place: usize) -> Option<Word>
     requires { 8 * place + 8 ≤ length bytes.now }
     ensures value { IfSome result (λ word. word ≡ number_at bytes.now place) }
@@ -161,7 +162,7 @@ fn word_at(bytes: &[u8], place: usize) -> Option<Word>
     Word::new(u64::from_be_bytes(group))
 }
 
-/// The words that these bytes spell, eight bytes for each.
+/// Returns the words that these bytes spell, eight bytes for each.
 fn words_of_bytes(alloc: Global, bytes: &[u8]) -> Result<Result<Vec<Word>, Misfit>, AllocError>
     ensures { IfOk result (HasWords (λ v. v.items) Words bytes.now) }
 {
@@ -178,7 +179,7 @@ fn words_of_bytes(alloc: Global, bytes: &[u8]) -> Result<Result<Vec<Word>, Misfi
     Ok(Ok(words))
 }
 
-/// The words of these bytes of eight bits, which any bytes have.
+/// Returns the words of these bytes of eight bits, which any bytes have.
 fn words_of_octets(alloc: Global, bytes: &[u8]) -> Result<Result<Vec<Word>, Misfit>, AllocError>
     ensures { IfOk result (HasWords (λ v. v.items) Octets bytes.now) }
 {
@@ -186,7 +187,7 @@ fn words_of_octets(alloc: Global, bytes: &[u8]) -> Result<Result<Vec<Word>, Misf
     Ok(Ok(words))
 }
 
-/// The words that a file gets of these bytes, or why they can't be a file.
+/// Returns the words that a file gets of these bytes, or why they can't be a file.
 pub fn words_of(
     alloc: Global,
     encoding: Encoding,
@@ -201,7 +202,7 @@ pub fn words_of(
     }
 }
 
-/// What is said of bytes that can't be a file.
+/// Returns the text of the refusal of bytes that can't be a file.
 pub fn unfit(encoding: Encoding) -> &'static str
     ensures { result.now ≡ unfit encoding }
 {

@@ -1,7 +1,8 @@
+//! The details of a refusal, which are not printed with it.
 ghost use Rattle.std.specs.Prelude.{◌≡◌, true};
 ghost use Rattle.commands.specs.Common.{counts};
 
-/// Why bytes can't be a file.
+/// The reason why bytes can't be a file.
 #[derive(Clone, Copy, Debug, PartialEq, Eq)]
 pub enum Misfit {
     /// The first byte that isn't a character of a file, and its place, counted from 1.
@@ -23,7 +24,7 @@ pub struct RefusedLines {
     pub first: u64,
 }
 
-/// What people may be told of a refusal beside what is printed.
+/// The details of a refusal that people may be told, besides what is printed.
 #[derive(Clone, Copy, Debug, PartialEq, Eq)]
 pub enum Reason {
     /// Lines were refused.
@@ -32,7 +33,7 @@ pub enum Reason {
     Input(Misfit),
 }
 
-/// Counts one more refused line, which has this number.
+/// Adds one refused line, which has this number, to the count.
 pub(crate) fn with_line(reason: Option<Reason>, number: u64) -> Option<Reason>
     ensures { result ≡ counts reason number true }
 {

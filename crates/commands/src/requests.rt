@@ -1,3 +1,4 @@
+//! The events that serve a file in dump mode or a directory, and the places in the core for their words.
 ghost use Rattle.std.specs.Prelude.{◌≡◌, ◌<◌, ◌≤◌, ◌+◌, ◌-◌, ◌*◌, ◌%◌, ◌^◌, ◌++◌, ◌∷◌, [], map, unwrap_or};
 ghost use Rattle.words36.specs.Common.{join};
 ghost use Rattle.spec_language.specs.Common.{block_address, file_words};
@@ -10,15 +11,15 @@ use spec_language::Spec;
 use spec_machine::{Call, Event};
 use words36::{BLOCK_WORDS, FileName, Half, Moment, Ppn, Word};
 
-// Where a session has what it hands over, in its core.
+// The places in the core where a session puts what it passes to a call.
 
 /// The three words of an OPEN.
 pub const OPEN_WORDS: u32 = 0o30;
 
-/// The four words of a file that is looked up, and the words of a directory.
+/// The four words of a file that is looked up, or the words of a directory.
 const FILE_WORDS: u32 = 0o40;
 
-/// Where LOOKUP tells how long the file is.
+/// The word in which LOOKUP leaves how long the file is.
 pub const SIZE_WORD: u32 = FILE_WORDS + 3;
 
 /// The four words of a file that is entered.
@@ -30,10 +31,10 @@ const LIST_WORDS: u32 = 0o50;
 /// The words of a block, or of several.
 pub const BLOCK_AREA: u32 = 0o200;
 
-/// How many blocks an IN or an OUT moves at most.
+/// The most blocks that an IN or an OUT moves.
 pub const RUN_BLOCKS: u32 = 16;
 
-/// How many words these are.
+/// The number of words in as many blocks.
 pub const RUN_WORDS: u32 = RUN_BLOCKS * BLOCK_WORDS as u32;
 
 /// DSK in SIXBIT.
@@ -47,7 +48,7 @@ const READER: u32 = 1;
 /// The channel that a file is written on.
 pub const WRITER: u32 = 2;
 
-/// The word that a protection is handed over in: it stands in the nine bits on the left.
+/// Returns the word that passes a protection to a call: it is in the nine bits on the left.
 fn protection_word(protection: u32) -> Word
     requires { protection < 512 }
     ensures { result ≡ protection * 2 ^ 27 }
@@ -55,7 +56,7 @@ fn protection_word(protection: u32) -> Word
     Word::from_bits(u64::from(protection) << 27)
 }
 
-/// The word of a directory's owner, or 0 for the session's own.
+/// Returns the word of a directory's owner, or 0 for the session's own.
 pub fn owner_word(owner: Option<Ppn>) -> Word
     ensures { result ≡ unwrap_or owner 0 }
 {
@@ -65,16 +66,16 @@ pub fn owner_word(owner: Option<Ppn>) -> Word
     }
 }
 
-/// The word of a file's extension.
+/// Returns the word of a file's extension.
 pub fn extension_word(name: &FileName) -> Word
     ensures { result ≡ join name.now.ext 0 }
 {
     Word::from_halves(name.ext, Half::from_bits(0))
 }
 
-/// What looks a file up, on channel 1.
-pub fn finds(moment: Moment, spec: Spec) -> [Event; 9]
-    ensures { result ≡ plans.finds moment spec }
+/// Returns the events that look a file up, on channel 1.
+pub fn lookup_events(moment: Moment, spec: Spec) -> [Event; 9]
+    ensures { result ≡ plans.lookup_events moment spec }
 {
     let Spec { name, owner } = spec;
     let extension = extension_word(&name);
@@ -92,9 +93,9 @@ pub fn finds(moment: Moment, spec: Spec) -> [Event; 9]
     ]
 }
 
-/// What enters a file, on channel 2.
-pub fn writes(moment: Moment, spec: Spec) -> [Event; 9]
-    ensures { result ≡ plans.writes moment spec }
+/// Returns the events that enter a file, on channel 2.
+pub fn enter_events(moment: Moment, spec: Spec) -> [Event; 9]
+    ensures { result ≡ plans.enter_events moment spec }
 {
     let Spec { name, owner } = spec;
     let extension = extension_word(&name);
@@ -112,7 +113,7 @@ pub fn writes(moment: Moment, spec: Spec) -> [Event; 9]
     ]
 }
 
-/// The command word of so many words from the block's first on.
+/// Returns the command word for `count` words from the block's first.
 fn block_command(count: u32) -> Word
     requires { count ≤ 2048 }
     ensures { result ≡ join ((2 ^ 18 - count) % 2 ^ 18) (block_address - 1) }
@@ -123,10 +124,10 @@ fn block_command(count: u32) -> Word
     )
 }
 
-/// What makes the command list name so many words from the block's first on.
-pub fn lists(count: u32) -> [Event; 2]
+/// Returns the events that make the command list name `count` words from the block's first.
+pub fn list_events(count: u32) -> [Event; 2]
     requires { count ≤ 2048 }
-    ensures { result ≡ plans.lists count }
+    ensures { result ≡ plans.list_events count }
 {
     [
         Event::Deposit(SESSION_JOB, LIST_WORDS, block_command(count)),
@@ -134,46 +135,46 @@ pub fn lists(count: u32) -> [Event; 2]
     ]
 }
 
-/// An IN of what the command list names.
-pub fn takes(moment: Moment) -> Event
-    ensures { result ≡ plans.takes moment }
+/// Returns an IN of what the command list names.
+pub fn in_event(moment: Moment) -> Event
+    ensures { result ≡ plans.in_event moment }
 {
     Event::Call(SESSION_JOB, Call::In(READER, LIST_WORDS), moment)
 }
 
-/// An OUT of what the command list names.
-pub fn puts(moment: Moment) -> Event
-    ensures { result ≡ plans.asks_out moment }
+/// Returns an OUT of what the command list names.
+pub fn out_event(moment: Moment) -> Event
+    ensures { result ≡ plans.out_event moment }
 {
     Event::Call(SESSION_JOB, Call::Out(WRITER, LIST_WORDS), moment)
 }
 
-/// What makes block n the next that is taken.
-pub fn goes_to(moment: Moment, n: u32) -> Event
-    ensures { result ≡ plans.goes_to moment n }
+/// Returns the event that makes block n the next that an IN moves.
+pub fn useti_event(moment: Moment, n: u32) -> Event
+    ensures { result ≡ plans.useti_event moment n }
 {
     Event::Call(SESSION_JOB, Call::Useti(READER, n), moment)
 }
 
-/// What makes the file that was entered the file of its name.
-pub fn closes(moment: Moment) -> Event
-    ensures { result ≡ plans.calls moment (Close 2 0) }
+/// Returns the event that makes the file that was entered the file of its name.
+pub fn close_event(moment: Moment) -> Event
+    ensures { result ≡ plans.call_event moment (Close 2 0) }
 {
     Event::Call(SESSION_JOB, Call::Close(WRITER, 0), moment)
 }
 
-/// A word of the block becomes this one.
-pub fn fills(place: u32, word: Word) -> Event
+/// Returns the event that makes this word of the block the given one.
+pub fn fill_event(place: u32, word: Word) -> Event
     requires { place < 128 }
     ensures { result ≡ Deposit 1 (block_address + place) word }
 {
     Event::Deposit(SESSION_JOB, BLOCK_AREA + place, word)
 }
 
-/// What makes a directory.
-pub fn makes(moment: Moment, owner: Ppn, protection: u32) -> [Event; 3]
+/// Returns the events that make a directory.
+pub fn make_dir_events(moment: Moment, owner: Ppn, protection: u32) -> [Event; 3]
     requires { protection < 512 }
-    ensures { result ≡ plans.asks_make_dir moment owner protection }
+    ensures { result ≡ plans.make_dir_events moment owner protection }
 {
     [
         Event::Deposit(SESSION_JOB, FILE_WORDS, owner.word()),
@@ -182,10 +183,10 @@ pub fn makes(moment: Moment, owner: Ppn, protection: u32) -> [Event; 3]
     ]
 }
 
-/// What gives a directory a quota: a number of blocks.
-pub fn limits(moment: Moment, owner: Ppn, blocks: u32) -> [Event; 3]
+/// Returns the events that give a directory a quota: a number of blocks.
+pub fn quota_events(moment: Moment, owner: Ppn, blocks: u32) -> [Event; 3]
     requires { blocks < 2 ^ 18 }
-    ensures { result ≡ plans.asks_quota moment owner blocks }
+    ensures { result ≡ plans.quota_events moment owner blocks }
 {
     let quota = Word::from_halves(Half::from_bits(blocks), Half::from_bits(0));
     [
@@ -195,10 +196,11 @@ pub fn limits(moment: Moment, owner: Ppn, blocks: u32) -> [Event; 3]
     ]
 }
 
-/// What gives the file that was looked up another name and place; its protection stands where LOOKUP has put it.
-pub fn moves(moment: Moment, to: Spec) -> [Event; 4]
+/// Returns the events that give the file that was looked up another name and place; its protection is where LOOKUP has
+/// put it.
+pub fn rename_events(moment: Moment, to: Spec) -> [Event; 4]
     ensures { result ≡ Deposit 1 file_words to.name.name ∷ Deposit 1 (file_words + 1) (join to.name.ext 0)
-        ∷ Deposit 1 (file_words + 3) (unwrap_or to.owner 0) ∷ plans.calls moment (Rename 1 file_words) ∷ [] }
+        ∷ Deposit 1 (file_words + 3) (unwrap_or to.owner 0) ∷ plans.call_event moment (Rename 1 file_words) ∷ [] }
 {
     let Spec { name, owner } = to;
     [
@@ -209,9 +211,9 @@ pub fn moves(moment: Moment, to: Spec) -> [Event; 4]
     ]
 }
 
-/// What deletes the file that was looked up: it gets the name 0.
-pub fn removes(moment: Moment) -> [Event; 2]
-    ensures { result ≡ Deposit 1 file_words 0 ∷ plans.calls moment (Rename 1 file_words) ∷ [] }
+/// Returns the events that delete the file that was looked up: it gets the name 0.
+pub fn delete_events(moment: Moment) -> [Event; 2]
+    ensures { result ≡ Deposit 1 file_words 0 ∷ plans.call_event moment (Rename 1 file_words) ∷ [] }
 {
     [
         Event::Deposit(SESSION_JOB, FILE_WORDS, Word::ZERO),
@@ -219,10 +221,10 @@ pub fn removes(moment: Moment) -> [Event; 2]
     ]
 }
 
-/// What gives the file that was looked up another protection: it gets its own place once more.
-pub fn protects(moment: Moment, spec: &Spec, protection: u32) -> [Event; 5]
+/// Returns the events that give the file that was looked up another protection: it gets its own place once more.
+pub fn protect_events(moment: Moment, spec: &Spec, protection: u32) -> [Event; 5]
     requires { protection < 512 }
-    ensures { result ≡ plans.names file_words spec.now protection ++ plans.calls moment (Rename 1 file_words) ∷ [] }
+    ensures { result ≡ plans.name_events file_words spec.now protection ++ plans.call_event moment (Rename 1 file_words) ∷ [] }
 {
     [
         Event::Deposit(SESSION_JOB, FILE_WORDS, spec.name.name),

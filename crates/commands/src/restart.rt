@@ -1,3 +1,4 @@
+//! A start over what a crash left during a session or a call script.
 ghost use Rattle.std.specs.Prelude.{◌≡◌, ◌⊎◌, List, IfOk, IfErr};
 ghost use Rattle.spec_language.specs.Common.{Act};
 ghost use Rattle.spec_machine.specs.Common.{State, Serving};
@@ -10,18 +11,17 @@ use blockdisk::Disk;
 use monitor::{Monitor, StartError};
 use std::alloc::Global;
 
-/// Starts a service over what a crash left of a disk while a session or a call script ran on it, or of a start after
-/// that which was stopped itself, and so on.
+/// Starts a service over what a crash left of a disk while a session or a call script ran on it, or during a later
+/// start that was stopped itself, and so on.
 ///
-/// At whichever moment the crash came, the files are those after some of the acts of the session or the script, none of
-/// them left out, or those after these and the next one, which was running, where its answer is one that may change
-/// files; and no third. At whichever moments the starts before were stopped, the files are the same, and so is the
-/// layout.
+/// Whenever the crash came, the files are those after some of the acts of the session or the script, none of them left
+/// out, or those after these and the next one, which was running, if its answer is one that may change files; there is
+/// no third case. Whenever the starts before were stopped, the files are the same, and so is the layout.
 ///
 /// # Errors
 ///
-/// `NoMemory`, and `Device` where the device fails; the disk is handed back, and may be started again. Over a disk that
-/// no such crash left, the refusals of `Monitor::start`, which this is.
+/// `NoMemory`, and `Device` if the device fails; the disk is returned, and may be started again. Over a disk that no
+/// such crash left, the refusals of `Monitor::start`, which this is.
 pub fn start_after_acts<D: Disk, E: Disk>(
     alloc: Global,
     stopped: &Monitor<D>,

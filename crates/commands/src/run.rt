@@ -1,61 +1,64 @@
+//! The service of an input until its end: a session or a call script, with its lines and their texts.
 ghost use Rattle.std.specs.Prelude.{◌≡◌, ◌∷◌, [], ℕ, OnOk, IfOk, IfErr, MatchResult};
-ghost use Rattle.commands.specs.Common.{line_list, HeardIn, FitsIn, WritesText, Told, Closed, StepsOn, BreaksOff};
-ghost use Rattle.commands.specs.Common.{EndsWell, Talked, Session, Script};
+ghost use Rattle.commands.specs.Common.{line_list, IsParsedLine, FitsIn, WritesText, ReplyWritten, Closed, StepsOn};
+ghost use Rattle.commands.specs.Common.{BreaksOff};
+ghost use Rattle.commands.specs.Common.{EndsWell, LinesServed, Session, Script};
 
 use crate::SessionError;
 use crate::answer::{SESSION_JOB, Tally, answer};
-use crate::grammar::meant_by;
+use crate::grammar::parse_command;
 use crate::input::{InputLine, PartialLine};
 use crate::language::Language;
-use crate::obeying::obey;
-use crate::orders::ordered_by;
+use crate::output_buffer::{flush, say};
+use crate::parse_event::parse_event_line;
+use crate::run_event::run_event;
 use crate::service::FileService;
 use crate::stream::write_text;
-use crate::waiting::{flush, say};
 use spec_language::Command;
 use spec_machine::{Call, Event};
 use std::alloc::{AllocError, Global};
 use std::io::{Read, Write};
 use words36::{Moment, Ppn};
 
-/// How many bytes are read at a time.
+/// The number of bytes that are read at a time.
 const PIECE_BYTES: usize = 4096;
 
-/// What was heard where a line might have ended.
+/// The result of parsing at a place at which a line might have ended.
 #[derive(Clone, Copy, Debug, PartialEq, Eq)]
-pub enum Heard {
+pub enum ParsedLine {
     /// No line.
-    Nothing,
-    /// A line with a command, and what it says.
-    Said(Option<Command>),
-    /// A line with an event, and what it orders.
-    Ordered(Option<Event>),
+    NoLine,
+    /// A line of commands, and its command, if it has one.
+    CommandLine(Option<Command>),
+    /// A line of a call script, and its event, if it has one.
+    EventLine(Option<Event>),
 }
 
-/// How far an input is answered, and the texts of answered lines that aren't written yet.
+/// The state of an input so far: its unfinished line, its tally, and the texts of answered lines that aren't written
+/// yet.
 #[derive(Drop)]
-pub struct Talk {
+pub struct SessionState {
     held: PartialLine,
     line: u64,
-    who: Option<Ppn>,
+    user: Option<Ppn>,
     tally: Tally,
     waiting: Vec<u8>,
 }
 
-/// What is heard of the line that there is, or of none.
-fn heard_of(language: Language, moment: Moment, line: Option<InputLine<'_>>) -> Heard
-    ensures { HeardIn language moment (line_list line.entry) result }
+/// Parses a line, if there is one.
+fn parse_line(language: Language, moment: Moment, line: Option<InputLine<'_>>) -> ParsedLine
+    ensures { IsParsedLine language moment (line_list line.entry) result }
 {
     let Some(line) = line else {
-        return Heard::Nothing;
+        return ParsedLine::NoLine;
     };
     match language {
-        Language::Commands => Heard::Said(meant_by(line)),
-        Language::Events => Heard::Ordered(ordered_by(line, moment)),
+        Language::Commands => ParsedLine::CommandLine(parse_command(line)),
+        Language::Events => ParsedLine::EventLine(parse_event_line(line, moment)),
     }
 }
 
-/// Writes a text, where there was memory for it.
+/// Writes a text, if there was memory for it.
 pub fn print<W: Write>(
     writer: &mut W,
     text: Result<Vec<u8>, AllocError>,
@@ -68,37 +71,36 @@ pub fn print<W: Write>(
     }
 }
 
-/// Answers what was heard in a line of this number: makes its calls, adds what it prints to the texts that wait, and
-/// counts the line.
-fn tell<S: FileService, W: Write>(
+/// Answers the parsed line of this number: makes its calls, adds what it prints to the texts that wait, and counts it.
+fn execute<S: FileService, W: Write>(
     alloc: Global,
     service: &mut S,
     writer: &mut W,
     moment: Moment,
-    talk: &mut Talk,
+    session: &mut SessionState,
     number: u64,
-    heard: Heard,
+    parsed: ParsedLine,
 ) -> Result<(), SessionError>
-    requires { FitsIn heard }
-    ensures held { talk.new.held ≡ talk.old.held }
-    ensures line { talk.new.line ≡ talk.old.line }
-    ensures told { Told result S.machine service.old service.new (W.contents writer.old) (W.contents writer.new)
-        moment talk.old.who talk.new.who talk.old.tally talk.new.tally number heard talk.old.waiting.items
-        talk.new.waiting.items }
+    requires { FitsIn parsed }
+    ensures held { session.new.held ≡ session.old.held }
+    ensures line { session.new.line ≡ session.old.line }
+    ensures told { ReplyWritten result S.machine service.old service.new (W.contents writer.old) (W.contents writer.new)
+        moment session.old.user session.new.user session.old.tally session.new.tally number parsed session.old.waiting.items
+        session.new.waiting.items }
 {
-    match heard {
-        Heard::Nothing => Ok(()),
-        Heard::Said(meant) => {
+    match parsed {
+        ParsedLine::NoLine => Ok(()),
+        ParsedLine::CommandLine(meant) => {
             let mut line = Tally::none();
-            let text = answer(alloc, service, moment, &mut talk.who, &mut line, meant);
-            talk.tally = talk.tally.with_line(line, number);
-            say(writer, &mut talk.waiting, text)
+            let text = answer(alloc, service, moment, &mut session.user, &mut line, meant);
+            session.tally = session.tally.with_line(line, number);
+            say(writer, &mut session.waiting, text)
         }
-        Heard::Ordered(order) => {
+        ParsedLine::EventLine(order) => {
             let mut line = Tally::none();
-            let text = obey(alloc, service, &mut line, order);
-            talk.tally = talk.tally.with_line(line, number);
-            say(writer, &mut talk.waiting, text)
+            let text = run_event(alloc, service, &mut line, order);
+            session.tally = session.tally.with_line(line, number);
+            say(writer, &mut session.waiting, text)
         }
     }
 }
@@ -110,23 +112,23 @@ fn take_byte<S: FileService, W: Write>(
     writer: &mut W,
     moment: Moment,
     language: Language,
-    talk: &mut Talk,
+    session: &mut SessionState,
     byte: u8,
 ) -> Result<(), SessionError>
     ensures ok { OnOk result (StepsOn language S.machine service.old service.new (W.contents writer.old)
-        (W.contents writer.new) moment talk.old talk.new (byte ∷ [])) }
+        (W.contents writer.new) moment session.old session.new (byte ∷ [])) }
     ensures err { IfErr result (λ error. BreaksOff language ⊥ S.machine service.old service.new (W.contents writer.old)
-        (W.contents writer.new) moment talk.old error (byte ∷ [])) }
+        (W.contents writer.new) moment session.old error (byte ∷ [])) }
 {
     if byte != b'\n' {
-        talk.held.push(byte);
+        session.held.push(byte);
         return Ok(());
     }
-    let heard = heard_of(language, moment, talk.held.ended());
-    let number = talk.line;
-    talk.held = PartialLine::new();
-    talk.line = number.saturating_add(1);
-    tell(alloc, service, writer, moment, talk, number, heard)
+    let parsed = parse_line(language, moment, session.held.ended());
+    let number = session.line;
+    session.held = PartialLine::new();
+    session.line = number.saturating_add(1);
+    execute(alloc, service, writer, moment, session, number, parsed)
 }
 
 /// Takes some bytes of the input, and answers each line that ends in them.
@@ -136,16 +138,16 @@ fn take_bytes<S: FileService, W: Write>(
     writer: &mut W,
     moment: Moment,
     language: Language,
-    talk: &mut Talk,
+    session: &mut SessionState,
     piece: &[u8],
 ) -> Result<(), SessionError>
     ensures ok { OnOk result (StepsOn language S.machine service.old service.new (W.contents writer.old)
-        (W.contents writer.new) moment talk.old talk.new piece.now) }
+        (W.contents writer.new) moment session.old session.new piece.now) }
     ensures err { IfErr result (λ error. BreaksOff language ⊥ S.machine service.old service.new (W.contents writer.old)
-        (W.contents writer.new) moment talk.old error piece.now) }
+        (W.contents writer.new) moment session.old error piece.now) }
 {
     for byte in piece {
-        take_byte(alloc, service, writer, moment, language, talk, *byte)?;
+        take_byte(alloc, service, writer, moment, language, session, *byte)?;
     }
     Ok(())
 }
@@ -157,20 +159,20 @@ fn take_piece<S: FileService, W: Write>(
     writer: &mut W,
     moment: Moment,
     language: Language,
-    talk: &mut Talk,
+    session: &mut SessionState,
     piece: &[u8],
 ) -> Result<(), SessionError>
     ensures ok { OnOk result (StepsOn language S.machine service.old service.new (W.contents writer.old)
-        (W.contents writer.new) moment talk.old talk.new piece.now) }
-    ensures written { OnOk result (talk.new.waiting.items ≡ []) }
+        (W.contents writer.new) moment session.old session.new piece.now) }
+    ensures written { OnOk result (session.new.waiting.items ≡ []) }
     ensures err { IfErr result (λ error. BreaksOff language ⊥ S.machine service.old service.new (W.contents writer.old)
-        (W.contents writer.new) moment talk.old error piece.now) }
+        (W.contents writer.new) moment session.old error piece.now) }
 {
-    take_bytes(alloc, service, writer, moment, language, talk, piece)?;
-    flush(writer, &mut talk.waiting)
+    take_bytes(alloc, service, writer, moment, language, session, piece)?;
+    flush(writer, &mut session.waiting)
 }
 
-/// Does what is done at the end of an input: of commands the job is reset.
+/// Closes an input: if it has commands, the job is reset.
 fn close<S: FileService>(alloc: Global, service: &mut S, moment: Moment, language: Language)
     ensures { Closed language S.machine service.old service.new moment }
 {
@@ -182,30 +184,30 @@ fn close<S: FileService>(alloc: Global, service: &mut S, moment: Moment, languag
     }
 }
 
-/// Answers the line that the end of the input ends, writes all texts, and then does what is done at the end.
+/// Answers the line that the end of the input ends, writes all texts, and closes the input.
 fn finish<S: FileService, W: Write>(
     alloc: Global,
     service: &mut S,
     writer: &mut W,
     moment: Moment,
     language: Language,
-    talk: &mut Talk,
+    session: &mut SessionState,
 ) -> Result<Tally, SessionError>
     ensures ok { IfOk result (λ tally. EndsWell language S.machine service.old service.new (W.contents writer.old)
-        (W.contents writer.new) moment talk.old tally) }
+        (W.contents writer.new) moment session.old tally) }
     ensures err { IfErr result (λ error. BreaksOff language (Unit {0}) S.machine service.old service.new
-        (W.contents writer.old) (W.contents writer.new) moment talk.old error []) }
+        (W.contents writer.old) (W.contents writer.new) moment session.old error []) }
 {
-    let heard = heard_of(language, moment, talk.held.last());
-    let number = talk.line;
-    tell(alloc, service, writer, moment, talk, number, heard)?;
-    flush(writer, &mut talk.waiting)?;
+    let parsed = parse_line(language, moment, session.held.last());
+    let number = session.line;
+    execute(alloc, service, writer, moment, session, number, parsed)?;
+    flush(writer, &mut session.waiting)?;
     close(alloc, service, moment, language);
-    Ok(talk.tally)
+    Ok(session.tally)
 }
 
-/// Serves the lines of a reader until its end, and writes what they print, before it reads more.
-fn talk_in<R: Read, W: Write, S: FileService>(
+/// Serves the lines of a reader until its end, and writes what they print before it reads more.
+fn serve_lines<R: Read, W: Write, S: FileService>(
     alloc: Global,
     reader: &mut R,
     writer: &mut W,
@@ -213,14 +215,14 @@ fn talk_in<R: Read, W: Write, S: FileService>(
     moment: Moment,
     language: Language,
 ) -> Result<Tally, SessionError>
-    ensures { Talked language (R.remaining reader.old) (R.remaining reader.new) (W.contents writer.old)
+    ensures { LinesServed language (R.remaining reader.old) (R.remaining reader.new) (W.contents writer.old)
         (W.contents writer.new)
         S.machine service.old service.new moment result }
 {
-    let mut talk = Talk {
+    let mut session = SessionState {
         held: PartialLine::new(),
         line: 1,
-        who: None,
+        user: None,
         tally: Tally::none(),
         waiting: Vec::new(alloc),
     };
@@ -230,7 +232,7 @@ fn talk_in<R: Read, W: Write, S: FileService>(
             return Err(SessionError::Read);
         };
         if count == 0 {
-            return finish(alloc, service, writer, moment, language, &mut talk);
+            return finish(alloc, service, writer, moment, language, &mut session);
         }
         take_piece(
             alloc,
@@ -238,7 +240,7 @@ fn talk_in<R: Read, W: Write, S: FileService>(
             writer,
             moment,
             language,
-            &mut talk,
+            &mut session,
             &piece[..count],
         )?;
     }
@@ -253,7 +255,7 @@ fn talk_in<R: Read, W: Write, S: FileService>(
 /// `Read` or `Write` if the reader or the writer failed, `NoMemory` if a text found no room. A line that a fault of the
 /// reader cuts short isn't answered, and no job is reset then. If the writer failed, it may lack the texts of several
 /// lines, whose calls were made.
-pub fn converse<R: Read, W: Write, S: FileService>(
+pub fn run_session<R: Read, W: Write, S: FileService>(
     alloc: Global,
     reader: &mut R,
     writer: &mut W,
@@ -263,15 +265,15 @@ pub fn converse<R: Read, W: Write, S: FileService>(
     ensures { Session (R.remaining reader.old) (R.remaining reader.new) (W.contents writer.old) (W.contents writer.new)
         S.machine service.old service.new moment result }
 {
-    talk_in(alloc, reader, writer, service, moment, Language::Commands)
+    serve_lines(alloc, reader, writer, service, moment, Language::Commands)
 }
 
 /// Serves the events of a reader until its end, at a moment, and writes a line for each reply.
 ///
 /// # Errors
 ///
-/// As of `converse`.
-pub fn play<R: Read, W: Write, S: FileService>(
+/// The same as those of `run_session`.
+pub fn run_script<R: Read, W: Write, S: FileService>(
     alloc: Global,
     reader: &mut R,
     writer: &mut W,
@@ -281,5 +283,5 @@ pub fn play<R: Read, W: Write, S: FileService>(
     ensures { Script (R.remaining reader.old) (R.remaining reader.new) (W.contents writer.old) (W.contents writer.new)
         S.machine service.old service.new moment result }
 {
-    talk_in(alloc, reader, writer, service, moment, Language::Events)
+    serve_lines(alloc, reader, writer, service, moment, Language::Events)
 }

@@ -1,17 +1,18 @@
+//! The texts that are printed: greeting, refusals, replies of a call script, and lists in columns.
 ghost use Rattle.std.specs.Prelude.{◌≡◌, ◌++◌, IfOk, OnOk, codes, string_bytes};
 ghost use Rattle.words36.specs.Common.{characters};
 ghost use Rattle.spec_language.specs.Common.{words_given, line, refusal, code_text, greeting, right_in, three_digits};
 ghost use Rattle.spec_language.specs.Common.{extension_text, month_text, day_text, entry_text, blocks_in, total_text};
 ghost use Rattle.spec_language.specs.Common.{listing, list_text, volume_line};
 
-use crate::tables::table;
+use crate::tsv::table;
 use spec_image::Entry;
 use spec_language::Style;
 use spec_machine::Reply;
 use std::alloc::{AllocError, Global};
 use words36::{FileName, Half, Ppn, text_of};
 
-/// The bytes of a text, with a line feed behind them.
+/// Returns the bytes of a text, with a line feed after them.
 pub fn line(alloc: Global, text: &str) -> Result<Vec<u8>, AllocError>
     ensures { IfOk result (λ bytes. bytes.items ≡ line text.now) }
 {
@@ -21,7 +22,7 @@ pub fn line(alloc: Global, text: &str) -> Result<Vec<u8>, AllocError>
     Ok(bytes)
 }
 
-/// Why a call was refused, by its reply: a text without a line feed.
+/// Returns the text of a refusal, by the reply of the call: a text without a line feed.
 pub fn refusal(reply: &Reply) -> &'static str
     ensures { result.now ≡ refusal reply.now }
 {
@@ -39,7 +40,7 @@ pub fn refusal(reply: &Reply) -> &'static str
     }
 }
 
-/// What a code of a refused call says.
+/// Returns the text for a code of a refused call.
 fn code_text(code: u32) -> &'static str
     ensures { result.now ≡ code_text code }
 {
@@ -55,7 +56,7 @@ fn code_text(code: u32) -> &'static str
     }
 }
 
-/// The line that a call script is answered with for a reply; its numbers are octal.
+/// Returns the line that a call script prints for a reply; its numbers are octal.
 pub fn reply_line(alloc: Global, reply: &Reply) -> Result<Vec<u8>, AllocError>
     ensures { IfOk result (λ bytes. bytes.items ≡ line (words_given reply.now)) }
 {
@@ -84,7 +85,7 @@ pub fn reply_line(alloc: Global, reply: &Reply) -> Result<Vec<u8>, AllocError>
     }
 }
 
-/// What a login prints: the bytes of `Job 1 [10,20]`, with these numbers in octal, and a line feed.
+/// Returns what a login prints: the bytes of `Job 1 [10,20]`, with these numbers in octal, and a line feed.
 pub fn greeting(alloc: Global, owner: Ppn) -> Result<Vec<u8>, AllocError>
     ensures { IfOk result (λ bytes. bytes.items ≡ greeting owner) }
 {
@@ -92,7 +93,7 @@ pub fn greeting(alloc: Global, owner: Ppn) -> Result<Vec<u8>, AllocError>
     line(alloc, text.as_str())
 }
 
-/// What a volume is said to have: so many blocks, and so many that are left; numbers are decimal.
+/// Returns the line about a volume: how many blocks it has, and how many are left; the numbers are decimal.
 pub fn volume_line(alloc: Global, blocks: u32, room: i64) -> Result<Vec<u8>, AllocError>
     ensures { IfOk result (λ bytes. bytes.items ≡ volume_line blocks room) }
 {
@@ -100,7 +101,7 @@ pub fn volume_line(alloc: Global, blocks: u32, room: i64) -> Result<Vec<u8>, All
     line(alloc, text.as_str())
 }
 
-/// What is printed of the list of a directory, in one style or the other.
+/// Returns what is printed for the list of a directory, in one style or the other.
 pub fn list_text(
     alloc: Global,
     style: Style,
@@ -115,7 +116,7 @@ pub fn list_text(
     }
 }
 
-/// What DIRECTORY prints: the bytes of a line for each entry, and of a line with the totals.
+/// Returns what DIRECTORY prints: the bytes of a line for each entry, and of a line with the totals.
 #[tactic(auto, unfolding(spec_language::specs::Texts::listing))]
 fn listing(alloc: Global, owner: Ppn, entries: &[Entry]) -> Result<Vec<u8>, AllocError>
     ensures { IfOk result (λ bytes. bytes.items ≡ listing owner entries.now) }
@@ -129,7 +130,7 @@ fn listing(alloc: Global, owner: Ppn, entries: &[Entry]) -> Result<Vec<u8>, Allo
     Ok(bytes)
 }
 
-/// Puts the line of an entry behind the bytes: its name, blocks, protection and day.
+/// Appends the line of an entry to the bytes: its name, blocks, protection and day.
 fn push_entry(alloc: Global, bytes: &mut Vec<u8>, entry: Entry) -> Result<(), AllocError>
     ensures { OnOk result (bytes.new.items ≡ bytes.old.items ++ entry_text entry) }
 {
@@ -146,7 +147,7 @@ fn push_entry(alloc: Global, bytes: &mut Vec<u8>, entry: Entry) -> Result<(), Al
     Ok(())
 }
 
-/// Puts a name and an extension behind the bytes, with a blank between them.
+/// Appends a name and an extension to the bytes, with a blank between them.
 fn push_name(bytes: &mut Vec<u8>, name: FileName) -> Result<(), AllocError>
     ensures { OnOk result (bytes.new.items ≡ bytes.old.items
         ++ (characters name.name ++ codes " " ++ extension_text name.ext)) }
@@ -157,7 +158,7 @@ fn push_name(bytes: &mut Vec<u8>, name: FileName) -> Result<(), AllocError>
     Ok(())
 }
 
-/// Puts a day behind the bytes, as ` 4-Jan-1975`.
+/// Appends a day to the bytes, as ` 4-Jan-1975`.
 fn push_day(alloc: Global, bytes: &mut Vec<u8>, date: u32) -> Result<(), AllocError>
     ensures { OnOk result (bytes.new.items ≡ bytes.old.items ++ day_text date) }
 {
@@ -171,7 +172,7 @@ fn push_day(alloc: Global, bytes: &mut Vec<u8>, date: u32) -> Result<(), AllocEr
     Ok(())
 }
 
-/// Puts a text behind the bytes, with as many blanks before it as it has fewer bytes than there are places.
+/// Appends a text to the bytes, after as many blanks as it needs to fill the places.
 fn push_right(bytes: &mut Vec<u8>, places: usize, text: &str) -> Result<(), AllocError>
     ensures { OnOk result (bytes.new.items ≡ bytes.old.items ++ right_in places text.now) }
 {
@@ -182,7 +183,7 @@ fn push_right(bytes: &mut Vec<u8>, places: usize, text: &str) -> Result<(), Allo
     Ok(())
 }
 
-/// The three characters of an extension.
+/// Returns the three characters of an extension.
 pub fn extension_text(ext: Half) -> [u8; 3]
     ensures { result ≡ extension_text ext }
 {
@@ -194,7 +195,7 @@ pub fn extension_text(ext: Half) -> [u8; 3]
     ]
 }
 
-/// A number of three octal digits.
+/// Returns a number as three octal digits.
 pub(crate) fn three_digits(number: u32) -> [u8; 3]
     ensures { result ≡ three_digits number }
 {
@@ -205,7 +206,7 @@ pub(crate) fn three_digits(number: u32) -> [u8; 3]
     ]
 }
 
-/// A month's name, where January is 0.
+/// Returns a month's name; January is 0.
 pub(crate) fn month_text(month: u32) -> &'static str
     ensures { result.now ≡ month_text month }
 {
@@ -225,7 +226,7 @@ pub(crate) fn month_text(month: u32) -> &'static str
     }
 }
 
-/// The last line of a list: how many blocks and files it has, or that it has none.
+/// Returns the last line of a list: how many blocks and files it has, or that it has no files.
 fn total_text(alloc: Global, owner: Ppn, entries: &[Entry]) -> Result<String, AllocError>
     ensures { IfOk result (λ text. string_bytes text ≡ total_text owner entries.now) }
 {
@@ -237,7 +238,7 @@ fn total_text(alloc: Global, owner: Ppn, entries: &[Entry]) -> Result<String, Al
     format!(in alloc; "Total {blocks} blocks in {files} files {owner}\n")
 }
 
-/// How many blocks the entries have together. No list that fits in memory has more than 128 bits of them.
+/// Returns how many blocks the entries have together. No list that fits in memory has a sum of more than 128 bits.
 fn total_blocks(entries: &[Entry]) -> u128
     ensures { result ≡ blocks_in entries.now }
 {

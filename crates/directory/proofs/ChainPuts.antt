@@ -1,4 +1,4 @@
--- A chain is spelled where each of its blocks is; and what puts of its blocks make of the contents.
+-- A chain is spelled if each of its blocks is; and what puts of its blocks make of the contents.
 use Rattle.std.proofs.Common.{◌≡◌, ◌⊎◌, ℕ, zero, suc, ◌+◌, ◌*◌, ◌<◌, ◌≤◌, List, [], ◌∷◌, length, take, drop, get_or}
 use Rattle.std.proofs.Common.{Some, refl, sym, ap, subst, ◌∙◌, arith, inl, inr}
 use Rattle.std.proofs.lemmas.List.{drop-drop}
@@ -82,7 +82,7 @@ module _ {E : Type 0} (words : E → List ℕ) where
         by_case (inr other) = with_puts_later (block_put words chain k) puts c (get_or chain.blocks j 0)
             (get_apart chain.blocks j k once h inside other) ∙ else_on other
 
-  -- two puts, where all other blocks of the new chain are as they were in the old one
+  -- two puts, if all other blocks of the new chain are as they were in the old one
   pub two_spell : (old new : ChainState E) → ((n : ℕ) → times n new.blocks ≤ 1) → (puts : List Put) (k l : ℕ)
       → k < length new.blocks → l < length new.blocks
       → ((j : ℕ) → j < length new.blocks → (j ≡ k → ⊥) → (j ≡ l → ⊥) → (j < length old.blocks)
@@ -110,7 +110,7 @@ module _ {E : Type 0} (words : E → List ℕ) where
       (λ j h. put_on new once c puts k ki j h (λ not_k. let s = same j h not_k in ap (with_puts puts c) s.1
       ∙ on_each (with_puts puts c) old.blocks old.entries on j s.0 ∙ ap Some (sym s.2)))
 
-  -- what is none of the chain's blocks stays
+  -- what isn't one of the chain's blocks stays
   pub put_others : (chain : ChainState E) (puts : List Put) (k : ℕ) → k < length chain.blocks → (c : Contents) (n : ℕ)
       → times n chain.blocks ≡ 0 → with_puts (replaced (block_put words chain k) puts) c n ≡ with_puts puts c n
   put_others chain puts k inside c n none =
@@ -124,7 +124,7 @@ all_get P [] k h a = absurd (omega arith)
 all_get P (n ∷ ns) zero h a = a.0
 all_get P (n ∷ ns) (suc k) h a = all_get P ns k (omega arith) a.1
 
--- a put of a block where all of the chain's blocks may be put
+-- a put of a block if all of the chain's blocks may be put
 pub put_in_range : (P : ℕ → Type 0) {E : Type 0} (words : E → List ℕ) (chain : ChainState E) (puts : List Put) (k : ℕ)
     → k < length chain.blocks → AllByRecursion P chain.blocks → AllByRecursion P (targets puts)
     → AllByRecursion P (targets (replaced (block_put words chain k) puts))

@@ -1,5 +1,5 @@
 -- The entries of a chain after an edit: which they are, that they are a chain's, and their map.
--- In each section `o` says that the order of the keys is total, and `exact` that only equal keys tie in it.
+-- In each section `o` states that the order of the keys is total, and `exact` that only equal keys tie in it.
 use Rattle.std.proofs.Common.{◌≡◌, ℕ, zero, suc, ◌+◌, ◌-◌, ◌*◌, ◌<◌, ◌≤◌, Bool, true, false, cond, List, [], ◌∷◌}
 use Rattle.std.proofs.Common.{◌++◌, length, take, drop, slice_get, slice_set, swap_remove, get_or, Option, Some, None}
 use Rattle.std.proofs.Common.{refl, sym, ap, subst, ◌∙◌, Ordering, arith, length-append, append-nil, append_assoc}
@@ -167,7 +167,7 @@ module _ {K V : Type 0} {R : K → K → Ordering} (o : IsTotalOrder R) where
       let first = other_key (eq_by_cmp R e.0 y.0) y.1 (find R e.0 ys) none in
       ap (λ b. cond b (e ∷ ys) (y ∷ inserted R ys e)) first.0 ∙ ap (λ zs. y ∷ zs) (inserted_new ys e first.1)
 
-  -- a key that stands at one place stands nowhere else
+  -- a key that is at one place is nowhere else
   pub not_elsewhere : (items : List (K × V)) (i : ℕ) (k : K) (v : V) → EachOnce R items → StandsAt R items k v i
       → find R k (take i items ++ drop (suc i) items) ≡ None
   not_elsewhere items i k v once at = (EachOnce-without o (take i items) (k, v) (drop (suc i) items)
@@ -177,7 +177,7 @@ module _ {K V : Type 0} {R : K → K → Ordering} (o : IsTotalOrder R) where
   absent_parts None y n = (refl, n)
   absent_parts (Some x) y n = absurd (some_none n)
 
-  -- a key that stands nowhere stands nowhere else
+  -- a key that is nowhere is nowhere else
   pub absent_elsewhere : (items : List (K × V)) (i : ℕ) (x : K × V) (q : K) → slice_get items i ≡ Some x
       → find R q items ≡ None → find R q (take i items ++ drop (suc i) items) ≡ None
   absent_elsewhere items i x q is none =
@@ -188,7 +188,7 @@ module _ {K V : Type 0} {R : K → K → Ordering} (o : IsTotalOrder R) where
       find-append_both R (take i items) (drop (suc i) items) q ∙ (λ j. option_or (parts.0 j) (behind.1 j))
 
   module _ (IsEntry : K × V → Type 0) where
-    -- a chain with one entry in the place of another is a chain
+    -- a chain with one entry in place of another is a chain
     pub chain_replaced : (ns : List ℕ) (items : List (K × V)) (i : ℕ) (x e : K × V)
         → IsChain R IsEntry (record { blocks = ns; entries = items }) → i < length items → slice_get items i ≡ Some x
         → find R e.0 (take i items ++ drop (suc i) items) ≡ None → IsEntry e
@@ -215,7 +215,7 @@ module _ {K V : Type 0} {R : K → K → Ordering} (o : IsTotalOrder R) where
     all_more [] e all good = (good, tt)
     all_more (x ∷ xs) e all good = (all.0, all_more xs e all.1 good)
 
-    -- one with an entry more, where the last block has room
+    -- one with one more entry, if the last block has room
     pub chain_appended : (ns : List ℕ) (items : List (K × V)) (e : K × V)
         → IsChain R IsEntry (record { blocks = ns; entries = items }) → (length items ≡ 42 * length ns → ⊥)
         → find R e.0 items ≡ None → IsEntry e
@@ -239,7 +239,7 @@ module _ {K V : Type 0} {R : K → K → Ordering} (o : IsTotalOrder R) where
             omega (arith, times-append m ns (n ∷ []))
         by_case (inr other) = let a = times_tail m n [] other in omega (arith, times-append m ns (n ∷ []), once m)
 
-    -- one with an entry more in a block more
+    -- one with one more entry in one more block
     pub chain_grown : (ns : List ℕ) (items : List (K × V)) (n : ℕ) (e : K × V)
         → IsChain R IsEntry (record { blocks = ns; entries = items }) → length items ≡ 42 * length ns → times n ns ≡ 0
         → find R e.0 items ≡ None → IsEntry e
@@ -255,7 +255,7 @@ module _ {K V : Type 0} {R : K → K → Ordering} (o : IsTotalOrder R) where
           blocks_once = once_more ns n c.blocks_once new;
         }
 
-    -- one with an entry less, and perhaps a block less
+    -- one with one entry fewer, and perhaps one block fewer
     pub chain_removed : (ns ms freed : List ℕ) (items : List (K × V)) (i : ℕ) (x : K × V)
         → IsChain R IsEntry (record { blocks = ns; entries = items }) → slice_get items i ≡ Some x → ns ≡ ms ++ freed
         → length ms ≡ directory_cost (length (take i items ++ last_first (drop (suc i) items)))
@@ -284,7 +284,7 @@ module _ {K V : Type 0} {R : K → K → Ordering} (o : IsTotalOrder R) where
         moved_map o exact us vs (EachOnce-without o us (k, v) vs once').1
         ∙ from_entries_without o exact us (k, v) vs once' ∙ ap (λ es. remove (from_entries es) k) (sym split)
 
-    -- the map with one entry in the place of another
+    -- the map with one entry in place of another
     pub map_renamed : (items : List (K × V)) (i : ℕ) (k : K) (v : V) (e : K × V) → EachOnce R items
         → StandsAt R items k v i → find R e.0 (take i items ++ drop (suc i) items) ≡ None
         → from_entries {R = R} (slice_set items i e) ≡ insert (remove (from_entries items) k) e.0 e.1

@@ -30,7 +30,7 @@ words_more view words es i d below is =
     ∙ ap (flat_map words) (sym (taken_more view es i d below))
     ∙ ap (λ k. flat_map words (take k (map view es))) next
 
--- an entry is put behind those before it
+-- an entry is put after those before it
 pub entry_put : {E X : Type 0} (view : E → X) (words : X → List ℕ) → TellsApart words
     → (es : List E) (i : ℕ) (d : E) (first second : ℕ) (block written result : List ℕ) → length es ≤ 42 → i < length es
     → block ≡ first ∷ second ∷ (flat_map words (take i (map view es)) ++ replicate (126 - 3 * i) 0) → d ≡ get_or es i d

@@ -1,17 +1,17 @@
-mod Growing
+mod GrownLists
 pub mod Orders
-pub mod Indexing
-pub mod Gathering
-mod Parsing
+pub mod KeyPlaces
+pub mod GatheredEntries
+mod OutsideEntries
 mod Images
-mod BlockReading
-pub mod EntryReading
-mod ChainReading
-pub mod Finding
+mod BlockEntries
+pub mod AddedEntries
+mod ChainBlocks
+pub mod FoundEntries
 mod Windows
 pub mod ChainPuts
-mod Editing
+mod ChainEdits
 pub mod EditedEntries
 mod Steps
 mod Reserves
-mod Listing
+mod SortedEntries

@@ -1,4 +1,4 @@
--- Lists of places: how often each comes, and what holds of each.
+-- Lists of places: how often each occurs, and what holds for each.
 use Rattle.std.proofs.Common.{◌≡◌, ◌⊎◌, inl, inr, ℕ, zero, suc, ◌+◌, ◌<◌, ◌≤◌, Bool, true, false, cond, ◌==◌, List}
 use Rattle.std.proofs.Common.{[], ◌∷◌, ◌++◌, length, take, drop, slice_set, slice_get, Some, refl, sym, ap, subst}
 use Rattle.std.proofs.Common.{arith, eqb-true, eq-eqb, ne_eqb}
@@ -30,7 +30,7 @@ strict zero (suc b) h apart = omega arith
 strict (suc a) zero h apart = absurd (omega arith)
 strict (suc a) (suc b) h apart = let r = strict a b (omega arith) (λ e. apart (ap suc e)) in omega arith
 
--- what holds of each, and more of each that is there
+-- what holds for each, and more for each that is there
 pub all_in : (P Q : ℕ → Type 0) (ps : List ℕ) → ((p : ℕ) → 0 < times p ps → P p → Q p) → AllByRecursion P ps
     → AllByRecursion Q ps
 all_in P Q [] f all = tt
@@ -57,7 +57,7 @@ all_drop P zero ps all = all
 all_drop P (suc i) [] all = tt
 all_drop P (suc i) (p ∷ ps) all = all_drop P i ps all.1
 
--- how often a number comes once a place was left, or entered
+-- how often a number occurs after a place was left, or entered
 pub times_left : (ps : List ℕ) (i q p : ℕ) → slice_get ps i ≡ Some q
     → times p (take i ps ++ drop (suc i) ps) + one p q ≡ times p ps
 times_left [] i q p is = absurd (some_none (sym is))
@@ -86,13 +86,13 @@ times_parts ps zero p = omega arith
 times_parts [] (suc i) p = omega arith
 times_parts (r ∷ ps) (suc i) p = let h = times_parts ps i p in omega arith
 
--- what stands in a list comes in it
+-- what is in a list occurs in it
 pub times_at : (ps : List ℕ) (i p : ℕ) → slice_get ps i ≡ Some p → 0 < times p ps
 times_at [] i p is = absurd (some_none (sym is))
 times_at (q ∷ ps) zero p is = subst (λ x. 0 < times x (q ∷ ps)) (some_same is) (times_here q ps)
 times_at (q ∷ ps) (suc i) p is = times_later p q ps (times_at ps i p is)
 
--- Reading a list behind an edit.
+-- Reading a list after an edit.
 
 module _ {X : Type 0} where
   pub get_within : (xs : List X) (i : ℕ) → i < length xs → (x : X) × (slice_get xs i ≡ Some x)

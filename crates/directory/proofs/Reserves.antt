@@ -1,4 +1,4 @@
--- Memory found before, for an entry more and the block that it takes.
+-- Memory allocated before, for one more entry and the block that it takes.
 use Rattle.std.proofs.Common.{◌≡◌, ℕ, ◌*◌, map, length, Option, Some, None, IfSome, MatchOption, sym, subst, ◌∙◌}
 use Rattle.std.proofs.Common.{Ordering}
 use Rattle.std.proofs.lemmas.List.{length-map}
@@ -7,7 +7,7 @@ use Rattle.spec_image.specs.Common.{times}
 use Rattle.directory.specs.Common.{ChainState, viewed, Places, IsReserve, IsSpareFor}
 
 module _ {E K V : Type 0} {R : K → K → Ordering} (view : E → K × V) (old : ChainState E) (k : K) where
-  -- what is found is enough
+  -- what is allocated is enough
   pub found_reserve : (spare : Places) → IsSpareFor (length old.entries) spare.entries
       → IsSpareFor (length old.entries) spare.order → (length old.entries ≡ 42 * length old.blocks
       → IsSpareFor (length old.blocks) spare.blocks)
@@ -20,7 +20,7 @@ module _ {E K V : Type 0} {R : K → K → Ordering} (view : E → K × V) (old 
         blocks = λ takes. blocks (sym many ∙ takes.1);
       }
 
-  -- nothing is enough where the key is there
+  -- nothing is enough if the key is there
   pub no_reserve : (spare : Places) → (find R k (map view old.entries) ≡ None → ⊥)
       → IsReserve R (viewed view old) k spare
   no_reserve spare there = record {
@@ -37,7 +37,7 @@ module _ {E K V : Type 0} {R : K → K → Ordering} (view : E → K × V) (old 
     pub spare_order : IsSpareFor (length old.entries) spare.order
     spare_order = subst (λ n. IsSpareFor n spare.order) (length-map old.entries view) (is_reserve.order none)
 
-    -- for the block, where it is taken
+    -- for the block, if it is taken
     pub room_block : (block : Option ℕ) → MatchOption block (length old.entries ≡ 42 * length old.blocks
         → ⊥) (λ n. (length old.entries ≡ 42 * length old.blocks) × (times n old.blocks ≡ 0))
         → IfSome block (λ n. IsSpareFor (length old.blocks) spare.blocks)

@@ -1,5 +1,5 @@
 -- The steps of the code: chains as they are seen, and the puts of their blocks.
--- `inside` is a chain as it is kept, and `old` the same one as clauses see it.
+-- `inside` is a chain as it is stored, and `old` the same one as clauses see it.
 use Rattle.std.proofs.Common.{◌≡◌, ◌⊎◌, inl, inr, ℕ, suc, ◌-◌, ◌*◌, ◌/◌, ◌<◌, ◌≤◌, Bool, List, [], ◌∷◌, ◌++◌, map}
 use Rattle.std.proofs.Common.{length, take, drop, get_or, swap_remove, slice_set, Option, Some, None, is_some}
 use Rattle.std.proofs.Common.{MatchOption, option_to_list, IsTrue, IsFalse, Result, Ok, Err, OnOk, append-nil, refl}
@@ -15,7 +15,7 @@ use Rattle.spec_image.proofs.Common.{times-append, below_or_not}
 use Rattle.changeset.specs.Common.{replaced}
 use Rattle.directory.specs.Common.{ChainState, IsChain, viewed, StandsAt, block_put, inserted, renamed, removed}
 use Rattle.directory.specs.Common.{last_first, PutsChain}
-use Rattle.directory.proofs.Editing.{put_replaced, put_appended, put_grown, without, put_removed, put_shortened}
+use Rattle.directory.proofs.ChainEdits.{put_replaced, put_appended, put_grown, without, put_removed, put_shortened}
 use Rattle.directory.proofs.EditedEntries.{chain_replaced, chain_appended, chain_grown, chain_removed, swap_removed}
 use Rattle.directory.proofs.EditedEntries.{removed_is, map_removed, not_elsewhere, absent_elsewhere, inserted_is}
 use Rattle.directory.proofs.EditedEntries.{inserted_new, renamed_is, map_replaced, map_renamed, map_appended}
@@ -64,7 +64,7 @@ module _ {E K V : Type 0} {R : K → K → Ordering} (o : IsTotalOrder R) (IsEnt
         subst (λ (s : ChainState E). PutsChain words (viewed view s) seen before after) is
         (subst (λ ps. PutsChain words (viewed view inside) seen before ps) (sym puts) made)
 
-  -- the last block has room, or it is full and this block is none of the chain's
+  -- the last block has room, or it is full and this block isn't one of the chain's
   abbrev pub IsFitting : ChainState E → Option ℕ → Type 0
   IsFitting chain block = MatchOption block (length chain.entries ≡ 42 * length chain.blocks
       → ⊥) (λ n. (length chain.entries ≡ 42 * length chain.blocks) × (times n chain.blocks ≡ 0))
@@ -165,7 +165,7 @@ module _ {E K V : Type 0} {R : K → K → Ordering} (o : IsTotalOrder R) (IsEnt
             (put_grown words inside.blocks (map view inside.entries) n (view e) before counted grown.blocks_once (many
             ∙ room.0))))
 
--- What follows where a call answers Ok.
+-- What follows if a call returns Ok.
 pub on_ok : {T F : Type 0} (r : Result T F) {P Q : Type 0} → OnOk r P → (P → Q) → OnOk r Q
 on_ok (Ok x) h f = f h
 on_ok (Err e) h f = tt
@@ -178,7 +178,7 @@ module _ {E K V : Type 0} {R : K → K → Ordering} (o : IsTotalOrder R) (IsEnt
       (λ q. find R q (take i (map view chain.entries) ++ drop (suc i) (map view chain.entries))
       ≡ None) key (not_elsewhere o (map view chain.entries) i k v sound.each_once at)
 
-  -- a key that stands nowhere, too
+  -- a key that is nowhere, too
   pub alone_absent : (chain : ChainState E) (i : ℕ) (k : K) (v : V) (e : E) → StandsAt R (map view chain.entries) k v i
       → find R (view e).0 (map view chain.entries) ≡ None → IsAlone o IsEntry view chain i e
   alone_absent chain i k v e at none = absent_elsewhere o (map view chain.entries) i (k, v) (view e).0 at.is none

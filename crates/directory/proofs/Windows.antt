@@ -9,7 +9,7 @@ module _ {X : Type 0} where
   pub window : (n m : ℕ) (xs : List X) → take m (drop n xs) ≡ drop n (take (n + m) xs)
   window n m xs = sym (drop-take n m xs)
 
-  -- where the first elements are the same, so is a stretch of them
+  -- if the first elements are the same, so is a stretch of them
   pub window_front : (n m : ℕ) (xs ys : List X) → take (n + m) xs ≡ take (n + m) ys
       → take m (drop n xs) ≡ take m (drop n ys)
   window_front n m xs ys e = window n m xs ∙ ap (drop n) e ∙ sym (window n m ys)

@@ -1,4 +1,4 @@
--- What follows of a chain in core, and from what it follows.
+-- What follows from a chain in memory, and from what it follows.
 use Rattle.std.specs.Prelude.{◌≡◌, ℕ, ◌+◌, ◌*◌, ◌<◌, ◌≤◌, List, [], ◌∷◌, ◌++◌, length, take, drop, replicate, Some}
 use Rattle.std.specs.List.{AllByRecursion}
 use Rattle.std.specs.declared.cmp.Ordering.{Ordering}
@@ -8,7 +8,7 @@ use Rattle.std.proofs.lemmas.List.{length-map, length-drop, length-take, length-
 use Rattle.std.proofs.Math.Seq.{take-append_seam, drop-append_seam}
 use Rattle.blockdisk.specs.Common.{Contents}
 use Rattle.spec_image.specs.Common.{AgreeOn, directory_cost, Node, numbers, items, directory_block, IsSpelled}
-use Rattle.spec_image.specs.Common.{IsFilled, IsDirectory, MasterEntry, IsMasterEntry, IsMasterEntryOf, EachOnce}
+use Rattle.spec_image.specs.Common.{IsFilled, IsDirectory, SpecMasterEntry, IsMasterEntry, IsMasterEntryOf, EachOnce}
 use Rattle.spec_image.specs.Common.{from_entries, times, IsChainRead}
 use Rattle.spec_image.proofs.Common.{times_here, times_later}
 use Rattle.directory.specs.Chains.{ChainState, nodes_of, IsChain, IsOn}
@@ -35,7 +35,7 @@ module _ {E : Type 0} where
       let rest = filled_more m ns (drop 42 es) (omega arith) (omega arith) in
       (omega arith, (first, rest.0, rest.1))
 
-  -- as many blocks as the entries cost are all full but the last, which is empty only where it is the first
+  -- as many blocks as the entries cost are all full except the last, which is empty only if it is the first
   pub filled_of : (ns : List ℕ) (es : List E) → length ns ≡ directory_cost (length es) → IsFilled (nodes_of ns es)
   filled_of [] es counted = absurd (omega arith)
   filled_of (n ∷ []) es counted = let first = length-take 42 es in omega arith
@@ -44,7 +44,7 @@ module _ {E : Type 0} where
 -- From blocks with entries to a list of entries.
 
 module _ {E : Type 0} where
-  -- blocks that are filled as they should be are those of their entries
+  -- blocks that are filled as required are those of their entries
   pub flat : (nodes : List (Node E)) → IsFilled nodes → nodes ≡ nodes_of (numbers nodes) (items nodes)
   flat [] f = absurd f
   flat (a ∷ []) f =
@@ -80,14 +80,14 @@ module _ {E : Type 0} where
       → length (numbers nodes) ≡ directory_cost (length (items nodes))
   filled_cost nodes f = length-map nodes (λ node. node.0) ∙ nodes_cost nodes f
 
--- What is so of each entry.
+-- What holds for each entry.
 
 all_weaker : {E : Type 0} {P Q : E → Type 0} → ((e : E) → P e → Q e) → (es : List E) → AllByRecursion P es
     → AllByRecursion Q es
 all_weaker weaker [] all = tt
 all_weaker weaker (e ∷ es) all = (weaker e all.0, all_weaker weaker es all.1)
 
--- a chain whose entries keep more keeps less
+-- a chain for a stronger condition on entries is one for a weaker condition
 pub chain_weaker : {K V : Type 0} {R : K → K → Ordering} {P Q : K × V → Type 0} → ((e : K × V) → P e → Q e)
     → (chain : ChainState (K × V)) → IsChain R P chain → IsChain R Q chain
 chain_weaker weaker chain c = record {
@@ -97,8 +97,8 @@ chain_weaker weaker chain c = record {
   blocks_once = c.blocks_once;
 }
 
--- a chain of the master directory, in any layout, is one where its entries need a project-programmer number alone
-pub master_chain : (layout : ℕ) (chain : ChainState MasterEntry) → IsChain nat_cmp (IsMasterEntryOf layout) chain
+-- a chain of the master directory, in any layout, is one if its entries need only a project-programmer number
+pub master_chain : (layout : ℕ) (chain : ChainState SpecMasterEntry) → IsChain nat_cmp (IsMasterEntryOf layout) chain
     → IsChain nat_cmp IsMasterEntry chain
 master_chain layout = chain_weaker (λ e good. good.ppn)
 

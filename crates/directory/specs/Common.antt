@@ -1,9 +1,9 @@
--- The definitions that proofs and other crates cite, passed on from one place. Declares nothing.
+-- The definitions that proofs and other crates cite, re-exported from one place. Declares nothing.
 pub use Rattle.directory.specs.Chains.{ChainState, IsChain, IsOn, chain_code, nodes_of, viewed}
 pub use Rattle.directory.specs.ChainLaws.{bare_on, chain_items, chain_read, chain_stands, chain_weaker, items_of}
 pub use Rattle.directory.specs.ChainLaws.{master_chain, numbers_of, on_kept}
-pub use Rattle.directory.specs.Loading.{Adds, AreGood, IsBadAt, IsBadChain, IsBadWords, IsTwiceInChain, IsWholeChain}
-pub use Rattle.directory.specs.Loading.{ReadsOn, SpellsBlock, SpellsEntries}
+pub use Rattle.directory.specs.ChainRead.{Adds, AreGood, IsBadAt, IsBadChain, IsBadWords, IsTwiceInChain, IsWholeChain}
+pub use Rattle.directory.specs.ChainRead.{ReadsOn, SpellsBlock, SpellsEntries}
 pub use Rattle.directory.specs.Spares.{HasPlaces, IsFull, IsSpareFor, KeyList}
 pub use Rattle.directory.specs.Indexes.{AreGathered, AreRising, Compares, HasKeyAt, IsGap, IsIndex, IsInserted}
 pub use Rattle.directory.specs.Indexes.{IsLeft, Precedes, order_to}

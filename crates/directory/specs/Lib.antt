@@ -1,6 +1,6 @@
 pub mod Chains
 pub mod ChainLaws
-pub mod Loading
+pub mod ChainRead
 pub mod Spares
 pub mod Indexes
 pub mod Edits

@@ -1,20 +1,21 @@
+//! Directories in memory.
 ghost use Rattle.std.specs.Prelude.{◌≡◌, ◌∷◌, [], length, IfOk};
 
-use crate::Entry;
+use crate::ChainEntry;
 use crate::entries::Entries;
 use blockdisk::NoMemory;
 use std::alloc::Global;
 use std::marker::Model;
 
-/// A directory in core: the blocks of its chain in order, and its entries in the order of the disk. All
-/// blocks but the last hold 42 entries.
+/// A directory in memory: the blocks of its chain in order, and its entries in the order of the disk. All
+/// blocks except the last hold 42 entries.
 #[derive(Drop)]
-pub struct Chain<E: Entry> {
+pub struct Chain<E: ChainEntry> {
     pub(crate) blocks: Vec<u32>,
     pub(crate) entries: Entries<E>,
 }
 
-impl<E: Entry> Model for Chain<E> {
+impl<E: ChainEntry> Model for Chain<E> {
     ghost use Rattle.std.specs.Vec.{vec_len, vec_capacity};
     ghost use Rattle.directory.specs.Common.{ChainState, IsChain, viewed, chain_code};
     ghost use Rattle.directory.specs.Common.{HasPlaces};
@@ -30,14 +31,14 @@ impl<E: Entry> Model for Chain<E> {
         × HasPlaces (vec_len c.blocks) (vec_capacity c.blocks) };
 }
 
-impl<E: Entry> Chain<E> {
+impl<E: ChainEntry> Chain<E> {
     ghost use Rattle.directory.specs.Common.{IsChain, viewed};
 
-    /// A chain of one block with no entries.
+    /// Returns a chain of one block with no entries.
     ///
     /// # Errors
     ///
-    /// `NoMemory` where the list of blocks finds no room.
+    /// `NoMemory` if there is no memory for the list of blocks.
     pub fn bare(alloc: Global, block: u32) -> Result<Self, NoMemory>
         ensures { IfOk result (λ chain. chain ≡ record { blocks = block ∷ []; entries = [] }) }
     {
@@ -47,7 +48,7 @@ impl<E: Entry> Chain<E> {
         })
     }
 
-    /// The numbers of the blocks, in order.
+    /// Returns the numbers of the blocks, in order.
     pub fn blocks(&self) -> &[u32]
         ensures value { result.now ≡ self.now.blocks }
         ensures sound { IsChain E.order E.IsEntry (viewed E.view self.now) }
@@ -55,7 +56,7 @@ impl<E: Entry> Chain<E> {
         self.blocks.as_slice()
     }
 
-    /// The entries, in the order of the disk.
+    /// Returns the entries, in the order of the disk.
     pub fn entries(&self) -> &[E]
         ensures value { result.now ≡ self.now.entries }
         ensures sound { IsChain E.order E.IsEntry (viewed E.view self.now) }
@@ -63,7 +64,7 @@ impl<E: Entry> Chain<E> {
         self.entries.as_slice()
     }
 
-    /// How many entries there are.
+    /// Returns how many entries there are.
     pub fn len(&self) -> usize
         ensures { result ≡ length self.now.entries }
     {

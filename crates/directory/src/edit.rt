@@ -1,3 +1,4 @@
+//! Edits of a directory: insertion, renaming and removal.
 ghost use Rattle.std.specs.Prelude.{◌≡◌, ◌+◌, ◌*◌, ◌/◌, ◌-◌, ◌<◌, ◌≤◌, ◌⊎◌, ◌++◌, ◌∷◌, [], ℕ, suc, length, map, take};
 ghost use Rattle.std.specs.Prelude.{drop, get_or, slice_set, option_to_list, MatchOption, Some, None, IsTrue};
 ghost use Rattle.std.specs.Prelude.{IsFalse, IsOk, IsSome, IfErr, OnOk, OnErr};
@@ -10,18 +11,18 @@ ghost use Rattle.directory.specs.Common.{removed, last_first, block_put};
 ghost use Rattle.directory.specs.declared.error.DirectoryError.TheVariants.{NoMemory};
 
 use crate::image::block_image;
-use crate::{Chain, DirectoryError, Entry};
+use crate::{Chain, ChainEntry, DirectoryError};
 use changeset::ChangeSet;
 use spec_image::layout::BLOCK_ENTRIES;
 
-impl<E: Entry> Chain<E> {
-    /// Gives a key its entry: in the place of the one that has the key, or else behind the last entry. Where the
-    /// last block is full then (`needs_block`), the entry goes into the block `fresh`, which becomes the last
-    /// block of the chain; in all other cases `fresh` isn't looked at.
+impl<E: ChainEntry> Chain<E> {
+    /// Gives a key its entry: in place of the one that has the key, or else after the last entry. If the last
+    /// block is full then (`needs_block`), the entry goes into the block `fresh`, which becomes the last block of
+    /// the chain; in all other cases `fresh` isn't used.
     ///
     /// # Errors
     ///
-    /// `NoMemory` where a new key finds no memory; nothing changes then.
+    /// `NoMemory` if there is no memory for a new key; nothing changes then.
     pub fn insert(
         &mut self,
         entry: E,
@@ -49,12 +50,12 @@ impl<E: Entry> Chain<E> {
         ensures same { OnErr result (self.new ≡ self.old) }
         ensures unput { OnErr result (set.new ≡ set.old) }
     {
-        let reserve = self.reserve_for(*self.blocks.allocator(), &entry)?;
+        let reserve = self.preallocate_for(*self.blocks.allocator(), &entry)?;
         self.insert_into(reserve, entry, fresh, set);
         Ok(())
     }
 
-    /// Puts an entry in the place of the one with this key. It has the same key, or one that isn't there.
+    /// Puts an entry in place of the one with this key. It has the same key, or one that isn't there.
     pub fn rename(&mut self, key: &E::Key, entry: E, set: &mut ChangeSet)
         requires there { IsSome (find E.order key.now (map E.view self.old.entries)) }
         requires free { (key.now ≡ (E.view entry).0)
@@ -76,8 +77,8 @@ impl<E: Entry> Chain<E> {
         }
     }
 
-    /// Takes out the entry with this key; the last entry moves into its place. A last block that is left empty
-    /// leaves the chain, unless it is the only one, and is answered.
+    /// Takes out the entry with this key; the last entry moves into its place. A last block that becomes empty
+    /// leaves the chain, unless it is the only one, and is returned.
     pub fn remove(&mut self, key: &E::Key, set: &mut ChangeSet) -> Option<u32>
         requires there { IsSome (find E.order key.now (map E.view self.old.entries)) }
         requires room { length set.old + 2 ≤ most_puts }
@@ -116,7 +117,7 @@ impl<E: Entry> Chain<E> {
         freed
     }
 
-    /// Puts an entry whose key stands nowhere else in the place of another.
+    /// Puts an entry whose key is nowhere else in place of another.
     pub(crate) fn replace(&mut self, i: usize, entry: E, set: &mut ChangeSet)
         requires within { i < length self.old.entries }
         requires alone { find E.order (E.view entry).0 (take i (map E.view self.old.entries)
@@ -127,14 +128,14 @@ impl<E: Entry> Chain<E> {
         ensures few { length set.new ≤ length set.old + 1 }
         ensures sound { IsChain E.order E.IsEntry (viewed E.view self.old) }
     {
-        let _words = entry.words(); // an entry that has words is as it should be
+        let _words = entry.words(); // an entry that has words is valid
         self.entries.set(i, entry);
         let k = i / BLOCK_ENTRIES;
         put_block(&self.blocks, self.entries.as_slice(), k, set);
     }
 }
 
-/// Takes the last block out where so many entries leave it empty, unless it is the only one.
+/// Takes out the last block if `count` entries leave it empty, unless it is the only one.
 fn pop_empty(blocks: &mut Vec<u32>, count: usize) -> Option<u32>
     requires counted { length blocks.old.items ≡ directory_cost (count + 1) }
     requires places { HasPlaces (vec_len blocks.old) (vec_capacity blocks.old) }
@@ -148,8 +149,8 @@ fn pop_empty(blocks: &mut Vec<u32>, count: usize) -> Option<u32>
     blocks.pop()
 }
 
-/// Puts block `k` of a chain, where there is still one, and the last block.
-fn put_hole<E: Entry>(blocks: &[u32], entries: &[E], k: usize, set: &mut ChangeSet)
+/// Puts block `k` of a chain, if there still is one, and the last block.
+fn put_hole<E: ChainEntry>(blocks: &[u32], entries: &[E], k: usize, set: &mut ChangeSet)
     requires counted { length blocks.now ≡ directory_cost (length entries.now) }
     requires room { length set.old + 2 ≤ most_puts }
     ensures one { length blocks.now - 1 ≤ k
@@ -168,8 +169,13 @@ fn put_hole<E: Entry>(blocks: &[u32], entries: &[E], k: usize, set: &mut ChangeS
     put_block(blocks, entries, last, set);
 }
 
-/// Puts the last block of a chain, and before it the block that has come to name it, where it is new.
-pub(crate) fn put_end<E: Entry>(blocks: &[u32], entries: &[E], is_new: bool, set: &mut ChangeSet)
+/// Puts the last block of a chain, and before it the block that now names it, if it is new.
+pub(crate) fn put_end<E: ChainEntry>(
+    blocks: &[u32],
+    entries: &[E],
+    is_new: bool,
+    set: &mut ChangeSet,
+)
     requires begun { 42 * length blocks.now ≤ length entries.now + 42 }
     requires some { 0 < length blocks.now }
     requires two { IsTrue is_new → 1 < length blocks.now }
@@ -191,7 +197,7 @@ pub(crate) fn put_end<E: Entry>(blocks: &[u32], entries: &[E], is_new: bool, set
     put_block(blocks, entries, last, set);
 }
 
-/// The block after block `k` of a chain, or 0.
+/// Returns the block after block `k` of a chain, or 0.
 fn block_after(blocks: &[u32], k: usize) -> u32
     requires { k < length blocks.now }
     ensures { result ≡ get_or blocks.now (suc k) 0 }
@@ -200,7 +206,7 @@ fn block_after(blocks: &[u32], k: usize) -> u32
 }
 
 /// Puts block `k` of the chain with these blocks and entries.
-fn put_block<E: Entry>(blocks: &[u32], entries: &[E], k: usize, set: &mut ChangeSet)
+fn put_block<E: ChainEntry>(blocks: &[u32], entries: &[E], k: usize, set: &mut ChangeSet)
     requires within { k < length blocks.now }
     requires begun { 42 * k ≤ length entries.now }
     requires room { length set.old < most_puts }

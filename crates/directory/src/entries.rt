@@ -1,25 +1,26 @@
+//! The entries of a directory in memory.
 ghost use Rattle.std.specs.Prelude.{◌≡◌, ◌<◌, ◌++◌, ◌∷◌, [], IfOk, IfSome, IfNone, None, Some, suc, length, map};
 ghost use Rattle.std.specs.Prelude.{get_or, swap_remove, slice_get, slice_set, take, drop};
 ghost use Rattle.std.specs.FinMap.Entries.{find};
 ghost use Rattle.directory.specs.Common.{StandsAt, IsIndex, HasPlaces, IsSpareFor};
 ghost use Rattle.std.specs.Vec.{vec_len, vec_capacity};
 
-use crate::Entry;
+use crate::ChainEntry;
 use crate::order::{enter, find_place, rename_place, take_place};
-use crate::spare::{Spare, find_spare, make_place, push_into};
+use crate::prealloc::{Prealloc, make_place, preallocate, push_into};
 use blockdisk::NoMemory;
 use std::alloc::Global;
 use std::marker::Model;
 
-/// The entries of a directory in core, in the order of the disk, and beside them their places by rising keys, so that
-/// no search goes through the list. No key comes twice.
+/// The entries of a directory in memory, in the order of the disk, and with them their places in ascending key order,
+/// so that no search goes through the list. No key occurs twice.
 #[derive(Drop)]
-pub struct Entries<E: Entry> {
+pub struct Entries<E: ChainEntry> {
     list: Vec<E>,
     order: Vec<usize>,
 }
 
-impl<E: Entry> Model for Entries<E> {
+impl<E: ChainEntry> Model for Entries<E> {
     ghost use Rattle.std.specs.Prelude.{List, map};
     ghost use Rattle.std.specs.Coded.{coded_list};
     ghost use Rattle.std.specs.Vec.{vec_len, vec_capacity};
@@ -36,8 +37,8 @@ impl<E: Entry> Model for Entries<E> {
         × HasPlaces (vec_len e.list) (vec_capacity e.list) × HasPlaces (vec_len e.order) (vec_capacity e.order) };
 }
 
-impl<E: Entry> Entries<E> {
-    /// No entries.
+impl<E: ChainEntry> Entries<E> {
+    /// Returns an empty list.
     pub fn new(alloc: Global) -> Self
         ensures { result ≡ [] }
     {
@@ -47,7 +48,7 @@ impl<E: Entry> Entries<E> {
         }
     }
 
-    /// These entries, in the order of the disk, with their places by rising keys.
+    /// Returns these entries, in the order of the disk, with their places in ascending key order.
     pub(crate) fn of(list: Vec<E>, order: Vec<usize>) -> Self
         requires index { IsIndex E.order (map E.view list.items) order.items }
         requires list { HasPlaces (vec_len list) (vec_capacity list) }
@@ -57,28 +58,28 @@ impl<E: Entry> Entries<E> {
         Entries { list, order }
     }
 
-    /// The entries as a slice.
+    /// Returns the entries as a slice.
     pub fn as_slice(&self) -> &[E]
         ensures { result.now ≡ self.now }
     {
         self.list.as_slice()
     }
 
-    /// The places of the entries by rising keys.
+    /// Returns the places of the entries in ascending key order.
     pub fn places(&self) -> &[usize]
         ensures { IsIndex E.order (map E.view self.now) result.now }
     {
         self.order.as_slice()
     }
 
-    /// How many there are.
+    /// Returns how many there are.
     pub fn len(&self) -> usize
         ensures { result ≡ length self.now }
     {
         self.list.len()
     }
 
-    /// The place of the entry with this key, counted from 0, or `None` where there is no such entry.
+    /// Returns the place of the entry with this key, counted from 0, or `None` if there is no such entry.
     pub fn find(&self, key: &E::Key) -> Option<usize>
         ensures found { IfSome result (λ i. (v : E.Stored) × StandsAt E.order (map E.view self.now) key.now v i) }
         ensures none { IfNone result (find E.order key.now (map E.view self.now) ≡ None) }
@@ -86,30 +87,30 @@ impl<E: Entry> Entries<E> {
         find_place(&self.order, &self.list, key)
     }
 
-    /// Finds the memory that one entry more takes.
+    /// Allocates the memory that one more entry takes.
     ///
     /// # Errors
     ///
-    /// `NoMemory` where there is none.
-    pub fn find_spare(&self, alloc: Global) -> Result<Spare<E>, NoMemory>
+    /// `NoMemory` if there is none.
+    pub fn preallocate(&self, alloc: Global) -> Result<Prealloc<E>, NoMemory>
         ensures { IfOk result (IsSpareFor (length self.now)) }
     {
-        find_spare(alloc, self.list.len())
+        preallocate(alloc, self.list.len())
     }
 
-    /// Finds the memory that the place of one entry more takes.
+    /// Allocates the memory that the place of one more entry takes.
     ///
     /// # Errors
     ///
-    /// `NoMemory` where there is none.
-    pub fn find_place_spare(&self, alloc: Global) -> Result<Spare<usize>, NoMemory>
+    /// `NoMemory` if there is none.
+    pub fn preallocate_place(&self, alloc: Global) -> Result<Prealloc<usize>, NoMemory>
         ensures { IfOk result (IsSpareFor (length self.now)) }
     {
-        find_spare(alloc, self.list.len())
+        preallocate(alloc, self.list.len())
     }
 
-    /// Adds an entry with a new key behind the others, in memory found before.
-    pub fn push_into(&mut self, spare: Spare<E>, places: Spare<usize>, entry: E)
+    /// Adds an entry with a new key after the others, in memory allocated before.
+    pub fn push_into(&mut self, spare: Prealloc<E>, places: Prealloc<usize>, entry: E)
         requires absent { find E.order (E.view entry).0 (map E.view self.old) ≡ None }
         requires spare { IsSpareFor (length self.old) spare }
         requires places { IsSpareFor (length self.old) places }
@@ -120,7 +121,7 @@ impl<E: Entry> Entries<E> {
         push_into(&mut self.list, spare, entry);
     }
 
-    /// Puts an entry in the place of another. Its key stands in no other place.
+    /// Puts an entry in place of another. Its key is in no other place.
     pub fn set(&mut self, i: usize, entry: E)
         requires within { i < length self.old }
         requires alone { find E.order (E.view entry).0 (take i (map E.view self.old)
@@ -131,7 +132,7 @@ impl<E: Entry> Entries<E> {
         self.list[i] = entry;
     }
 
-    /// Takes out the entry at a place; the last one moves there.
+    /// Takes out the entry at a place and returns it; the last one moves there.
     pub fn swap_remove(&mut self, i: usize) -> E
         requires { i < length self.old }
         ensures value { result ≡ get_or self.old i result }

@@ -1,3 +1,4 @@
+//! Entries of directories.
 ghost use Rattle.std.specs.Prelude.{◌≡◌, ◌≤◌, ◌^◌, ℕ, List, IfOk, IfSome, IfNone, IsErrOf};
 ghost use Rattle.std.specs.declared.cmp.Ordering.{Ordering};
 ghost use Rattle.std.specs.Cmp.{IsTotalOrder};
@@ -8,50 +9,50 @@ ghost use Rattle.directory.specs.declared.entry.EntryFault.TheVariants.{Malforme
 use std::cmp::Ordering;
 use words36::Word;
 
-/// Why three words are no entry.
+/// Why three words aren't an entry.
 #[derive(Clone, Copy, Debug, PartialEq, Eq)]
 pub enum EntryFault {
     /// They aren't an entry's.
     Malformed,
-    /// They are an entry's that names a block past any disk, 2^32 or more.
+    /// They are those of an entry that names a block past any disk, 2^32 or more.
     Outside,
 }
 
-/// An entry of a directory: three words on the disk, one of them the number of a block. No key comes
+/// An entry of a directory: three words on the disk, one of them the number of a block. No key occurs
 /// twice in a directory.
-pub trait Entry: Copy {
+pub trait ChainEntry: Copy {
     /// What an entry is found by.
     type Key: Copy + Ord;
 
-    // What stands at a key.
+    // What is stored at a key.
     ghost Stored: { Type 0 };
 
     // The order of the keys.
     ghost order: { Self.Key → Self.Key → Ordering };
 
-    // The entry as a key and what stands there.
+    // The entry as a key and what is stored there.
     ghost view: { Self → Self.Key × Stored };
 
     // The words of an entry on the disk.
     ghost words_of: { Self.Key × Stored → List ℕ };
 
-    // The entry is as it should be.
+    // The entry is valid.
     ghost IsEntry: { Self.Key × Stored → Type 0 };
 
     // The block that an entry names.
     ghost target: { Self.Key × Stored → ℕ };
 
-    /// The three words on the disk.
+    /// Returns the three words on the disk.
     fn words(&self) -> [Word; 3]
         ensures value { result ≡ words_of (view self.now) }
         ensures good { IsEntry (view self.now) };
 
-    /// The entry that has these words.
+    /// Returns the entry that has these words.
     ///
     /// # Errors
     ///
-    /// `Malformed` where the words aren't those of an entry as it should be, `Outside` where they are and
-    /// the block that it names has a number of 2^32 or more.
+    /// `Malformed` if the words aren't those of a valid entry, `Outside` if they are and the block that it
+    /// names has a number of 2^32 or more.
     fn parse(words: [Word; 3]) -> Result<Self, EntryFault>
         ensures value { IfOk result (λ entry. words_of (view entry) ≡ words) }
         ensures good { IfOk result (λ entry. IsEntry (view entry)) }
@@ -59,19 +60,19 @@ pub trait Entry: Copy {
         ensures outside { IsErrOf result Outside → (e : Self.Key × Stored) × IsEntry e × (words_of e ≡ words)
             × (2 ^ 32 ≤ target e) };
 
-    /// The number of the block that the entry names.
+    /// Returns the number of the block that the entry names.
     fn target(&self) -> u32
         ensures { result ≡ target (view self.now) };
 
-    /// The key.
+    /// Returns the key.
     fn key(&self) -> Self::Key
         ensures { result ≡ (view self.now).0 };
 
-    /// How the entry's key compares with another.
+    /// Compares the entry's key with another.
     fn cmp_key(&self, key: &Self::Key) -> Ordering
         ensures { result ≡ order (view self.now).0 key.now };
 
-    // The keys compare by it.
+    // The keys compare in this order.
     ghost keyed: { (a b : Self.Key) → Self.Key.cmp a b ≡ order a b };
 
     // The order is total.
@@ -84,7 +85,7 @@ pub trait Entry: Copy {
     ghost apart: { TellsApart words_of };
 }
 
-/// The number of a block that a word is, or `None` for 2^32 or more.
+/// Returns the block number that a word is, or `None` for 2^32 or more.
 pub(crate) fn block_number(word: Word) -> Option<u32>
     ensures value { IfSome result (λ n. n ≡ word) }
     ensures none { IfNone result (2 ^ 32 ≤ word) }

@@ -1,3 +1,4 @@
+//! Why a chain isn't read or changed.
 ghost use Rattle.std.specs.Prelude.{◌≡◌};
 
 use blockdisk::NoMemory;
@@ -7,7 +8,7 @@ use thiserror::Error;
 /// Why a chain wasn't read or changed.
 #[derive(Clone, Copy, Debug, PartialEq, Eq, Error)]
 pub enum DirectoryError {
-    /// This block of the chain is damaged or not as it should be.
+    /// This block of the chain is damaged or invalid.
     #[error("bad directory block {0}")]
     BadDirectory(u32),
     /// This block was reached a second time while the chain was walked.

@@ -1,11 +1,12 @@
+//! The entries of a directory: files.
 ghost use Rattle.std.specs.Prelude.{◌≡◌, ◌<◌, ◌↔◌, IsSome, IfSome};
 
 use crate::entry::block_number;
-use crate::{Entry, EntryFault};
+use crate::{ChainEntry, EntryFault};
 use std::cmp::Ordering;
 use words36::{FileName, Half, Word};
 
-/// An entry of a directory: a file and where its prime retrieval block stands.
+/// An entry of a directory: a file and where its prime retrieval block is.
 #[derive(Clone, Copy, Debug, PartialEq, Eq)]
 pub struct FileEntry {
     /// The name, which isn't zero, and the extension.
@@ -16,7 +17,7 @@ pub struct FileEntry {
 }
 
 impl FileEntry {
-    /// The entry of a file, or `None` for a name of zero.
+    /// Returns the entry of a file, or `None` for a name of zero.
     pub fn new(name: FileName, prime: u32) -> Option<FileEntry>
         ensures name { IfSome result (λ entry. entry.name ≡ name) }
         ensures prime { IfSome result (λ entry. entry.prime ≡ prime) }
@@ -29,7 +30,7 @@ impl FileEntry {
     }
 }
 
-impl Entry for FileEntry {
+impl ChainEntry for FileEntry {
     ghost use Rattle.std.specs.Prelude.{ℕ, refl};
     ghost use Rattle.spec_image.specs.Common.{name_cmp};
     ghost use Rattle.spec_image.specs.Common.{file_words, IsFileEntry};

@@ -1,10 +1,11 @@
+//! The entries of a chain that is being read.
 ghost use Rattle.std.specs.Prelude.{◌≡◌, ◌++◌, ◌∷◌, [], IfOk, OnOk, OnErr, IsErrOf, None, map};
 ghost use Rattle.std.specs.FinMap.Entries.{find};
 ghost use Rattle.directory.specs.declared.gathered.GatherError.TheVariants.{Again};
 
-use crate::Entry;
+use crate::ChainEntry;
 use crate::entries::Entries;
-use crate::spare::{find_spare, push, push_into};
+use crate::prealloc::{preallocate, push, push_into};
 use blockdisk::NoMemory;
 use std::alloc::Global;
 use std::collections::BTreeMap;
@@ -29,16 +30,16 @@ impl From<NoMemory> for GatherError {
     }
 }
 
-/// The entries of a chain that is being read, in the order of the disk, and beside them the place of each key in a
-/// tree. So n entries take n log n steps, in whatever order their keys come: in a list of places by rising keys each
-/// would move half of those before it, and a chain can have a block for each block of the disk.
+/// The entries of a chain that is being read, in the order of the disk, and with them the place of each key in a
+/// tree. So n entries take n log n steps, in whatever order their keys come: in a list of places in ascending key order
+/// each would move half of those before it, and a chain can have a block for each block of the disk.
 #[derive(Drop)]
-pub(crate) struct Gathered<E: Entry> {
+pub(crate) struct Gathered<E: ChainEntry> {
     list: Vec<E>,
     places: BTreeMap<E::Key, usize>,
 }
 
-impl<E: Entry> Model for Gathered<E> {
+impl<E: ChainEntry> Model for Gathered<E> {
     ghost use Rattle.std.specs.Prelude.{List, map};
     ghost use Rattle.std.specs.Coded.{coded_list};
     ghost use Rattle.std.specs.Vec.{vec_len, vec_capacity};
@@ -55,8 +56,8 @@ impl<E: Entry> Model for Gathered<E> {
         × HasPlaces (vec_len g.list) (vec_capacity g.list) };
 }
 
-impl<E: Entry> Gathered<E> {
-    /// No entries.
+impl<E: ChainEntry> Gathered<E> {
+    /// Returns an empty list.
     pub(crate) fn new(alloc: Global) -> Self
         ensures { result ≡ [] }
     {
@@ -66,18 +67,18 @@ impl<E: Entry> Gathered<E> {
         }
     }
 
-    /// The entries as a slice.
+    /// Returns the entries as a slice.
     pub(crate) fn as_slice(&self) -> &[E]
         ensures { result.now ≡ self.now }
     {
         self.list.as_slice()
     }
 
-    /// Adds an entry behind the others.
+    /// Adds an entry after the others.
     ///
     /// # Errors
     ///
-    /// `Again` if its key is there already, `NoMemory` if there is none; nothing changes then.
+    /// `Again` if its key is there already, `NoMemory` if there is no memory; nothing changes then.
     pub(crate) fn push(&mut self, entry: E) -> Result<(), GatherError>
         ensures more { OnOk result (self.new ≡ self.old ++ entry ∷ []) }
         ensures absent { OnOk result (find E.order (E.view entry).0 (map E.view self.old) ≡ None) }
@@ -89,7 +90,7 @@ impl<E: Entry> Gathered<E> {
             return Err(GatherError::Again);
         }
         let place = self.list.len();
-        let spare = find_spare(*self.list.allocator(), place)?;
+        let spare = preallocate(*self.list.allocator(), place)?;
         match self.places.insert(key, place) {
             Ok(_) => {
                 push_into(&mut self.list, spare, entry);
@@ -99,11 +100,11 @@ impl<E: Entry> Gathered<E> {
         }
     }
 
-    /// The entries, found by their keys from now on.
+    /// Returns the entries, to be found by their keys after this.
     ///
     /// # Errors
     ///
-    /// `NoMemory` if there is none for the list of their places.
+    /// `NoMemory` if there is no memory for the list of their places.
     pub(crate) fn finish(self) -> Result<Entries<E>, NoMemory>
         ensures { IfOk result (λ entries. entries ≡ self) }
     {

@@ -1,7 +1,8 @@
+//! The words of a block of a chain.
 ghost use Rattle.std.specs.Prelude.{◌≡◌, ◌+◌, ◌*◌, ◌≤◌, ◌++◌, map, take, drop, length};
 ghost use Rattle.spec_image.specs.Common.{directory_block};
 
-use crate::Entry;
+use crate::ChainEntry;
 use spec_image::layout::{DIRECTORY_HEAD, ENTRY_WORDS};
 use words36::{BLOCK_WORDS, Block, Word};
 
@@ -14,8 +15,8 @@ fn put_words(block: &mut Block, at: usize, words: &[Word; 3])
     place[at..at + ENTRY_WORDS].copy_from_slice(words);
 }
 
-/// The block of a chain with these entries and this block after it, or 0.
-pub fn block_image<E: Entry>(entries: &[E], next: u32) -> Block
+/// Returns the block of a chain with these entries and the number of the block after it, or 0.
+pub fn block_image<E: ChainEntry>(entries: &[E], next: u32) -> Block
     requires { length entries.now ≤ 42 }
     ensures { result ≡ directory_block E.words_of next (map E.view entries.now) }
 {

@@ -1,14 +1,15 @@
+//! Numbers for the entries of a chain.
 ghost use Rattle.std.specs.Prelude.{◌≡◌, ◌<◌, ◌++◌, ◌∷◌, [], length, get_or, slice_set, swap_remove, IfOk, OnOk};
 ghost use Rattle.std.specs.Prelude.{OnErr};
 ghost use Rattle.directory.specs.Common.{IsSpareFor};
 
-use crate::spare::{Spare, find_spare, push, push_into};
+use crate::prealloc::{Prealloc, preallocate, push, push_into};
 use blockdisk::NoMemory;
 use std::alloc::Global;
 use std::marker::Model;
 
-/// A number for each entry of a chain, in their order: the key of what is kept of it elsewhere. It grows in memory
-/// found before, as the chain does.
+/// A number for each entry of a chain, in their order: the key of what is stored for it elsewhere. It grows in memory
+/// allocated before, as the chain does.
 #[derive(Drop)]
 pub struct Keys {
     list: Vec<usize>,
@@ -26,7 +27,7 @@ impl Model for Keys {
 }
 
 impl Keys {
-    /// No keys.
+    /// Returns a list of no keys.
     pub fn new(alloc: Global) -> Self
         ensures { result.items ≡ [] }
     {
@@ -35,14 +36,14 @@ impl Keys {
         }
     }
 
-    /// How many there are.
+    /// Returns how many there are.
     pub fn len(&self) -> usize
         ensures { result ≡ length self.now.items }
     {
         self.list.len()
     }
 
-    /// The key at a place, counted from 0.
+    /// Returns the key at a place, counted from 0.
     pub fn at(&self, i: usize) -> usize
         requires { i < length self.now.items }
         ensures { result ≡ get_or self.now.items i result }
@@ -50,30 +51,30 @@ impl Keys {
         self.list[i]
     }
 
-    /// Finds the memory that one key more takes.
+    /// Allocates the memory that one more key takes.
     ///
     /// # Errors
     ///
-    /// `NoMemory` where there is none.
-    pub fn find_spare(&self, alloc: Global) -> Result<Spare<usize>, NoMemory>
+    /// `NoMemory` if there is none.
+    pub fn preallocate(&self, alloc: Global) -> Result<Prealloc<usize>, NoMemory>
         ensures { IfOk result (IsSpareFor (length self.now.items)) }
     {
-        find_spare(alloc, self.list.len())
+        preallocate(alloc, self.list.len())
     }
 
-    /// Adds a key behind the others, in memory found before.
-    pub fn push_into(&mut self, spare: Spare<usize>, key: usize)
+    /// Adds a key after the others, in memory allocated before.
+    pub fn push_into(&mut self, spare: Prealloc<usize>, key: usize)
         requires { IsSpareFor (length self.old.items) spare }
         ensures { self.new.items ≡ self.old.items ++ key ∷ [] }
     {
         push_into(&mut self.list, spare, key);
     }
 
-    /// Adds a key behind the others.
+    /// Adds a key after the others.
     ///
     /// # Errors
     ///
-    /// `NoMemory` where there is none; nothing changes then.
+    /// `NoMemory` if there is no memory; nothing changes then.
     pub fn push(&mut self, key: usize) -> Result<(), NoMemory>
         ensures more { OnOk result (self.new.items ≡ self.old.items ++ key ∷ []) }
         ensures same { OnErr result (self.new.items ≡ self.old.items) }
@@ -81,7 +82,7 @@ impl Keys {
         push(&mut self.list, key)
     }
 
-    /// Puts a key in the place of another.
+    /// Puts a key in place of another.
     pub fn set(&mut self, i: usize, key: usize)
         requires { i < length self.old.items }
         ensures { self.new.items ≡ slice_set self.old.items i key }
@@ -89,7 +90,7 @@ impl Keys {
         self.list[i] = key;
     }
 
-    /// Takes out the key at a place; the last one moves there.
+    /// Takes out the key at a place and returns it; the last one moves there.
     pub fn swap_remove(&mut self, i: usize) -> usize
         requires { i < length self.old.items }
         ensures value { result ≡ get_or self.old.items i result }

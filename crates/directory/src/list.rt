@@ -1,16 +1,17 @@
+//! The sorted list of a directory.
 ghost use Rattle.std.specs.Prelude.{◌≡◌, IfOk, map};
 ghost use Rattle.spec_image.specs.Common.{entries, from_entries};
 
-use crate::{Chain, Entry};
+use crate::{Chain, ChainEntry};
 use blockdisk::NoMemory;
 use std::alloc::Global;
 
-impl<E: Entry> Chain<E> {
-    /// The entries by rising keys.
+impl<E: ChainEntry> Chain<E> {
+    /// Returns the entries in ascending key order.
     ///
     /// # Errors
     ///
-    /// `NoMemory` where the list finds no memory.
+    /// `NoMemory` if there is no memory for the list.
     pub fn list_sorted(&self, alloc: Global) -> Result<Vec<E>, NoMemory>
         ensures { IfOk result (λ list. map E.view list.items
             ≡ entries (from_entries {R = E.order} (map E.view self.now.entries))) }

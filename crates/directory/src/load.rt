@@ -1,3 +1,4 @@
+//! A chain, read from the disk.
 ghost use Rattle.std.specs.Prelude.{◌≡◌, ◌<◌, ◌≤◌, ◌↔◌, ◌⊎◌, ◌++◌, ◌∷◌, [], ℕ, List, IsTrue, true, false, Some, None};
 ghost use Rattle.std.specs.Prelude.{IfOk, OnOk, IsErrOf, length, map, slice_set};
 ghost use Rattle.std.specs.List.{AllByRecursion};
@@ -14,8 +15,8 @@ ghost use Rattle.directory.specs.declared.load.AddError.TheVariants.{Outside, Ag
 
 use crate::gathered::{GatherError, Gathered};
 use crate::parse::{entry_words, is_directory_block};
-use crate::spare::push;
-use crate::{Chain, DirectoryError, Entry};
+use crate::prealloc::push;
+use crate::{Chain, ChainEntry, DirectoryError};
 use alloctab::Reached;
 use blockdisk::{Disk, Fault};
 use spec_image::layout::{BLOCK_ENTRIES, follow, is_in_space};
@@ -34,7 +35,7 @@ enum AddError {
 }
 
 /// Adds the entry that has these words.
-fn push_entry<E: Entry>(
+fn push_entry<E: ChainEntry>(
     words: [Word; 3],
     size: u32,
     entries: &mut Gathered<E>,
@@ -62,8 +63,8 @@ fn push_entry<E: Entry>(
     }
 }
 
-/// Adds the entries of a block, so many.
-fn push_entries<E: Entry>(
+/// Adds the `count` entries of a block.
+fn push_entries<E: ChainEntry>(
     block: &Block,
     count: usize,
     size: u32,
@@ -89,8 +90,8 @@ fn push_entries<E: Entry>(
     Ok(())
 }
 
-/// Adds the entries of block `n`; gives the next block of the chain, or 0.
-fn add_block<E: Entry>(
+/// Adds the entries of block `n`; returns the next block of the chain, or 0.
+fn add_block<E: ChainEntry>(
     block: &Block,
     n: u32,
     size: u32,
@@ -146,9 +147,9 @@ fn read_block<D: Disk>(disk: &mut D, n: u32) -> Result<Block, DirectoryError>
     }
 }
 
-/// Goes on to block `n` of a chain: marks it, reads it, and adds it and its entries to those before. Gives
+/// Continues with block `n` of a chain: marks it, reads it, and adds it and its entries to those before. Returns
 /// the next block, or 0.
-fn read_on<E: Entry, D: Disk>(
+fn read_on<E: ChainEntry, D: Disk>(
     disk: &mut D,
     n: u32,
     size: u32,
@@ -156,7 +157,7 @@ fn read_on<E: Entry, D: Disk>(
     blocks: &mut Vec<u32>,
     entries: &mut Gathered<E>,
 ) -> Result<u32, DirectoryError>
-    // What the caller sees to.
+    // What the caller ensures.
     requires size { size ≡ (D.state disk.old).size }
     requires volume { IsVolumeSize size }
     requires inside { n < size }
@@ -170,7 +171,7 @@ fn read_on<E: Entry, D: Disk>(
     ensures places { HasPlaces (vec_len blocks.new) (vec_capacity blocks.new) }
     ensures fresh { IfOk result (λ next. flag_at reached.old n ≡ false) }
     ensures marked { reached.new ≡ slice_set reached.old n true }
-    // Which refusal comes when.
+    // When it refuses.
     ensures bad { (D.state disk.new).honest → (k : ℕ) → IsErrOf result (BadDirectory k)
         → (k ≡ n) × IsBadAt E.order E.words_of E.IsEntry E.target size (D.state disk.old).contents n
         (map E.view entries.old) }
@@ -192,7 +193,7 @@ fn read_on<E: Entry, D: Disk>(
     }
 }
 
-impl<E: Entry> Chain<E> {
+impl<E: ChainEntry> Chain<E> {
     ghost use Rattle.std.specs.Prelude.{◌+◌};
     ghost use Rattle.blockdisk.specs.Common.{SameDisk};
     ghost use Rattle.spec_image.specs.Common.{head_or_zero};
@@ -204,21 +205,21 @@ impl<E: Entry> Chain<E> {
     ghost use Rattle.directory.specs.Common.{IsBadChain, IsTwiceInChain, IsWholeChain};
 
     /// Reads the chain that begins in block `first`, and marks its blocks. A block that is marked already,
-    /// by this call or before it, ends the walk before it is read: so a loop does.
+    /// by this call or before it, ends the walk before it is read: a loop ends it this way.
     ///
     /// # Errors
     ///
-    /// `BadDirectory` with a block that is damaged or not as it should be, `BlockTwice` with a block that
-    /// was marked already: a block of the free space, since a number outside is never read, and the block that
-    /// names it is refused; `Device` where the device failed; `NoMemory` where the lists of blocks and
-    /// entries find no room. The blocks that were come to stay marked.
+    /// `BadDirectory` with a block that is damaged or invalid, `BlockTwice` with a block that was marked already: a
+    /// block of the free space, since a number outside is never read, and the block that names it is refused;
+    /// `Device` if the device failed; `NoMemory` if there is no memory for the lists of blocks and entries. The
+    /// blocks that were reached stay marked.
     pub fn load<D: Disk>(
         alloc: Global,
         disk: &mut D,
         first: u32,
         reached: &mut Reached,
     ) -> Result<Self, DirectoryError>
-        // What the caller sees to.
+        // What the caller ensures.
         requires volume { IsVolumeSize (D.state disk.old).size }
         requires first { InSpace (D.state disk.old).size first }
         requires marks { length reached.old ≡ (D.state disk.old).size }
@@ -237,7 +238,7 @@ impl<E: Entry> Chain<E> {
         ensures marked { IfOk result (λ chain. (n : ℕ)
             → digit_at reached.new n ≡ digit_at reached.old n + times n chain.blocks) }
         ensures length { length reached.new ≡ length reached.old }
-        // Which refusal comes when.
+        // When it refuses.
         ensures bad { (D.state disk.new).honest → (k : ℕ) → IsErrOf result (BadDirectory k)
             → IsBadChain E.order E.words_of E.IsEntry E.target (D.state disk.old).size
             (D.state disk.old).contents first k }
@@ -252,7 +253,7 @@ impl<E: Entry> Chain<E> {
             (D.state disk.old).contents reached.old first nodes
             → (k : ℕ) → IsErrOf result (BlockTwice k) → ⊥ }
 
-        // Whatever the disk answers, a block that is named lies in the free space.
+        // Whatever the disk returns, a block that is named lies in the free space.
         ensures named { (k : ℕ) → IsErrOf result (BadDirectory k) ⊎ IsErrOf result (BlockTwice k)
             → InSpace (D.state disk.old).size k }
         // The device: what failed, and how often.

@@ -1,7 +1,8 @@
+//! The entries of the master directory: directories.
 ghost use Rattle.std.specs.Prelude.{◌≡◌, ◌<◌, ◌↔◌, IsSome, IfSome};
 
 use crate::entry::block_number;
-use crate::{Entry, EntryFault};
+use crate::{ChainEntry, EntryFault};
 use std::cmp::Ordering;
 use words36::{Ppn, Word};
 
@@ -24,7 +25,7 @@ pub struct MasterEntry {
 const LAST_QUOTA: u32 = 262_143;
 
 impl MasterEntry {
-    /// Gives the entry of a directory, or `None` for a protection above 777 (octal) or a quota above 262143.
+    /// Returns the entry of a directory, or `None` for a protection above 777 (octal) or a quota above 262143.
     pub fn new(ppn: Ppn, protection: u16, quota: u32, first: u32) -> Option<MasterEntry>
         ensures ppn { IfSome result (λ entry. entry.ppn ≡ ppn) }
         ensures protection { IfSome result (λ entry. entry.protection ≡ protection) }
@@ -47,7 +48,7 @@ impl MasterEntry {
     }
 }
 
-impl Entry for MasterEntry {
+impl ChainEntry for MasterEntry {
     ghost use Rattle.std.specs.Prelude.{ℕ, refl};
     ghost use Rattle.std.specs.Ordering.{nat_cmp};
     ghost use Rattle.std.specs.Cmp.{nat_cmp_total};
@@ -81,7 +82,7 @@ impl Entry for MasterEntry {
         let Some(ppn) = Ppn::from_word(ppn) else {
             return Err(EntryFault::Malformed);
         };
-        // Bits 9 to 17 stand between the protection and the quota, and are zero.
+        // Bits 9 to 17 are between the protection and the quota, and are zero.
         let left = word.left().bits();
         if left % 512 != 0 {
             return Err(EntryFault::Malformed);

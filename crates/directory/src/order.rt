@@ -1,3 +1,4 @@
+//! The places of entries in ascending key order.
 ghost use Rattle.std.specs.Prelude.{◌≡◌, ◌<◌, ◌≤◌, ◌++◌, ◌∷◌, [], ℕ, suc, IfOk, IfErr, length, map, slice_get, take};
 ghost use Rattle.std.specs.Prelude.{drop, swap_remove, slice_set, Some, None, IfSome, IfNone};
 ghost use Rattle.std.specs.Vec.{vec_len, vec_capacity};
@@ -6,11 +7,16 @@ ghost use Rattle.spec_image.specs.Common.{times};
 ghost use Rattle.directory.specs.Common.{StandsAt, order_to, HasKeyAt, AreRising, IsGap, IsInserted, IsIndex, IsLeft};
 ghost use Rattle.directory.specs.Common.{HasPlaces};
 
-use crate::Entry;
+use crate::ChainEntry;
 use std::cmp::Ordering;
 
-/// Where the place of the entry with this key stands in an order of places by rising keys, or where it would.
-pub(crate) fn search<E: Entry>(order: &[usize], list: &[E], key: &E::Key) -> Result<usize, usize>
+/// Returns where the place of the entry with this key is in a list of places in ascending key order, or where it would
+/// be.
+pub(crate) fn search<E: ChainEntry>(
+    order: &[usize],
+    list: &[E],
+    key: &E::Key,
+) -> Result<usize, usize>
     requires { AreRising E.order (map E.view list.now) order.now }
     ensures found { IfOk result (λ at. (p : ℕ) × (slice_get order.now at ≡ Some p)
         × HasKeyAt E.order (map E.view list.now) key.now p) }
@@ -28,8 +34,8 @@ pub(crate) fn search<E: Entry>(order: &[usize], list: &[E], key: &E::Key) -> Res
     )
 }
 
-/// The place of the entry with this key, or `None` where there is none.
-pub(crate) fn find_place<E: Entry>(order: &[usize], list: &[E], key: &E::Key) -> Option<usize>
+/// Returns the place of the entry with this key, or `None` if there is none.
+pub(crate) fn find_place<E: ChainEntry>(order: &[usize], list: &[E], key: &E::Key) -> Option<usize>
     requires { IsIndex E.order (map E.view list.now) order.now }
     ensures found { IfSome result (λ p. (v : E.Stored) × StandsAt E.order (map E.view list.now) key.now v p) }
     ensures none { IfNone result (find E.order key.now (map E.view list.now) ≡ None) }
@@ -41,7 +47,7 @@ pub(crate) fn find_place<E: Entry>(order: &[usize], list: &[E], key: &E::Key) ->
 }
 
 /// Takes a place out of the order.
-fn leave<E: Entry>(order: &mut Vec<usize>, list: &[E], place: usize)
+fn leave<E: ChainEntry>(order: &mut Vec<usize>, list: &[E], place: usize)
     requires rising { AreRising E.order (map E.view list.now) order.old.items }
     requires there { 0 < times place order.old.items }
     requires places { HasPlaces (vec_len order.old) (vec_capacity order.old) }
@@ -53,12 +59,12 @@ fn leave<E: Entry>(order: &mut Vec<usize>, list: &[E], place: usize)
         Ok(at) => {
             order.remove(at);
         }
-        Err(_) => unreachable!(), // the place stands there
+        Err(_) => unreachable!(), // the place is there
     }
 }
 
 /// Puts a place into the order, where this key belongs. The order has room for it.
-pub(crate) fn enter<E: Entry>(order: &mut Vec<usize>, list: &[E], key: &E::Key, place: usize)
+pub(crate) fn enter<E: ChainEntry>(order: &mut Vec<usize>, list: &[E], key: &E::Key, place: usize)
     requires rising { AreRising E.order (map E.view list.now) order.old.items }
     requires absent { (p : ℕ) → 0 < times p order.old.items → HasKeyAt E.order (map E.view list.now) key.now p → ⊥ }
     requires places { HasPlaces (suc (vec_len order.old)) (vec_capacity order.old) }
@@ -74,8 +80,13 @@ pub(crate) fn enter<E: Entry>(order: &mut Vec<usize>, list: &[E], key: &E::Key, 
     }
 }
 
-/// Brings the order in step with a list whose entry at a place becomes one with this key, which stands nowhere else.
-pub(crate) fn rename_place<E: Entry>(order: &mut Vec<usize>, list: &[E], place: usize, entry: &E)
+/// Updates the order for a list whose entry at a place becomes one with this key, which is nowhere else.
+pub(crate) fn rename_place<E: ChainEntry>(
+    order: &mut Vec<usize>,
+    list: &[E],
+    place: usize,
+    entry: &E,
+)
     requires within { place < length list.now }
     requires alone { find E.order (E.view entry.now).0 (take place (map E.view list.now)
         ++ drop (suc place) (map E.view list.now)) ≡ None }
@@ -88,8 +99,8 @@ pub(crate) fn rename_place<E: Entry>(order: &mut Vec<usize>, list: &[E], place: 
     enter(order, list, &entry.key(), place);
 }
 
-/// Brings the order in step with a list whose last entry moves to a place whose entry is taken out.
-pub(crate) fn take_place<E: Entry>(order: &mut Vec<usize>, list: &[E], place: usize)
+/// Updates the order for a list whose last entry moves to a place whose entry is taken out.
+pub(crate) fn take_place<E: ChainEntry>(order: &mut Vec<usize>, list: &[E], place: usize)
     requires within { place < length list.now }
     requires index { IsIndex E.order (map E.view list.now) order.old.items }
     requires places { HasPlaces (vec_len order.old) (vec_capacity order.old) }

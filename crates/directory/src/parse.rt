@@ -1,11 +1,12 @@
+//! The test for the words of a directory block.
 ghost use Rattle.std.specs.Prelude.{◌≡◌, ◌+◌, ◌*◌, ◌<◌, ◌≤◌, ◌↔◌, ℕ, List, IsTrue, length, take, drop};
 ghost use Rattle.directory.specs.Common.{SpellsBlock, SpellsEntries};
 
-use crate::{Entry, EntryFault};
+use crate::{ChainEntry, EntryFault};
 use spec_image::layout::{BLOCK_ENTRIES, DIRECTORY_HEAD, ENTRY_WORDS, are_zeros};
 use words36::{Block, Word};
 
-/// The words of the entry at a place of a block, counted from 0.
+/// Returns the words of the entry at a place of a block, counted from 0.
 pub fn entry_words(block: &Block, i: usize) -> [Word; 3]
     requires { i < 42 }
     ensures { result ≡ take 3 (drop (2 + 3 * i) block.now) }
@@ -14,8 +15,8 @@ pub fn entry_words(block: &Block, i: usize) -> [Word; 3]
     [block[at], block[at + 1], block[at + 2]]
 }
 
-/// Whether three words are those of an entry, whatever block it names.
-fn is_entry<E: Entry>(words: [Word; 3]) -> bool
+/// Returns whether three words are those of an entry, whatever block it names.
+fn is_entry<E: ChainEntry>(words: [Word; 3]) -> bool
     ensures yes { IsTrue result → (e : E.Key × E.Stored) × E.IsEntry e × (E.words_of e ≡ words) }
     ensures no { (e : E.Key × E.Stored) → E.IsEntry e → E.words_of e ≡ words → IsTrue result }
 {
@@ -26,8 +27,8 @@ fn is_entry<E: Entry>(words: [Word; 3]) -> bool
     }
 }
 
-/// Whether a block has so many entries.
-fn are_entries<E: Entry>(block: &Block, count: usize) -> bool
+/// Returns whether a block has `count` entries.
+fn are_entries<E: ChainEntry>(block: &Block, count: usize) -> bool
     requires { count ≤ 42 }
     ensures yes { IsTrue result → (es : List (E.Key × E.Stored)) × (length es ≡ count)
         × SpellsEntries E.words_of E.IsEntry (take (3 * count) (drop 2 block.now)) es }
@@ -42,8 +43,8 @@ fn are_entries<E: Entry>(block: &Block, count: usize) -> bool
     true
 }
 
-/// Whether the words of a block are those of a directory block.
-pub fn is_directory_block<E: Entry>(block: &Block) -> bool
+/// Returns whether the words of a block are those of a directory block.
+pub fn is_directory_block<E: ChainEntry>(block: &Block) -> bool
     ensures yes { IsTrue result → (next : ℕ) × (es : List (E.Key × E.Stored))
         × SpellsBlock E.words_of E.IsEntry block.now next es }
     ensures no { (next : ℕ) (es : List (E.Key × E.Stored)) → SpellsBlock E.words_of E.IsEntry block.now next es

@@ -1,8 +1,8 @@
 pub mod ListLaws
-pub mod TakingLaws
-pub mod TellingLaws
-pub mod PuttingLaws
-pub mod ObeyingLaws
+pub mod TurnSteps
+pub mod ReplyLaws
+pub mod PutLaws
+pub mod OrderLaws
 pub mod TurnLaws
 pub mod StreamLaws
 pub mod ServeLaws

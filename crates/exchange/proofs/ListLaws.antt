@@ -31,7 +31,7 @@ range_split a (suc n) m =
 pub range_more : (a n place : ℕ) → place ≡ a + n → range_with_len a (n + 1) ≡ range_with_len a n ++ place ∷ []
 range_more a n place is = range_split a n 1 ∙ ap (λ k. range_with_len a n ++ k ∷ []) (sym is)
 
--- those before one, that one, and those behind it
+-- those before one, that one, and those after it
 pub range_around : (a n count place : ℕ) → n < count → place ≡ a + n
     → range_with_len a count ≡ range_with_len a n ++ place ∷ [] ++ range_with_len (a + (n + 1)) (count - n - 1)
 range_around a n count place h is =

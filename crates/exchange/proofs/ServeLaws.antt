@@ -13,11 +13,11 @@ use Rattle.wire.specs.Frames.{IsPart, IsTooLong}
 use Rattle.exchange.specs.Exchanges.{Takes, Counts, StepsOn, BreaksOff, HasTaken, HasClosed, Exchange, IsNotWhole}
 use Rattle.exchange.specs.Exchanges.{IsRest, Ends, IsBreak, closing}
 use Rattle.exchange.specs.Turns.{Turn, answers_of, orders_of}
-use Rattle.exchange.specs.declared.serving.Waiting.{Waiting}
+use Rattle.exchange.specs.declared.wire_session.Waiting.{Waiting}
 use Rattle.exchange.proofs.StreamLaws.{answers_on, orders_on}
-use Rattle.exchange.proofs.TakingLaws.{takes_on, takes_none, counts_on, counts_none}
+use Rattle.exchange.proofs.TurnSteps.{takes_on, takes_none, counts_on, counts_none}
 
--- how far it is with its reader, its writer and its service
+-- the progress of an exchange, with its reader, its writer and its service
 pub record InStream {S : Type 0} (source left sink full : Option (List ℕ)) (machine : S → Machine) (old now : S)
     (waiting : Waiting) : Type 0 where
   pub read : List ℕ
@@ -31,7 +31,7 @@ pub record InStream {S : Type 0} (source left sink full : Option (List ℕ)) (ma
   pub counts : Counts fresh waiting.tally turns
   pub waits : waiting.answers.items ≡ []
 
--- what is taken from a list of turns and a rest, and bytes after these
+-- the bytes of a list of turns and a rest, and more bytes after these
 joined : (read turns held piece front after : List ℕ) → read ≡ turns ++ held → held ++ piece ≡ front ++ after
     → read ++ piece ≡ (turns ++ front) ++ after
 joined read turns held piece front after p q = ap (λ l. l ++ piece) p ∙ append_assoc turns held piece
@@ -208,7 +208,7 @@ module _ {S : Type 0} (machine : S → Machine) where
     cause = (refl, omega (arith, some, length-append held piece));
   }
 
-  -- what was whole of bytes that were read is answered, and the rest is held
+  -- the whole records of the bytes that were read are answered, and the rest waits
   pub piece_taken : (a b : S) (sink full : Option (List ℕ)) (before after : Waiting) (piece all : List ℕ) (place : ℕ)
       → before.held.items ++ piece ≡ all → before.answers.items ≡ []
       → StepsOn machine a b sink full before.answers.items [] before.tally after.tally (take place all)

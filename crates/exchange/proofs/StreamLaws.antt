@@ -18,8 +18,8 @@ use Rattle.wire.specs.declared.header.Header.{Header}
 use Rattle.wire.specs.Records.{FitsRecord, record_bytes}
 use Rattle.exchange.specs.Exchanges.{HasTurned, StepsOn, BreaksOff, IsBreak, IsFlushed, IsGivenUp, IsNotWhole}
 use Rattle.exchange.specs.Turns.{Turn, answer_of, answers_of, orders_of}
-use Rattle.exchange.proofs.TakingLaws.{takes_on, takes_none, counts_on, counts_none}
-use Rattle.commands.proofs.WaitingLaws.{longer}
+use Rattle.exchange.proofs.TurnSteps.{takes_on, takes_none, counts_on, counts_none}
+use Rattle.commands.proofs.OutputLaws.{longer}
 
 -- Lists.
 
@@ -29,13 +29,13 @@ answers_on turns more = flat_map-append (λ (t : Turn). answer_of t.answer t.gro
 pub orders_on : (turns more : List Turn) → orders_of (turns ++ more) ≡ orders_of turns ++ orders_of more
 orders_on turns more = flat_map-append (λ (t : Turn). frame_bytes t.frame) turns more
 
--- what waited is written first
+-- the waiting answers are written first
 chain : (before one two w mid v after : List ℕ) → before ++ one ≡ w ++ mid → mid ++ two ≡ v ++ after
     → before ++ (one ++ two) ≡ (w ++ v) ++ after
 chain before one two w mid v after p q = sym (append_assoc before one two) ∙ ap (λ l. l ++ two) p
     ∙ append_assoc w mid two ∙ ap (λ l. w ++ l) q ∙ sym (append_assoc w v after)
 
--- the front grows by what the rest begins with
+-- the front grows by the beginning of the rest
 pub front_grows : (place n : ℕ) (xs front more : List ℕ) → drop place xs ≡ front ++ more → length front ≡ n
     → take (place + n) xs ≡ take place xs ++ front
 front_grows place n xs front more is size = take-add place n xs ∙ ap (λ l. take place xs ++ l) (ap (take n) is
@@ -85,7 +85,7 @@ module _ {S : Type 0} (machine : S → Machine) where
     cause = cause_on error q.unwritten q.rest rest q.cause;
   }
 
-  -- what waits is written
+  -- the waiting answers are written
   pub steps_written : (a b : S) (sink full over : Option (List ℕ)) (before mid after : List ℕ) (first then : Tally)
       (bytes : List ℕ) → StepsOn machine a b sink full before mid first then bytes
       → (written : List ℕ) → Appends full over written → mid ≡ written ++ after
@@ -131,7 +131,7 @@ module _ {S : Type 0} (machine : S → Machine) where
       counts = counts_none tally;
     }
 
-    -- nothing was done, and what waits was written or not
+    -- nothing was done, and the waiting answers were written or not
     pub breaks_here : (a : S) (sink full : Option (List ℕ)) (before : List ℕ) (error : SessionError) (bytes : List ℕ)
         → 0 < length bytes → IsGivenUp sink full before error → BreaksOff machine a a sink full before error bytes
     breaks_here a sink full before error bytes some up = record {
@@ -182,7 +182,7 @@ frame_some frame = omega arith
 pub frame_size : (frame : Framed) → length (frame_bytes frame) ≡ 16 + length frame.body
 frame_size frame = omega arith
 
--- a whole record that the rest begins with
+-- a whole record at the beginning of the rest
 pub within_grows : (place : ℕ) (xs more : List ℕ) (frame : Framed) → place ≤ length xs
     → drop place xs ≡ frame_bytes frame ++ more → place + (16 + length frame.body) ≤ length xs
 within_grows place xs more frame within is =

@@ -1,4 +1,4 @@
--- A turn, from what was done for it and what is counted of it.
+-- A turn, from its acts and its tally.
 use Rattle.std.proofs.Common.{◌≡◌, ◌||◌, ℕ, List, [], ◌∷◌, ◌++◌, length, true, refl, sym, ap, subst, ◌∙◌}
 use Rattle.std.proofs.Common.{append_assoc, append-nil, Some, None}
 use Rattle.spec_machine.specs.Common.{State, Service, Serving, Broken}
@@ -6,7 +6,7 @@ use Rattle.spec_language.specs.Common.{Act}
 use Rattle.spec_machine.specs.declared.area.Area.{Area}
 use Rattle.commands.specs.Common.{Machine, AlwaysStands, GoesBy}
 use Rattle.commands.specs.declared.answer.Tally.{Tally}
-use Rattle.commands.proofs.GoingLaws.{acts_went, goes_nowhere}
+use Rattle.commands.proofs.ActLaws.{acts_went, goes_nowhere}
 use Rattle.wire.specs.Frames.{Framed, IsFrame}
 use Rattle.words36.specs.Common.{block_bytes}
 use Rattle.wire.specs.Records.{IsOrder, record_bytes, answer_record}
@@ -14,11 +14,11 @@ use Rattle.wire.specs.declared.answer.Answer.{Answer}
 use Rattle.wire.specs.declared.answer.Answer.TheVariants.{Wrong}
 use Rattle.wire.specs.declared.order.Order.{Order}
 use Rattle.exchange.specs.Turns.{Turn, IsTurn, Tells, TellsOf, answer_of, is_wrong, is_fault}
-use Rattle.exchange.specs.Exchanges.{Takes, Counts, HasObeyed, HasTurned}
+use Rattle.exchange.specs.Exchanges.{Takes, Counts, ServesOrder, HasTurned}
 use Rattle.commands.proofs.AnswerLaws.{or-true}
 use Rattle.commands.proofs.TranscriptLaws.{or-false}
 
--- what is counted of one turn
+-- the tally of one turn
 pub counts_one : (tally counted : Tally) (t : Turn) → counted.refused ≡ tally.refused || is_wrong t.answer
     → counted.broke ≡ tally.broke || is_fault t.answer → counted.reason ≡ tally.reason
     → Counts tally counted (t ∷ [])
@@ -56,10 +56,10 @@ module _ {S : Type 0} (machine : S → Machine) where
   tells_served a t told honest (Serving s) serves = told honest s serves
   tells_served a t told honest Broken serves = tt
 
-  -- an order that was obeyed
+  -- an order that was served
   pub turned : (a b : S) (frame : Framed) (order : Order) (words : List ℕ) (areas : List Area) (answer : Answer)
       (groups before after : List ℕ) (tally counted : Tally) → IsFrame frame
-      → IsOrder frame.header frame.body order words → HasObeyed machine a b frame order words areas answer groups
+      → IsOrder frame.header frame.body order words → ServesOrder machine a b frame order words areas answer groups
       → after ≡ before ++ answer_of answer groups → counted.refused ≡ tally.refused || is_wrong answer
       → counted.broke ≡ tally.broke || is_fault answer → counted.reason ≡ tally.reason
       → HasTurned machine a b frame before after tally counted
@@ -76,7 +76,7 @@ module _ {S : Type 0} (machine : S → Machine) where
         counts = counts_one tally counted t refused broke reason;
       }
 
-  -- a record that spells none
+  -- a record that spells no order
   pub turned_down : AlwaysStands machine → (a : S) (frame : Framed) (before after : List ℕ) (tally counted : Tally)
       → IsFrame frame → ((order : Order) (words : List ℕ) → IsOrder frame.header frame.body order words → ⊥)
       → after ≡ before ++ answer_of Wrong [] → counted.refused ≡ true → counted.broke ≡ tally.broke

@@ -21,7 +21,7 @@ use Rattle.wire.specs.declared.answer.Answer.{Answer}
 use Rattle.wire.specs.declared.answer.Answer.TheVariants.{Wrong}
 use Rattle.wire.specs.declared.order.Order.{Order}
 use Rattle.wire.specs.declared.order.Order.TheVariants.{Login, Deposit, Examine, Call as Calls, Room}
-use Rattle.exchange.specs.declared.serving.Waiting.{Waiting}
+use Rattle.exchange.specs.declared.wire_session.Waiting.{Waiting}
 use Rattle.exchange.specs.Turns.{Turn, IsTurn, IsObeyed, TellsOf, TellBy, AreRead, AreWritten, acts_of, orders_of}
 use Rattle.exchange.specs.Turns.{answers_of, answer_of, group, is_wrong, is_fault}
 
@@ -33,7 +33,7 @@ pub record Takes {S : Type 0} (machine : S → Machine) (old new : S) (turns : L
       → (last : Service) × (machine new).serves last × TellBy (machine old).pack first turns last
       × KeepsPack (machine old) (machine new) last
 
--- what is counted of turns: whether one was wrong, and whether one met a fault of the disk, or came after one
+-- the tally of turns: whether one was wrong, and whether one met a fault of the disk, or came after one
 pub record Counts (tally counted : Tally) (turns : List Turn) : Type 0 where
   pub refused : counted.refused ≡ tally.refused || list_any (λ t. is_wrong t.answer) turns
   pub broke : counted.broke ≡ tally.broke || list_any (λ t. is_fault t.answer) turns
@@ -41,7 +41,7 @@ pub record Counts (tally counted : Tally) (turns : List Turn) : Type 0 where
 
 -- One order.
 
--- Words of a job's core were read, and told after those before.
+-- Words of a job's core were read, and reported after those before.
 pub record HasRead {S : Type 0} (machine : S → Machine) (old new : S) (job : ℕ) (places : List ℕ)
     (before after : List ℕ) (reply : Reply) : Type 0 where
   pub told : List (ℕ × ℕ)
@@ -50,7 +50,7 @@ pub record HasRead {S : Type 0} (machine : S → Machine) (old new : S) (job : �
   pub read : AreRead job places told acts reply
   pub groups : after ≡ before ++ map group told
 
--- A word was put into a job's core, which was done if there is no answer.
+-- A word was put into a job's core; this was done if no reply is returned.
 pub record HasPut {S : Type 0} (machine : S → Machine) (old new : S) (job address word : ℕ)
     (answer : Option Reply) : Type 0 where
   pub goes : GoesBy machine old new (Asks (Deposits job address word) (unwrap_or answer Done) ∷ [])
@@ -63,11 +63,11 @@ pub record HasWritten {S : Type 0} (machine : S → Machine) (old new : S) (job 
   pub goes : GoesBy machine old new acts
   pub written : AreWritten job first words acts reply
 
--- an area that lies below address 2^18
+-- an area below address 2^18
 abbrev pub IsLow : Area → Type 0
 IsLow area = area.first + area.count ≤ most_words
 
--- The areas that the answer to an order tells: of a call those that it may change, by the state before it.
+-- The areas that the answer to an order reports: for a call those that it may change, by the state before it.
 abbrev pub AreTold : Machine → Order → List Area → Type 0
 AreTold machine (Login job ppn core) areas = areas ≡ []
 AreTold machine (Deposit job first count) areas = areas ≡ []
@@ -76,8 +76,8 @@ AreTold machine (Calls job call moment) areas =
     (s : State) → machine.serves (Serving s) → areas ≡ areas_for (job_at s job) call
 AreTold machine Room areas = areas ≡ []
 
--- An order was obeyed, and these are its answer and the groups after it.
-pub record HasObeyed {S : Type 0} (machine : S → Machine) (old new : S) (frame : Framed) (order : Order)
+-- An order was served, and these are its answer and the groups after it.
+pub record ServesOrder {S : Type 0} (machine : S → Machine) (old new : S) (frame : Framed) (order : Order)
     (words : List ℕ) (areas : List Area) (answer : Answer) (groups : List ℕ) : Type 0 where
   pub acts : List Act
   pub goes : GoesBy machine old new acts
@@ -98,7 +98,7 @@ pub record HasTurned {S : Type 0} (machine : S → Machine) (old new : S) (frame
 
 -- Bytes of the input.
 
--- These bytes were answered, of which `before` waited to be written then, and `after` waits now.
+-- These bytes were answered: `before` waited to be written at first, and `after` waits now.
 pub record StepsOn {S : Type 0} (machine : S → Machine) (old new : S) (sink full : Option (List ℕ))
     (before after : List ℕ) (tally counted : Tally) (bytes : List ℕ) : Type 0 where
   pub turns : List Turn
@@ -109,13 +109,13 @@ pub record StepsOn {S : Type 0} (machine : S → Machine) (old new : S) (sink fu
   pub answers : before ++ answers_of turns ≡ written ++ after
   pub counts : Counts tally counted turns
 
--- What is left unwritten, and unread, when an exchange breaks off.
+-- What remains unwritten, and unread, when an exchange breaks off.
 abbrev pub IsBreak : SessionError → List ℕ → List ℕ → Type 0
 IsBreak Read unwritten rest = ⊥
 IsBreak Write unwritten rest = 0 < length unwritten
 IsBreak NoMemory unwritten rest = (unwritten ≡ []) × (0 < length rest)
 
--- Of the answers that waited these are left to be written; if the writer failed, it holds a beginning of them.
+-- Of the waiting answers these remain unwritten; if the writer failed, it has a beginning of them.
 abbrev pub IsFlushed : Option (List ℕ) → Option (List ℕ) → List ℕ → List ℕ → Result (Unit {0}) SessionError → Type 0
 IsFlushed sink full before after (Ok unit) =
     (written : List ℕ) × Appends sink full written × (before ≡ written ++ after)
@@ -123,7 +123,7 @@ IsFlushed sink full before after (Err error) =
     (error ≡ Write) × (written : List ℕ) × (unwritten : List ℕ) × Appends sink full written
     × (before ≡ written ++ unwritten) × (0 < length unwritten)
 
--- The answers that waited were written, and there is no memory for more; or the writer failed.
+-- The waiting answers were written, and there is no memory for more; or the writer failed.
 abbrev pub IsGivenUp : Option (List ℕ) → Option (List ℕ) → List ℕ → SessionError → Type 0
 IsGivenUp sink full before error =
     (written : List ℕ) × (unwritten : List ℕ) × Appends sink full written × (before ≡ written ++ unwritten)
@@ -146,7 +146,7 @@ pub record BreaksOff {S : Type 0} (machine : S → Machine) (old new : S) (sink 
 abbrev pub IsNotWhole : List ℕ → Type 0
 IsNotWhole bytes = IsPart bytes ⊎ IsTooLong bytes
 
--- Bytes were taken: what was whole is answered and written, and the rest is held.
+-- Bytes were taken: the whole records are answered and the answers written, and the rest waits.
 pub record HasTaken {S : Type 0} (machine : S → Machine) (old new : S) (sink full : Option (List ℕ))
     (before after : Waiting) (piece : List ℕ) : Type 0 where
   pub front : List ℕ
@@ -157,12 +157,13 @@ pub record HasTaken {S : Type 0} (machine : S → Machine) (old new : S) (sink f
 
 -- The end of the input.
 
--- What is left of it there is no whole record: it ends in one, or one announces more words than a core can have.
+-- The rest of the input is empty or no whole record: the input ends in one, or one announces more words than a core
+-- has.
 abbrev pub IsRest : Type 0 → List ℕ → Type 0
 IsRest at_end [] = at_end
 IsRest at_end (byte ∷ bytes) = (at_end × IsPart (byte ∷ bytes)) ⊎ IsTooLong (byte ∷ bytes)
 
--- what answers it
+-- its answer
 abbrev pub closing : List ℕ → List ℕ
 closing [] = []
 closing (byte ∷ bytes) = answer_of Wrong []
@@ -178,7 +179,7 @@ HasClosed sink full rest tally (Err Write) =
     × (0 < length unwritten)
 HasClosed sink full rest tally (Err NoMemory) = (full ≡ sink) × (0 < length rest)
 
--- All was answered.
+-- All was answered and written.
 pub record Finished (at_end : Type 0) (read written : List ℕ) (turns : List Turn) (tally : Tally) : Type 0 where
   pub rest : List ℕ
   pub orders : read ≡ orders_of turns ++ rest
@@ -188,14 +189,14 @@ pub record Finished (at_end : Type 0) (read written : List ℕ) (turns : List Tu
   pub broke : tally.broke ≡ list_any (λ t. is_fault t.answer) turns
   pub reason : tally.reason ≡ None
 
--- The reader failed: each whole record that it had given was answered before.
+-- The reader failed: each whole record that it had returned was answered before.
 pub record CutShort (read written : List ℕ) (turns : List Turn) : Type 0 where
   pub rest : List ℕ
   pub orders : read ≡ orders_of turns ++ rest
   pub part : IsPart rest
   pub answers : written ≡ answers_of turns
 
--- The writer failed: it holds a beginning of the answers.
+-- The writer failed: it has a beginning of the answers.
 pub record IsUnwritten (at_end : Type 0) (read written : List ℕ) (turns : List Turn) : Type 0 where
   pub rest : List ℕ
   pub unwritten : List ℕ
@@ -217,7 +218,7 @@ Ends at_end read written turns (Err Read) = CutShort read written turns
 Ends at_end read written turns (Err Write) = IsUnwritten at_end read written turns
 Ends at_end read written turns (Err NoMemory) = IsStuck read written turns
 
--- What was taken from the reader and put into the writer, and what became of the service.
+-- What was taken from the reader and what was written, and what became of the service.
 pub record Exchange {S : Type 0} (source left sink full : Option (List ℕ)) (machine : S → Machine) (old new : S)
     (result : Result Tally SessionError) : Type 0 where
   pub read : List ℕ

@@ -1,4 +1,4 @@
--- What an order asks of a service, what answers it, and which words of core the answer tells.
+-- The events of an order, its answer, and the words of core that the answer reports.
 use Rattle.std.specs.Prelude.{◌≡◌, ◌⊎◌, ℕ, ◌+◌, ◌*◌, ◌^◌, Bool, true, false, List, [], ◌∷◌, ◌++◌, length, map}
 use Rattle.std.specs.Prelude.{flat_map, Option, Some, None}
 use Rattle.std.specs.List.{range_with_len}
@@ -20,8 +20,9 @@ use Rattle.wire.specs.declared.answer.Answer.TheVariants.{Wrong, Reply as Replie
 use Rattle.wire.specs.declared.order.Order.{Order}
 use Rattle.wire.specs.declared.order.Order.TheVariants.{Login, Deposit, Examine, Call as Calls, Room}
 
--- A record with the bytes after it; the order that they spell, if they spell one; the areas of core that a call was
--- said to change; what was asked of the service; and the answer, with the groups of eight bytes that follow it.
+-- A record with the bytes after it; the order that they spell, if they spell one; the areas of core that a call may
+-- have changed, as they were determined; the acts of the service; and the answer, with the groups of eight bytes after
+-- it.
 pub record Turn : Type 0 where
   pub frame : Framed
   pub order : Option Order
@@ -36,7 +37,7 @@ pub record Turn : Type 0 where
 abbrev pub addresses : List Area → List ℕ
 addresses areas = flat_map (λ area. range_with_len area.first area.count) areas
 
--- a word at its address, as eight bytes tell it
+-- a word at its address, as eight bytes report it
 abbrev pub group : ℕ × ℕ → ℕ
 group place = place.0 * 2 ^ 36 + place.1
 
@@ -44,12 +45,12 @@ group place = place.0 * 2 ^ 36 + place.1
 abbrev pub looks : ℕ → List (ℕ × ℕ) → List Act
 looks job places = map (λ place. Asks (Examines job place.0) (Value place.1)) places
 
--- a reply that tells no word
+-- a reply that isn't a word
 abbrev pub IsNoWord : Reply → Type 0
 IsNoWord reply = (word : ℕ) → reply ≡ Value word → ⊥
 
--- The words at these addresses were read, and the reply is Done; or those before the first that isn't told, and it is
--- the reply to that one.
+-- The words at these addresses were read, and the reply is Done; or those before the first for which the reply was no
+-- word, and it is that reply.
 abbrev pub AreRead : ℕ → List ℕ → List (ℕ × ℕ) → List Act → Reply → Type 0
 AreRead job addresses places acts reply =
     ((map (λ place. place.0) places ≡ addresses) × (acts ≡ looks job places) × (reply ≡ Done))
@@ -72,7 +73,7 @@ AreWritten job first words acts reply =
 
 -- Turns.
 
--- a line for each order
+-- one clause for each order
 abbrev pub IsObeyed : Order → List ℕ → Turn → Type 0
 IsObeyed (Login job ppn core) words t =
     (reply : Reply) × (t.acts ≡ Asks (Logins job ppn core) reply ∷ []) × (t.answer ≡ Replies reply) × (t.groups ≡ [])
@@ -87,7 +88,7 @@ IsObeyed (Calls job call moment) words t =
     × (t.answer ≡ Replies reply) × (t.groups ≡ map group places)
 IsObeyed Room words t = (t.acts ≡ []) × ((blocks : ℕ) × (t.answer ≡ HasRoom blocks)) × (t.groups ≡ [])
 
--- The order was obeyed; or the bytes spell none, and nothing was done.
+-- The order was served; or the bytes spell none, and nothing was done.
 abbrev pub IsAnswer : Option Order → Turn → Type 0
 IsAnswer (Some order) t =
     (words : List ℕ) × IsOrder t.frame.header t.frame.body order words × IsObeyed order words t
@@ -99,7 +100,7 @@ pub record IsTurn (t : Turn) : Type 0 where
   pub frame : IsFrame t.frame
   pub answer : IsAnswer t.order t
 
--- What the state before it says: a call tells the areas that it may change, and the room is that of this state.
+-- What the state before it determines: a call reports the areas that it may change, and the room is that of this state.
 abbrev pub TellsOf : Pack → State → Option Order → Turn → Type 0
 TellsOf pack s (Some (Calls job call moment)) t = t.areas ≡ areas_for (job_at s job) call
 TellsOf pack s (Some Room) t = t.answer ≡ HasRoom (saturate_unsigned w64 (room pack s))
@@ -131,7 +132,7 @@ abbrev pub is_fault : Answer → Bool
 is_fault (Replies reply) = is_broken reply
 is_fault answer = false
 
--- They tell what the states before them say.
+-- The turns report what the states before them determine.
 abbrev pub TellBy : Pack → Service → List Turn → Service → Type 0
 TellBy pack old [] new = new ≡ old
 TellBy pack old (t ∷ turns) new =

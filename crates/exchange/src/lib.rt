@@ -1,20 +1,20 @@
-//! An exchange with a program: orders and answers as records, in place of lines and texts. What the layer keeps:
+//! An exchange with a program: orders and answers as records, in place of lines and texts. What the layer promises:
 //!
-//! 1. What is written are the answers to the orders that the bytes read spell, in their order, each made by the replies
-//!    of the service to what the order asks of it. (`Exchange`, `IsObeyed`)
-//! 2. A record and the bytes after it that spell no order are answered so, and nothing is done for them. (`IsAnswer`)
-//! 3. The answer to a call tells the words of all areas of core that it may have changed, by the state before it.
+//! 1. What is written are the answers to the orders that the bytes read spell, in their order, each made from the
+//!    replies of the service to the events of its order. (`Exchange`, `IsObeyed`)
+//! 2. A record that spells no order with the bytes after it is answered as wrong, and nothing is done. (`IsAnswer`)
+//! 3. The answer to a call reports the words of all areas of core that it may have changed, by the state before it.
 //!    (`Tells`)
 //! 4. Each whole record is answered before more is read. (`CutShort`)
-//! 5. All memory that an order wants beside the service's is taken before anything is done for it. (`IsStuck`)
-//! 6. What a crash leaves is said as of a call script. (`GoesBy`)
+//! 5. All memory that an order needs besides the service's is taken before anything is done for it. (`IsStuck`)
+//! 6. What a crash leaves is stated as for a call script. (`GoesBy`)
 #![tactic(auto)]
 
-mod obeying;
+mod reply_buffer;
+mod reply_words;
 mod room;
-mod serving;
-mod streaming;
-mod telling;
+mod serve_order;
 mod turns;
+mod wire_session;
 
-pub use serving::serve_wire;
+pub use wire_session::serve_wire;

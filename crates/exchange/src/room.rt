@@ -1,3 +1,4 @@
+//! The memory that the answer to an order needs.
 ghost use Rattle.std.specs.Prelude.{◌≡◌, ◌+◌, ◌*◌, ◌^◌, ◌<◌, ◌≤◌, ℕ, List, [], length, IfOk, IfSome, vec_len};
 ghost use Rattle.std.specs.Prelude.{vec_capacity};
 ghost use Rattle.std.specs.List.{AllByRecursion};
@@ -7,15 +8,15 @@ ghost use Rattle.exchange.specs.Exchanges.{IsLow, AreTold};
 
 use commands::FileService;
 use std::alloc::{AllocError, Global};
-use usercore::Area;
+use usercore::CoreArea;
 use wire::{HEADER_BYTES, Order};
 
-/// Gives the areas of core that the answer to an order tells: of a call, those that it may change.
+/// Returns the areas of core that the answer to an order reports: for a call, those that it may change.
 pub(crate) fn areas_told<S: FileService>(
     alloc: Global,
     service: &S,
     order: &Order,
-) -> Result<Vec<Area>, AllocError>
+) -> Result<Vec<CoreArea>, AllocError>
     ensures told { IfOk result (λ areas. AreTold (S.machine service.now) order.now areas.items) }
     ensures inside { (words : List ℕ) → HasWords order.now words
         → IfOk result (λ areas. AllByRecursion IsLow areas.items) }
@@ -26,7 +27,7 @@ pub(crate) fn areas_told<S: FileService>(
             .map_err(|_| AllocError),
         Order::Examine(_, first, count) => {
             let mut areas = Vec::new(alloc);
-            areas.push(Area {
+            areas.push(CoreArea {
                 first: first as usize,
                 count: count as usize,
             })?;
@@ -36,8 +37,8 @@ pub(crate) fn areas_told<S: FileService>(
     }
 }
 
-/// Gives the number of words in areas, if it is below 2^32.
-fn words_in(areas: &[Area]) -> Option<u32>
+/// Returns the number of words in areas, if it is below 2^32.
+fn words_in(areas: &[CoreArea]) -> Option<u32>
     ensures { IfSome result (λ words. words ≡ length (addresses areas.now)) }
 {
     let mut words = 0u32;
@@ -47,11 +48,11 @@ fn words_in(areas: &[Area]) -> Option<u32>
     Some(words)
 }
 
-/// Takes the memory for an answer that tells the words of these areas: gives a list with room for them, and the answers
-/// that wait have room for its bytes.
+/// Takes the memory for an answer that reports the words of these areas: returns a list with room for them, and makes
+/// room for the answer's bytes in the answers that wait.
 pub(crate) fn answer_room(
     alloc: Global,
-    areas: &[Area],
+    areas: &[CoreArea],
     answers: &mut Vec<u8>,
 ) -> Result<Vec<u64>, AllocError>
     ensures empty { IfOk result (λ groups. groups.items ≡ []) }

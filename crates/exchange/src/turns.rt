@@ -1,3 +1,4 @@
+//! One record of an exchange: its order, its answer, and the tally.
 ghost use Rattle.std.specs.Prelude.{◌≡◌, ◌||◌, ◌++◌, [], OnOk, OnErr, true};
 ghost use Rattle.spec_language.specs.Common.{is_broken};
 ghost use Rattle.wire.specs.Frames.{IsFrame};
@@ -5,8 +6,8 @@ ghost use Rattle.wire.specs.declared.answer.Answer.TheVariants.{Wrong};
 ghost use Rattle.exchange.specs.Turns.{is_wrong, is_fault, answer_of};
 ghost use Rattle.exchange.specs.Exchanges.{HasTurned};
 
-use crate::obeying::obey;
 use crate::room::{answer_room, areas_told};
+use crate::serve_order::serve_order;
 use commands::{FileService, Tally, is_broken};
 use std::alloc::{AllocError, Global};
 use wire::{Answer, Header, parse_order, push_answer};
@@ -24,7 +25,7 @@ fn count(tally: &mut Tally, answer: &Answer)
     }
 }
 
-/// Answers a record that spells no order.
+/// Answers a record that spells no order, and counts it.
 pub(crate) fn refuse(answers: &mut Vec<u8>, tally: &mut Tally) -> Result<(), AllocError>
     ensures ok { OnOk result (answers.new.items ≡ answers.old.items ++ answer_of Wrong []) }
     ensures refused { OnOk result (tally.new.refused ≡ true) }
@@ -41,11 +42,11 @@ pub(crate) fn refuse(answers: &mut Vec<u8>, tally: &mut Tally) -> Result<(), All
     Ok(())
 }
 
-/// Obeys a record with the bytes after it, and appends the answer to those that wait.
+/// Serves a record with the bytes after it, and appends the answer to those that wait.
 ///
 /// # Errors
 ///
-/// `AllocError` if the answer finds no room: then nothing was done.
+/// `AllocError` if the answer found no room: then nothing was done.
 pub(crate) fn take_turn<S: FileService>(
     alloc: Global,
     service: &mut S,
@@ -66,7 +67,7 @@ pub(crate) fn take_turn<S: FileService>(
     };
     let areas = areas_told(alloc, service, &order)?;
     let mut groups = answer_room(alloc, &areas, answers)?;
-    let answer = obey(alloc, service, &order, body, &areas, &mut groups);
+    let answer = serve_order(alloc, service, &order, body, &areas, &mut groups);
     let Ok(()) = push_answer(answers, &answer, &groups) else {
         unreachable!()
     };

@@ -1,4 +1,4 @@
--- Runs on an image that put files of the host or make some.
+-- Runs on an image that put files of the host or write some.
 use Rattle.std.proofs.Common.{◌≡◌, ◌⊎◌, ◌*◌, ◌∙◌, ⊎_elim, inl, inr, ℕ, List, Option, Result, sym, subst}
 use Rattle.std.specs.Prelude.{None as Nothing}
 use Rattle.blockdisk.specs.Common.{DiskState}

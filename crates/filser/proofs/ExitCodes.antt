@@ -1,11 +1,11 @@
--- The exit status of a run, and what is printed where the words ask for nothing.
+-- The exit status of a run, and what is printed if the words make no request.
 use Rattle.std.proofs.Common.{◌≡◌, ◌≢◌, ◌⊎◌, inl, inr, ℕ, List, Option, Result, Ok, Err, MatchResult, refl, sym, ◌∙◌}
 use Rattle.std.proofs.Common.{ap, subst}
 use Rattle.std.specs.Prelude.{IsErrOf}
 use Rattle.clap.specs.Words.{Kinds, Row, Text, kind_of}
 use Rattle.clap.specs.declared.error.Error.{Error}
 use Rattle.filser.specs.Common.{AsksForHelp, IsMistaken, IsUsage, PrintsOnly, status_code}
-use Rattle.filser.specs.declared.asked.Request.{Request}
+use Rattle.filser.specs.declared.request.Request.{Request}
 use Rattle.filser.specs.declared.error.RequestError.{RequestError}
 use Rattle.filser.specs.declared.error.WrongArgument.{WrongArgument}
 use Rattle.filser.specs.declared.error.RequestError.TheVariants.{Usage, BadArgument, NoMemory}

@@ -1,11 +1,11 @@
 mod Since
-mod Printing
-mod Imaging
-mod Raising
-mod Attending
-mod Matching
+mod PrintedTexts
+mod ImageOutcomes
+mod RaisedVolumes
+mod ServiceFacts
+mod MatchedWords
 mod Unasked
-mod Naming
+mod NamedStreams
 mod ExitCodes
 mod CollectionLaws
 mod SalvageLaws

@@ -10,7 +10,7 @@ use Rattle.salvage.specs.declared.error.SalvageError.TheVariants.{NotVolume, Dev
 use Rattle.collection.specs.Common.{FileFacts}
 use Rattle.collection.specs.declared.task.ExportTask.{ExportTask}
 use Rattle.filser.specs.Common.{HostFacts, IsOpened, IsWhole, IsSalvagedFrom, IsUncopied}
-use Rattle.filser.specs.Salvaging.{IsCopied}
+use Rattle.filser.specs.SalvageRuns.{IsCopied}
 use Rattle.filser.specs.declared.status.Status.{Status}
 use Rattle.filser.proofs.Since.{same}
 

@@ -1,4 +1,4 @@
--- What holds since a disk was made holds since nothing was asked of its file.
+-- What holds since a disk was made holds since before the first call on its file.
 use Rattle.std.proofs.Common.{◌≡◌, inl, inr, ⊎_elim, ℕ, List, [], Option, Result, sym, subst, ◌∙◌, ◌+◌, ◌-◌, ◌^◌, min}
 use Rattle.blockdisk.specs.Common.{Contents, DiskState, MayLeave, LeavesOnly, same_contents, still_on, leaves_on}
 use Rattle.blockdisk.specs.Common.{leaves_still}

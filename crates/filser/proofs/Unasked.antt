@@ -1,10 +1,10 @@
--- Runs whose words ask for nothing that is done.
+-- Runs whose words make no request.
 use Rattle.std.proofs.Common.{◌≡◌, ◌⊎◌, ◌∙◌, [], List, Option, inl, inr, refl, subst, sym, Err}
 use Rattle.std.specs.Prelude.{IsErrOf}
 use Rattle.clap.specs.Words.{Kinds, IsAmong, Row, Text, kind_of}
 use Rattle.clap.specs.declared.error.Error.{Error}
 use Rattle.filser.specs.Common.{AreMistaken, AskToSee, EndsUnasked, Asks, IsUsage}
-use Rattle.filser.specs.declared.asked.Request.{Request}
+use Rattle.filser.specs.declared.request.Request.{Request}
 use Rattle.filser.specs.declared.error.RequestError.{RequestError}
 use Rattle.filser.specs.declared.error.WrongArgument.{WrongArgument}
 use Rattle.filser.specs.declared.error.RequestError.TheVariants.{Usage, BadArgument, NoMemory}
@@ -34,7 +34,7 @@ ends_shown kinds found (Usage e) s ends usage bad ask = ends.0 (elim (usage e re
 ends_shown kinds found (BadArgument wrong) s ends usage bad ask = absurd (ask.0 (bad wrong refl))
 ends_shown kinds found NoMemory s ends usage bad ask = inr ends
 
--- words that ask for something are no mistake
+-- words that make a request are no mistake
 pub ends_asked : (kinds : Kinds) (found : Option (Text × List Row)) (error : RequestError) (s : Status)
     → EndsUnasked error s
     → ((e : Error) → IsErrOf {T = Request} {E = RequestError} (Err error) (Usage e) → IsUsage kinds found e)

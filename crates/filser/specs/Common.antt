@@ -18,13 +18,13 @@ pub use Rattle.filser.specs.Tasks.{Attends, IsFirstMoment}
 pub use Rattle.filser.specs.Views.{Views}
 pub use Rattle.filser.specs.Denials.{IsDeviceFault, IsExplained, IsNoImage, IsUnfilled, IsUnfit, IsUnlocked, IsUnmade}
 pub use Rattle.filser.specs.Denials.{IsUnopened, of_host}
-pub use Rattle.filser.specs.Sparing.{SparesErrors, SparesNamed, SparesOutput}
+pub use Rattle.filser.specs.FreeStreams.{SparesErrors, SparesNamed, SparesOutput}
 pub use Rattle.filser.specs.Images.{HasNoDisk, IsCopied, IsCopyFault, IsCopyRun, IsDenied, IsEmptyVolume, IsFaultOf}
 pub use Rattle.filser.specs.Images.{IsFresh, IsLeftAlone, IsNameTaken, IsNewDisk, IsNoNewDisk, IsNotMade, IsOnBoth}
 pub use Rattle.filser.specs.Images.{IsOnCopy, IsOnFresh, IsOnImage, IsOnNew, IsOnSource, IsTaken, IsTaskRun, IsWhole}
 pub use Rattle.filser.specs.Migrations.{IsKeptBack, IsMigration, IsMigrationRefused, IsMigrationRun, IsOnMigrated}
 pub use Rattle.filser.specs.Migrations.{IsRaised}
-pub use Rattle.filser.specs.Importing.{IsImportRun, IsOnImported}
-pub use Rattle.filser.specs.Exporting.{IsExportedFrom, IsOnExported}
-pub use Rattle.filser.specs.Salvaging.{AreFound, IsOnSalvaged, IsSalvagedFrom, IsUncopied, IsUnsurveyed, start_error}
+pub use Rattle.filser.specs.ImportRuns.{IsImportRun, IsOnImported}
+pub use Rattle.filser.specs.ExportRuns.{IsExportedFrom, IsOnExported}
+pub use Rattle.filser.specs.SalvageRuns.{AreFound, IsOnSalvaged, IsSalvagedFrom, IsUncopied, IsUnsurveyed, start_error}
 pub use Rattle.filser.specs.Runs.{IsApart, IsHandled, IsRequestRun, PrintsOnly, WasRun}

@@ -1,4 +1,4 @@
--- Why an image isn't served or made, and what is printed then.
+-- Why an image isn't served or made, and what is then printed.
 use Rattle.std.specs.Prelude.{◌≡◌, ◌≢◌, ◌⊎◌, ℕ, List, Bool, true, false, Option, Some, None, Ok, Err, option_map, pos}
 use Rattle.std.specs.Prelude.{◌≤ℤ◌}
 use Rattle.std.specs.IoError.{error_kind}
@@ -21,16 +21,16 @@ use Rattle.filser.specs.declared.refusal.Refusal.{Refusal}
 use Rattle.filser.specs.declared.refusal.Refusal.TheVariants.{Exists, Start}
 use Rattle.filser.specs.declared.status.Status.{Status}
 
--- The host didn't give what was asked of it.
+-- The host refused a call.
 abbrev pub of_host : HostFault → ImageFault
 of_host host = record { refusal = Start Device; host = Some host }
 
--- No lock was given for an open file: another process has it, or the system has another reason.
+-- An open file couldn't be locked: another process has it, or the system has another reason.
 abbrev pub IsUnlocked : {F : Type 0} → HostFacts F → F → ImageFault → Type 0
 IsUnlocked facts file fault = (facts.locked file (Err WouldBlock) × (fault ≡ of_host InUse))
     ⊎ ((error : Error) × facts.locked file (Err (LockFailed error)) × (fault ≡ of_host (System error)))
 
--- An open file can't be used: it has the number of a standard stream, or no lock was given for it.
+-- An open file can't be used: it has the number of a standard stream, or couldn't be locked.
 abbrev pub IsUnfit : {F : Type 0} → HostFacts F → F → ImageFault → Type 0
 IsUnfit facts file fault =
     ((stream : HostFault) × (facts.number file ≤ℤ pos 2) × IsStreamOf (facts.number file) stream
@@ -49,17 +49,17 @@ IsUnmade facts path fault = (error : Error) × facts.created path (Err error) ×
     × (((error_kind error ≡ AlreadyExists) × (fault.refusal ≡ Exists))
     ⊎ ((error_kind error ≢ AlreadyExists) × (fault.refusal ≡ Start Device)))
 
--- One was made, and can't be used, or wasn't filled.
+-- A file was made, and can't be used, or wasn't filled.
 abbrev pub IsUnfilled : {F : Type 0} → HostFacts F → List ℕ → ImageFault → Type 0
 IsUnfilled {F} facts path fault = (file : F) × facts.created path (Ok file)
     × (IsUnfit facts file fault
     ⊎ ((error : Error) × facts.filled file (Err error) × (fault ≡ of_host (System error))))
 
--- A device failed, and people are told why, if the host has said so.
+-- A device failed, and the reason is reported, if the host has given one.
 abbrev pub IsDeviceFault : ImageFault → Type 0
 IsDeviceFault fault = (fault.refusal ≡ Start Device) × ((error : Option Error) × (fault.host ≡ option_map System error))
 
--- A file is no image in this form, as its length shows; or its length couldn't be had.
+-- A file is not an image in this form, as its length shows; or its length couldn't be read.
 abbrev pub IsNoImage : Form → Unseen → FileState → ImageFault → Type 0
 IsNoImage form u file fault =
     ((fault ≡ record { refusal = Start NotVolume; host = None }) × (file.honest → IsImageSize form (size_of u) → ⊥))

@@ -1,4 +1,4 @@
--- How a run ends whose words ask for nothing that is done.
+-- How a run ends whose words make no request.
 use Rattle.std.specs.Prelude.{◌≡◌, ◌⊎◌, []}
 use Rattle.clap.specs.Words.{Kinds, IsAmong, kind_of}
 use Rattle.clap.specs.declared.error.kind.ErrorKind.{ErrorKind}
@@ -8,7 +8,7 @@ use Rattle.filser.specs.declared.error.RequestError.TheVariants.{Usage, BadArgum
 use Rattle.filser.specs.declared.status.Status.{Status}
 use Rattle.filser.specs.declared.status.Status.TheVariants.{Done, BadArguments, Fault}
 
--- help or the version was asked for
+-- help or the version was requested
 abbrev pub AsksForHelp : ErrorKind → Type 0
 AsksForHelp kind = (kind ≡ DisplayHelp) ⊎ (kind ≡ DisplayVersion)
 
@@ -18,7 +18,7 @@ EndsUnasked (Usage e) s = (AsksForHelp (kind_of e) → (s ≡ Done) ⊎ (s ≡ F
 EndsUnasked (BadArgument wrong) s = s ≡ BadArguments
 EndsUnasked NoMemory s = s ≡ Fault
 
--- the words are refused, and not for being a question
+-- the words are refused, and not because they ask for help or the version
 abbrev pub AreMistaken : Kinds → Type 0
 AreMistaken kinds = (kinds ≡ [] → ⊥) × ((kind : ErrorKind) → IsAmong kind kinds → AsksForHelp kind → ⊥)
 

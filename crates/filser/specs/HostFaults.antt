@@ -1,4 +1,4 @@
--- Which standard stream stays untouched.
+-- Which standard streams must not be written to.
 use Rattle.std.specs.Prelude.{Bool, true, false}
 use Rattle.filser.specs.declared.fault.HostFault.{HostFault}
 use Rattle.filser.specs.declared.fault.HostFault.TheVariants.{System, InUse, Input, Output, Errors, Memory}
@@ -14,7 +14,7 @@ forbids_output Errors = true
 forbids_output Memory = true
 forbids_output WrongLength = false
 
--- nothing may be told
+-- nothing may be reported
 abbrev pub forbids_errors : HostFault → Bool
 forbids_errors (System error) = false
 forbids_errors InUse = false

@@ -1,5 +1,5 @@
--- What the host answered to what it was asked about files. A body that is proved for every host can show one of these
--- facts only by the call that gives it.
+-- What the host answered to calls on files. A body that is proved for every host can show one of these facts only by
+-- the call that gives it.
 use Rattle.std.specs.Prelude.{ℕ, ℤ, List, Option, Result, Ok, pos, ◌<ℤ◌}
 use Rattle.std.specs.declared.io.Error.{Error}
 use Rattle.std.specs.declared.fs.TryLockError.{TryLockError}
@@ -9,40 +9,40 @@ use Rattle.filser.specs.declared.identity.FileId.{FileId}
 
 -- over the open files of a host
 pub record HostFacts (F : Type 0) : Type 1 where
-  -- the file at a path was to be opened, to be read and written
+  -- the file at a path was to be opened, for reading and writing
   pub opened : List ℕ → Result F Error → Type 0
-  -- a file was to be made at a path where there was none
+  -- a file was to be made at a path, if nothing is there
   pub created : List ℕ → Result F Error → Type 0
   -- a file was to be filled with zeros
   pub filled : F → Result (Unit {0}) Error → Type 0
-  -- a file was to be kept for this process
+  -- a file was to be locked for this process
   pub locked : F → Result (Unit {0}) TryLockError → Type 0
-  -- a path leads to this file, or to none
+  -- a path leads to this file, or to no file
   pub found : List ℕ → Option FileId → Type 0
   -- the number by which the system knows an open file
   pub number : F → ℤ
-  -- this is supposed of an open file that the calls on it don't show
+  -- what is supposed of an open file that the calls on it don't show
   pub supposed : F → Unseen → Type 0
-  -- what it was asked about files that are no images
+  -- the answers to calls on files that aren't images
   pub files : FileFacts
 
--- A lock was asked for, and the system gave it.
+-- A lock was requested, and the system gave it.
 abbrev pub IsKept : {F : Type 0} → HostFacts F → F → Type 0
 IsKept facts file = facts.locked file (Ok tt)
 
--- An open file that has the number of no standard stream, and is locked for this process.
+-- An open file that doesn't have the number of a standard stream, and is locked for this process.
 pub record IsOwn {F : Type 0} (facts : HostFacts F) (file : F) : Type 0 where
   pub apart : pos 2 <ℤ facts.number file
   pub kept : IsKept facts file
 
--- The file at this path was opened for this process alone, and this is supposed of it.
+-- The file at this path was opened and locked for this process, and this is supposed of it.
 pub record IsOpened {F : Type 0} (facts : HostFacts F) (path : List ℕ) (u : Unseen) : Type 0 where
   pub file : F
   pub opened : facts.opened path (Ok file)
   pub own : IsOwn facts file
   pub supposed : facts.supposed file u
 
--- A file was made at this path, where there was none, and filled with zeros; and this is supposed of it.
+-- A file was made at this path, where nothing was, and filled with zeros; and this is supposed of it.
 pub record IsMade {F : Type 0} (facts : HostFacts F) (path : List ℕ) (u : Unseen) : Type 0 where
   pub file : F
   pub created : facts.created path (Ok file)

@@ -1,4 +1,4 @@
--- What became of the images that a run worked on: of one that is there, and of a new one.
+-- What became of the images that a run worked on: of an existing one, and of a new one.
 use Rattle.std.specs.Prelude.{◌≡◌, ◌≢◌, ◌⊎◌, ◌*◌, ℕ, List, Option, Some, None as Nothing, option_map}
 use Rattle.std.specs.declared.io.Error.{Error}
 use Rattle.blockdisk.specs.Common.{DiskState, LeavesOnly, NoneOpen, Still, one_more}
@@ -43,13 +43,13 @@ IsTaskRun {D} state begun task source left sink full end status =
     ⊎ ((refused : D) × IsUnserved begun (state refused) source left sink full status
     × IsGivenBack state task refused end)
 
--- Of an image that began so the service has been none yet, and its disk has a block for each that the file has.
+-- The disk of an image whose file began like this has a block for each that the file has.
 pub record IsWhole (form : Form) (u : Unseen) (d : DiskState) : Type 0 where
   pub size : d.honest → size_of u ≡ block_length form * d.size
 
 -- A task on the image of this form at a path.
 
--- why none was done
+-- why it wasn't done
 abbrev pub IsDenied : {H L M F D I : Type 0} → HostFacts H → Views M F D I → List ℕ → Form → Unseen → ImageFault
     → Disks L F D I → Type 0
 IsDenied facts views path form u fault None = IsUnopened facts path fault
@@ -61,7 +61,7 @@ IsDenied facts views path form u fault (Unserved disk) =
 IsDenied facts views path form u fault (Served image) = ⊥
 IsDenied facts views path form u fault (Made disk right) = ⊥
 
--- no disk was made of it
+-- no disk was made of its file
 abbrev pub HasNoDisk : {L F D I : Type 0} → Disks L F D I → Type 0
 HasNoDisk None = Unit {0}
 HasNoDisk (Unasked leave) = ⊥
@@ -70,8 +70,8 @@ HasNoDisk (Unserved disk) = ⊥
 HasNoDisk (Served image) = ⊥
 HasNoDisk (Made disk right) = ⊥
 
--- What became of it, if this is what a run on its disk comes to: it was run on, by asking its disk alone since the file
--- was opened; or not, for a reason that stands.
+-- What became of the image, if `IsRun` is what a run on its disk comes to: the image was run on, and only by calls of
+-- its disk since the file was opened; or it wasn't, for a reason that holds.
 abbrev pub IsOnImageBy : {H L M F D I : Type 0} → HostFacts H → Views M F D I → List ℕ → Form → Unseen
     → (DiskState → I → Status → Type 0) → Option (List ℕ) → Option (List ℕ) → Disks L F D I → Status → Type 0
 IsOnImageBy {I = I} facts views path form u IsRun sink full disks status =
@@ -79,7 +79,7 @@ IsOnImageBy {I = I} facts views path form u IsRun sink full disks status =
     × IsRun (begun_image form (views.image image).size u) image status)
     ⊎ ((fault : ImageFault) × IsDenied facts views path form u fault disks × IsExplained sink full status fault)
 
--- The same of one that is served.
+-- The same for an image that is served.
 abbrev pub IsOnImage : {H L M F D I : Type 0} → HostFacts H → Views M F D I → List ℕ → Form → Unseen → Task
     → Option (List ℕ) → Option (List ℕ) → Option (List ℕ) → Option (List ℕ) → Disks L F D I → Status → Type 0
 IsOnImage {I = I} facts views path form u task source left sink full disks status =
@@ -88,17 +88,17 @@ IsOnImage {I = I} facts views path form u task source left sink full disks statu
     ⊎ ((left ≡ source) × ((fault : ImageFault) × IsDenied facts views path form u fault disks
     × IsExplained sink full status fault))
 
--- A new image of this form and of so many blocks at a path.
+-- A new image of this form with this number of blocks at a path.
 
--- The disk of a file that was made, which has this many blocks and faults, can't be used for one of `blocks` blocks: a
--- device failed, or it has another number of blocks, or one that no volume has.
+-- The disk of a file that was made, which has this many blocks and faults, can't be used for an image of `blocks`
+-- blocks: a device failed, or the disk has another number of blocks, or one that no volume has.
 abbrev pub IsNoNewDisk : ℕ → ℕ → ℕ → ImageFault → Type 0
 IsNoNewDisk size failures blocks fault = (IsDeviceFault fault × (failures ≡ 1))
     ⊎ ((size ≢ blocks) × (fault ≡ of_host WrongLength))
     ⊎ ((IsVolumeSize size → ⊥) × (fault.refusal ≡ Start NotVolume)
     × ((told : Option Error) × (fault.host ≡ option_map System told)))
 
--- why there is none
+-- why it wasn't made
 abbrev pub IsNotMade : {H L M F D I : Type 0} → HostFacts H → Views M F D I → List ℕ → Form → ℕ → Unseen → ImageFault
     → Disks L F D I → Type 0
 IsNotMade facts views path form blocks u fault None = IsUnmade facts path fault ⊎ IsUnfilled facts path fault
@@ -110,7 +110,7 @@ IsNotMade facts views path form blocks u fault (Unserved disk) =
 IsNotMade facts views path form blocks u fault (Served image) = ⊥
 IsNotMade facts views path form blocks u fault (Made disk right) = ⊥
 
--- the file was made where there was none, and is as long as that many blocks are in that form
+-- the file was made where nothing was, and has the length of that many blocks in that form
 pub record IsNewDisk {H M F D I : Type 0} (facts : HostFacts H) (views : Views M F D I) (path : List ℕ) (form : Form)
     (blocks : ℕ) (u : Unseen) (disk : D) : Type 0 where
   pub made : IsMade facts path u
@@ -122,8 +122,7 @@ pub record IsEmptyVolume (layout : Layout) (d : DiskState) : Type 0 where
   pub rests : d.honest → AtRest d (λ c. StandsOn (pack_in (layout_number layout) d.size) c empty)
   pub settled : d.honest → NoneOpen d
 
--- What became of one that was asked for: it is there, and nothing was printed; or there is none, for a reason that
--- stands.
+-- What became of a requested image: it was made, and nothing was printed; or it wasn't, for a reason that holds.
 abbrev pub IsOnNew : {H L M F D I : Type 0} → HostFacts H → Views M F D I → List ℕ → Form → ℕ → Layout → Unseen
     → Option (List ℕ) → Option (List ℕ) → Disks L F D I → Status → Type 0
 IsOnNew {D = D} facts views path form blocks layout u sink full disks status =
@@ -134,7 +133,7 @@ IsOnNew {D = D} facts views path form blocks layout u sink full disks status =
 
 -- A fresh volume in memory.
 
--- the disk in memory before the first line was read: an empty volume of 64 blocks, which nobody has to suppose honest
+-- the disk in memory before the first line was read: an empty volume of 64 blocks, whose honesty needn't be supposed
 pub record IsFresh (d : DiskState) : Type 0 where
   pub size : d.size ≡ 64
   pub honest : d.honest
@@ -154,32 +153,32 @@ IsOnFresh views source left sink full Nothing status = (left ≡ source) × (ful
 
 -- A conversion, to the other form.
 
--- Of the image that is there at each moment a crash left what stands for the same files.
+-- At each moment a crash left of the existing image what stands for the same files.
 pub record IsLeftAlone (begun end : DiskState) : Type 0 where
   pub was_honest : end.honest → begun.honest
   pub crash : end.honest → LeavesOnly begun end (StandsLikeBefore begun)
 
--- It was recovered, and stands for these files, in the layout in which it stood for them.
+-- The existing image was recovered, and stands for these files, in the layout in which it stood for them.
 pub record IsTaken (begun end : DiskState) : Type 0 where
   pub files : Files StoredFile
   pub stood : StandsOn (pack_of end) begun.contents files
   pub rests : RestsAt end files
   pub recovered : IsRecovered begun.size begun.contents end.contents
 
--- a fault of the image that is there, or of its device
+-- a fault of the existing image, or of its device
 abbrev pub IsFaultOf : DiskState → DiskState → ImageFault → Type 0
 IsFaultOf begun end fault = (error : VolumeError) × (fault.refusal ≡ Start error)
     × ((told : Option Error) × (fault.host ≡ option_map System told)) × IsRefusedBy begun end error
 
--- why it couldn't be copied: a fault of its own, or of the device of the copy
+-- why the image couldn't be copied: a fault of its own, or of the device of the copy
 abbrev pub IsCopyFault : CopyError → ImageFault → Type 0
 IsCopyFault (Source error) fault = (fault.refusal ≡ Start error)
     × ((told : Option Error) × (fault.host ≡ option_map System told))
 IsCopyFault Target fault = IsDeviceFault fault
 
 -- The copy stands for the same files in the same layout, whatever a crash leaves of it, and nothing but the recovery
--- was written to the image that is there. A copy that had been cut short would have the home copies that `new` had, or
--- all else as the copy has it.
+-- was written to the existing image. An interrupted copy would have the home copies that `new` had, or all other blocks
+-- as the copy has them.
 pub record IsCopied (mid from new to : DiskState) : Type 0 where
   pub files : Files StoredFile
   pub stood : StandsOn (pack_of to) mid.contents files
@@ -200,8 +199,8 @@ IsCopyRun views mid from target to sink full copy status =
     × (IsFaultOf mid from fault ⊎ (IsDeviceFault fault × ((views.disk to).failures ≡ one_more target.failures)))
     × IsExplained sink full status fault))
 
--- What became of the new one, if `mid` is the disk of the other one when it was to be made: it is there; or the other
--- one couldn't be read again; or there is none, for a reason that stands.
+-- What became of the new image, if `mid` is the disk of the existing one when the new one was to be made: it was made;
+-- or the existing one couldn't be read again; or the new one wasn't made, for a reason that holds.
 abbrev pub IsOnCopy : {H L M F D I : Type 0} → HostFacts H → Views M F D I → List ℕ → Form → Unseen → DiskState
     → DiskState → Option (List ℕ) → Option (List ℕ) → Disks L F D I → Status → Type 0
 IsOnCopy {D = D} facts views new form v mid from sink full copy status =
@@ -213,7 +212,7 @@ IsOnCopy {D = D} facts views new form v mid from sink full copy status =
     ⊎ ((fault : ImageFault) × IsNotMade facts views new form mid.size v fault copy
     × IsExplained sink full status fault)
 
--- The disk of the image that is there was recovered and read, which took it to `mid`; and then a copy was to be made.
+-- The disk of the existing image was recovered and read, which took it to `mid`; then a copy was to be made.
 pub record IsConverted {H L M F D I : Type 0} (facts : HostFacts H) (views : Views M F D I) (new : List ℕ) (form : Form)
     (v : Unseen) (begun from : DiskState) (sink full : Option (List ℕ)) (copy : Disks L F D I) (status : Status)
     : Type 0 where
@@ -237,8 +236,8 @@ IsNameTaken facts new fault = ((file : FileId) × facts.found new (Some file))
     × ((stream : Option HostFault) × IsStreamAt facts new stream
     × (fault ≡ record { refusal = Exists; host = stream }))
 
--- What became of both: the one that is there was opened; or it wasn't, or the name of the new one is taken. A leave
--- that wasn't used is handed back.
+-- What became of both: the existing image was opened; or it wasn't, or the name of the new one is taken. A leave that
+-- wasn't used is handed back.
 abbrev pub IsOnBoth : {H L N M F D I : Type 0} → HostFacts H → Views M F D I → List ℕ → List ℕ → Form → Unseen → Unseen
     → L → N → Option (List ℕ) → Option (List ℕ) → Disks L F D I → Disks N F D I → Status → Type 0
 IsOnBoth {D = D} facts views path new form u v opening making sink full image copy status =

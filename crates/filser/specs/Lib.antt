@@ -10,11 +10,11 @@ pub mod ServedDisks
 pub mod Tasks
 pub mod Views
 pub mod Denials
-pub mod Sparing
+pub mod FreeStreams
 pub mod Images
 pub mod Migrations
-pub mod Importing
-pub mod Exporting
-pub mod Salvaging
+pub mod ImportRuns
+pub mod ExportRuns
+pub mod SalvageRuns
 pub mod Runs
 pub mod Common

@@ -1,4 +1,4 @@
--- What became of an image that was to get layout 2. `begun` is its disk before anything was asked of it.
+-- What became of an image that was to get layout 2. `begun` is its disk before its first call.
 use Rattle.std.specs.Prelude.{◌≡◌, ◌⊎◌, ℕ, List, Option, codes}
 use Rattle.blockdisk.specs.Common.{DiskState, LeavesOnly, NoneOpen, Still, one_more}
 use Rattle.changeset.specs.Common.{IsRecovered, AtRest}
@@ -19,9 +19,9 @@ use Rattle.filser.specs.declared.disks.Disks.TheVariants.{Served}
 use Rattle.filser.specs.declared.fault.ImageFault.{ImageFault}
 use Rattle.filser.specs.declared.status.Status.{Status}
 
--- It stood for these files, in layout 1 or in layout 2, and all that a crash leaves now stands for them in layout 2. Of
--- layout 1 it was recovered, and both home copies were written; of layout 2 it was recovered and nothing else. At each
--- moment a crash left what stands for the same files, in the same layout or in layout 2.
+-- The disk stood for these files, in layout 1 or in layout 2, and all that a crash leaves now stands for them in layout
+-- 2. In layout 1 it was recovered, and both home copies were written; in layout 2 it was only recovered. At each moment
+-- a crash left what stands for the same files, in the same layout or in layout 2.
 pub record IsRaised (begun end : DiskState) : Type 0 where
   pub layout : ℕ
   pub files : Files File
@@ -32,15 +32,15 @@ pub record IsRaised (begun end : DiskState) : Type 0 where
   pub done : ((layout ≡ 1) × IsMigrated begun.size begun.contents end.contents)
       ⊎ ((layout ≡ 2) × IsRecovered begun.size begun.contents end.contents)
 
--- The same, with what holds of every disk: no call on it failed.
+-- The same, with what holds for every disk: no call on it failed.
 pub record IsMigration (begun end : DiskState) : Type 0 where
   pub size : end.size ≡ begun.size
   pub failures : end.failures ≡ begun.failures
   pub was_honest : end.honest → begun.honest
   pub raised : end.honest → IsRaised begun end
 
--- It was refused for a fault that stands there, or for want of memory or a fault of the device, which alone are left
--- where the disk stood for files. But for a fault of the device it is as it was, or recovered at most; and at each
+-- The disk was refused for a fault that is on it, or for lack of memory or a device fault; if the disk stood for files,
+-- only the latter two are possible. Except after a device fault the disk is unchanged, or only recovered. At each
 -- moment a crash left what stands for the same files, in the same layout or in layout 2.
 pub record IsKeptBack (begun end : DiskState) (error : VolumeError) : Type 0 where
   pub refuses : Refuses begun.size end.contents error
@@ -49,7 +49,7 @@ pub record IsKeptBack (begun end : DiskState) (error : VolumeError) : Type 0 whe
   pub kept : (error ≡ Device → ⊥) → Still begun end ⊎ IsRecovered begun.size begun.contents end.contents
   pub crash : LeavesOnly begun end (RaisedLikeBefore begun)
 
--- The same, with what holds of every disk: a refusal for the device has a fault of it as its cause.
+-- The same, with what holds for every disk: a refusal for the device is caused by a device fault.
 pub record IsMigrationRefused (begun end : DiskState) (error : VolumeError) : Type 0 where
   pub size : end.size ≡ begun.size
   pub named : NamesInSpace begun.size error
@@ -65,8 +65,8 @@ IsMigrationRun begun end sink full status =
     ⊎ ((error : VolumeError) × IsMigrationRefused begun end error
     × IsLine sink full status (start_code error) (start_text error))
 
--- What became of the image of this form at a path: it was opened, and its disk has layout 2, or was refused, by asking
--- that disk alone since the file was opened; or it wasn't opened, for a reason that stands.
+-- What became of the image of this form at a path: it was opened, and its disk has layout 2, or was refused, and only
+-- by calls of that disk since the file was opened; or it wasn't opened, for a reason that holds.
 abbrev pub IsOnMigrated : {H L M F D I : Type 0} → HostFacts H → Views M F D I → List ℕ → Form → Unseen
     → Option (List ℕ) → Option (List ℕ) → Disks L F D I → Status → Type 0
 IsOnMigrated {I = I} facts views path form u sink full disks status =

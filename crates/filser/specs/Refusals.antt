@@ -1,4 +1,4 @@
--- What is printed where a run ends before a line is served, and its status.
+-- What is printed if a run ends before it serves a line, and its status.
 use Rattle.std.specs.Prelude.{ℕ, List, ◌++◌, codes}
 use Rattle.std.specs.Fmt.{decimal}
 use Rattle.volume.specs.declared.error.VolumeError.{VolumeError}
@@ -8,7 +8,7 @@ use Rattle.volume.specs.declared.error.VolumeError.TheVariants.{NoMemory, Failed
 use Rattle.filser.specs.declared.refusal.Refusal.{Refusal}
 use Rattle.filser.specs.declared.refusal.Refusal.TheVariants.{Exists, Start}
 
--- A start never answers Failed: only a call behind a fault of the device does.
+-- A start never answers Failed: only a call after a device fault does.
 abbrev pub start_text : VolumeError → List ℕ
 start_text NotVolume = codes "?Not a volume"
 start_text BadHome = codes "?Bad home blocks"
@@ -43,6 +43,6 @@ abbrev pub refusal_code : Refusal → ℕ
 refusal_code Exists = 3
 refusal_code (Start error) = start_code error
 
--- what is printed of a conversion that was done
+-- what is printed after a conversion
 abbrev pub converted_text : ℕ → List ℕ
 converted_text blocks = codes "Converted " ++ decimal blocks ++ codes " blocks"

@@ -1,4 +1,4 @@
--- What is asked for, by the subcommand that `clap` matched and what it found there.
+-- What is requested, by the subcommand that `clap` matched and what it found there.
 use Rattle.std.specs.Prelude.{◌≡◌, ◌≢◌, ◌≤◌, ◌↔◌, ◌⊎◌, [], ℕ, List, map, Option, Some, None, Bool, IsTrue, codes}
 use Rattle.std.specs.Str.Parse.{IsNumeral, digits_value, without_leading_plus}
 use Rattle.clap.specs.Words.{IsAmong, Kinds, Row, Text, all_of, first_of, kind_of, one_of}
@@ -18,9 +18,9 @@ use Rattle.spec_language.specs.declared.style.Style.TheVariants.{Table}
 use Rattle.commands.specs.Common.{IsDayText, IsFileName, IsOwnerName}
 use Rattle.commands.specs.declared.existing.Existing.{Existing}
 use Rattle.commands.specs.declared.existing.Existing.TheVariants.{Refuse}
-use Rattle.filser.specs.declared.asked.Request.{Request}
-use Rattle.filser.specs.declared.asked.Request.TheVariants.{Fresh, Init, Work, Convert, Migrate, Import, Export}
-use Rattle.filser.specs.declared.asked.Request.TheVariants.{Salvage}
+use Rattle.filser.specs.declared.request.Request.{Request}
+use Rattle.filser.specs.declared.request.Request.TheVariants.{Fresh, Init, Work, Convert, Migrate, Import, Export}
+use Rattle.filser.specs.declared.request.Request.TheVariants.{Salvage}
 use Rattle.filser.specs.declared.error.WrongArgument.{WrongArgument}
 use Rattle.filser.specs.declared.error.WrongArgument.TheVariants.{Owner, Name, Encodings, Date}
 use Rattle.collection.specs.declared.task.ExportTask.{ExportTask}
@@ -33,11 +33,11 @@ use Rattle.filser.specs.declared.task.Task.TheVariants.{Run, Calls, Wire, Put, G
 abbrev pub HasText : List Row → Text → Text → Type 0
 HasText rows id text = first_of id rows ≡ Some text
 
--- a text is a decimal number, and which
+-- a text is this decimal number
 abbrev pub Spells : Text → ℕ → Type 0
 Spells text n = IsNumeral 10 (without_leading_plus text) × (digits_value 10 (without_leading_plus text) ≡ n)
 
--- the number of an argument, from one to another
+-- the number of an argument, in the range from `least` to `most`
 abbrev pub HasNumber : List Row → Text → ℕ → ℕ → ℕ → Type 0
 HasNumber rows id least most n = ((text : Text) × (one_of id rows ≡ Some text) × Spells text n) × (least ≤ n)
     × (n ≤ most)
@@ -56,7 +56,7 @@ HasOwned rows owner file = HasOwner rows owner × HasFileName rows file.name fil
 abbrev pub LacksOwned : List Row → Type 0
 LacksOwned rows = (owner : ℕ) (file : FileName) → HasOwned rows owner file → ⊥
 
--- Its bytes are words, or bytes of eight bits, where that is asked for.
+-- The bytes are words, or bytes of eight bits, if that is requested.
 abbrev pub IsEncoding : List Row → Encoding → Type 0
 IsEncoding rows encoding =
     ((encoding ≡ Words) ↔ HasText rows (codes "words") (codes "true"))
@@ -67,7 +67,7 @@ pub record IsNamedFile (rows : List Row) (file : NamedFile) : Type 0 where
   pub name : HasFileName rows file.name.name file.name.ext
   pub encoding : IsEncoding rows file.encoding
 
--- a file that has the name of one that is put stays where that is asked for
+-- a file that has the name of one that is put stays, if that is requested
 abbrev pub IsExisting : List Row → Existing → Type 0
 IsExisting rows existing = (existing ≡ Refuse) ↔ HasText rows (codes "new") (codes "true")
 
@@ -80,7 +80,7 @@ encoding_flag Octets = codes "bytes"
 abbrev pub AsksFor : List Row → Encoding → Type 0
 AsksFor rows encoding = HasText rows (encoding_flag encoding) (codes "true")
 
--- the encoding whose flag is given, and that of no other; or none, and no flag of one is given
+-- the encoding whose flag is given, and no other's; or none, if no such flag is given
 abbrev pub IsOneEncoding : List Row → Option Encoding → Type 0
 IsOneEncoding rows asked = (encoding : Encoding) → ((asked ≡ Some encoding) ↔ AsksFor rows encoding)
 
@@ -88,12 +88,12 @@ IsOneEncoding rows asked = (encoding : Encoding) → ((asked ≡ Some encoding) 
 abbrev pub IsFlag : List Row → Text → Bool → Type 0
 IsFlag rows id value = IsTrue value ↔ HasText rows id (codes "true")
 
--- the directory that is to be listed, or all
+-- the directory to list, or all
 abbrev pub IsListedPlace : List Row → Option ℕ → Type 0
 IsListedPlace rows None = first_of (codes "PPN") rows ≡ None
 IsListedPlace rows (Some owner) = HasOwner rows owner
 
--- lists are a table where that is asked for
+-- lists are a table, if that is requested
 abbrev pub IsStyle : List Row → Style → Type 0
 IsStyle rows style = (style ≡ Table) ↔ HasText rows (codes "tsv") (codes "true")
 
@@ -108,7 +108,7 @@ task_name (Delete owner name) = codes "delete"
 task_name (ListAll place style) = codes "list"
 task_name Check = codes "check"
 
--- a text says a date: by its number, or as the text of a day
+-- a text states a date: by its number, or as the text of a day
 abbrev pub IsDateNumber : Text → ℕ → Type 0
 IsDateNumber text n = Spells text n × (n ≤ 32767)
 
@@ -122,7 +122,7 @@ HasDate rows n = (text : Text) × HasText rows (codes "date") text × SaysDate t
 abbrev pub IsAt : List Row → Moment → Type 0
 IsAt rows at = HasDate rows at.date × HasNumber rows (codes "minute") 0 1439 at.minute
 
--- what is found with it
+-- what is found with the subcommand
 abbrev pub HasTask : List Row → Task → Type 0
 HasTask rows (Run at) = IsAt rows at
 HasTask rows (Calls at) = IsAt rows at
@@ -157,7 +157,7 @@ pub record IsImportTask (rows : List Row) (task : ImportTask) : Type 0 where
   pub dated : IsFlag rows (codes "dates") task.dated
   pub shortens : IsFlag rows (codes "shorten") task.shortens
 
--- a folder of the host, and what goes there
+-- a folder of the host, and what is written there
 pub record IsExportTask (rows : List Row) (task : ExportTask) : Type 0 where
   pub folder : HasText rows (codes "FOLDER") task.folder.now
   pub owner : IsListedPlace rows task.owner
@@ -183,7 +183,7 @@ IsAsked name rows (Export image form task) =
 IsAsked name rows (Salvage image form task) =
     (name ≡ codes "salvage") × HasText rows (codes "IMAGE") image.now × HasForm rows form × IsExportTask rows task
 
--- without a subcommand a fresh volume is asked for
+-- without a subcommand a fresh volume is requested
 abbrev pub Asks : Option (Text × List Row) → Request → Type 0
 Asks None Fresh = Unit
 Asks None (Init image blocks form layout) = ⊥
@@ -195,9 +195,9 @@ Asks None (Export image form task) = ⊥
 Asks None (Salvage image form task) = ⊥
 Asks (Some found) request = IsAsked found.0 found.1 request
 
--- Why nothing is asked for.
+-- Why there is no request.
 
--- an argument that isn't what it should be, with its text
+-- an argument that isn't valid, with its text
 abbrev pub IsWrong : List Row → WrongArgument → Type 0
 IsWrong rows (Owner text) = HasText rows (codes "PPN") text.now × ((owner : ℕ) → IsOwnerName text.now owner → ⊥)
 IsWrong rows (Name text) =
@@ -205,7 +205,7 @@ IsWrong rows (Name text) =
 IsWrong rows (Encodings one other) = (one ≢ other) × AsksFor rows one × AsksFor rows other
 IsWrong rows (Date text) = HasText rows (codes "date") text.now × ((n : ℕ) → SaysDate text.now n → ⊥)
 
--- the arguments that are what they should be, if they are given
+-- these arguments are valid, if they are given
 abbrev pub NamesOwner : List Row → Type 0
 NamesOwner rows = (text : Text) → HasText rows (codes "PPN") text → (owner : ℕ) × IsOwnerName text owner
 
@@ -219,7 +219,7 @@ NamesEncoding rows = (one other : Encoding) → AsksFor rows one → AsksFor row
 abbrev pub NamesDate : List Row → Type 0
 NamesDate rows = (text : Text) → HasText rows (codes "date") text → (n : ℕ) × SaysDate text n
 
--- the argument at fault; or it is another one, and these are what they should be
+-- the argument at fault; or it is another one, and these are valid
 abbrev pub IsFaultIn : List Row → Option WrongArgument → Type 0
 IsFaultIn rows None = NamesOwner rows × NamesFile rows × NamesEncoding rows × NamesDate rows
 IsFaultIn rows (Some wrong) = IsWrong rows wrong
@@ -229,7 +229,7 @@ IsMistaken None None = Unit
 IsMistaken None (Some wrong) = ⊥
 IsMistaken (Some found) wrong = IsFaultIn found.1 wrong
 
--- a text is given for a date, and says none
+-- a text is given for a date, and states none
 abbrev pub LacksDate : List Row → Type 0
 LacksDate rows = (text : Text) × HasText rows (codes "date") text × ((n : ℕ) → SaysDate text n → ⊥)
 
@@ -237,7 +237,7 @@ abbrev pub NamesNoDate : Option (Text × List Row) → Type 0
 NamesNoDate None = ⊥
 NamesNoDate (Some found) = LacksDate found.1
 
--- `clap` refuses the words, or shows what they ask for; or they ask for nothing, since the date is a number past all
+-- `clap` refuses the words, or shows what they ask for; or they make no request, since the date is a number past all
 -- dates
 abbrev pub IsUsage : Kinds → Option (Text × List Row) → Error → Type 0
 IsUsage kinds found e = IsAmong (kind_of e) kinds
@@ -255,7 +255,7 @@ InRange (Import image form task) = Unit
 InRange (Export image form task) = Unit
 InRange (Salvage image form task) = Unit
 
--- the path of the image that is named: of two, of the one that is there
+-- the path of the image that is named: of two, that of the existing one
 abbrev pub image_named : Request → Option Text
 image_named Fresh = None
 image_named (Init image blocks form layout) = Some image.now

@@ -1,22 +1,22 @@
--- What a run comes to: the reader had `source` and has `left`, the writer held `sink` and holds `full`.
+-- What a run comes to: the reader had `source` and has `left`, the writer had `sink` and has `full`.
 use Rattle.std.specs.Prelude.{◌≡◌, ◌⊎◌, ℕ, List, Option, Some, None as Nothing}
 use Rattle.clap.specs.Words.{Kinds, kind_of, Row, Text}
 use Rattle.imagefile.specs.Common.{Unseen}
 use Rattle.filser.specs.Denials.{IsExplained, of_host}
 use Rattle.filser.specs.Endings.{AsksForHelp, EndsUnasked}
-use Rattle.filser.specs.Exporting.{IsOnExported}
-use Rattle.filser.specs.Salvaging.{IsOnSalvaged}
+use Rattle.filser.specs.ExportRuns.{IsOnExported}
+use Rattle.filser.specs.SalvageRuns.{IsOnSalvaged}
 use Rattle.filser.specs.Hosts.{HostFacts}
 use Rattle.filser.specs.Images.{IsOnBoth, IsOnFresh, IsOnImage, IsOnNew}
-use Rattle.filser.specs.Importing.{IsOnImported}
+use Rattle.filser.specs.ImportRuns.{IsOnImported}
 use Rattle.filser.specs.Migrations.{IsOnMigrated}
 use Rattle.filser.specs.Requests.{Asks, IsMistaken, IsUsage, image_named}
-use Rattle.filser.specs.Sparing.{SparesNamed}
+use Rattle.filser.specs.FreeStreams.{SparesNamed}
 use Rattle.filser.specs.Streams.{AreNeeded, IsStreamAt}
 use Rattle.filser.specs.Views.{Views}
-use Rattle.filser.specs.declared.asked.Request.{Request}
-use Rattle.filser.specs.declared.asked.Request.TheVariants.{Fresh, Init, Work, Convert, Migrate, Import, Export}
-use Rattle.filser.specs.declared.asked.Request.TheVariants.{Salvage}
+use Rattle.filser.specs.declared.request.Request.{Request}
+use Rattle.filser.specs.declared.request.Request.TheVariants.{Fresh, Init, Work, Convert, Migrate, Import, Export}
+use Rattle.filser.specs.declared.request.Request.TheVariants.{Salvage}
 use Rattle.filser.specs.declared.disks.Disks.{Disks}
 use Rattle.filser.specs.declared.disks.Disks.TheVariants.{Unasked}
 use Rattle.filser.specs.declared.error.RequestError.{RequestError}
@@ -27,8 +27,8 @@ use Rattle.filser.specs.declared.status.Status.{Status}
 use Rattle.filser.specs.declared.status.Status.TheVariants.{Fault}
 use Rattle.filser.specs.declared.streams.MissingStreams.{MissingStreams}
 
--- What a run is handed, and what it hands back: the leaves to open and to make a file with what is supposed of the
--- files, and what is left of the image that is there, of the one that is made, and of the volume in memory.
+-- What a run is handed, and what it hands back: the leaves to open and to make a file, with what is supposed of the
+-- files, and what is left of the existing image, of the new one, and of the volume in memory.
 pub record Things (L N M F D I : Type 0) : Type 0 where
   pub opening : L
   pub making : N
@@ -44,7 +44,7 @@ pub record AreUntouched {L N M F D I : Type 0} (things : Things L N M F D I) : T
   pub new : things.new ≡ Unasked things.making
   pub memory : things.memory ≡ Nothing
 
--- What was asked for was done, or not for a reason that stands; and nothing else was asked of the host.
+-- The request was served, or it wasn't for a reason that holds; and nothing else was requested of the host.
 abbrev pub IsRequestRun : {H L N M F D I : Type 0} → HostFacts H → Views M F D I → Things L N M F D I → Request
     → Option (List ℕ) → Option (List ℕ) → Option (List ℕ) → Option (List ℕ) → Status → Type 0
 IsRequestRun facts views things Fresh source left sink full status =
@@ -78,15 +78,15 @@ abbrev pub IsApart : {H : Type 0} → HostFacts H → Option (List ℕ) → Type
 IsApart facts Nothing = Unit {0}
 IsApart facts (Some path) = IsStreamAt facts path Nothing
 
--- One does, which is told to the others.
+-- A stream does, which is reported on the others.
 abbrev pub LeadsToStream : {H : Type 0} → HostFacts H → Option (List ℕ) → Option (List ℕ) → Option (List ℕ) → Status
     → Type 0
 LeadsToStream facts Nothing sink full status = ⊥
 LeadsToStream facts (Some path) sink full status = (stream : HostFault) × IsStreamAt facts path (Some stream)
     × IsExplained sink full status (of_host stream)
 
--- Nothing was asked of an image, and nothing read: it would have printed into the image, or there is nothing to read
--- from or to print to.
+-- No image was opened, and nothing read: the run would have printed into the image, or there is nothing to read from or
+-- to print to.
 abbrev pub IsTurnedAway : {H L N M F D I : Type 0} → HostFacts H → MissingStreams → Things L N M F D I → Request
     → Option (List ℕ) → Option (List ℕ) → Option (List ℕ) → Option (List ℕ) → Status → Type 0
 IsTurnedAway facts missing things request source left sink full status =
@@ -94,7 +94,7 @@ IsTurnedAway facts missing things request source left sink full status =
     × (LeadsToStream facts (image_named request) sink full status
     ⊎ (AreNeeded missing × (full ≡ sink) × (status ≡ Fault)))
 
--- It was turned away, or what it asks for was done with streams that are there and lead elsewhere.
+-- The request was turned away, or served with streams that exist and lead elsewhere.
 abbrev pub IsHandled : {H L N M F D I : Type 0} → HostFacts H → Views M F D I → MissingStreams → Things L N M F D I
     → Request → Option (List ℕ) → Option (List ℕ) → Option (List ℕ) → Option (List ℕ) → Status → Type 0
 IsHandled facts views missing things request source left sink full status =
@@ -102,14 +102,14 @@ IsHandled facts views missing things request source left sink full status =
     × IsRequestRun facts views things request source left sink full status)
     ⊎ IsTurnedAway facts missing things request source left sink full status
 
--- what is printed if the words ask for nothing that is done: the text that was asked of `clap`, or nothing
+-- what is printed if the words make no request: the text that `clap` was asked for, or nothing
 abbrev pub PrintsOnly : Kinds → Option (Text × List Row) → RequestError → Option (List ℕ) → Option (List ℕ) → Type 0
 PrintsOnly kinds found (Usage e) sink full =
     IsUsage kinds found e × ((AsksForHelp (kind_of e) → ⊥) → full ≡ sink)
 PrintsOnly kinds found (BadArgument wrong) sink full = IsMistaken found wrong × (full ≡ sink)
 PrintsOnly kinds found NoMemory sink full = full ≡ sink
 
--- The words ask for nothing that is done. What is printed lands in no file that they name, as the host answered.
+-- The words make no request. What is printed lands in no file that they name, as the host answered.
 abbrev pub IsUnasked : {H L N M F D I : Type 0} → HostFacts H → Kinds → Option (Text × List Row) → List (List ℕ)
     → Things L N M F D I → Option (List ℕ) → Option (List ℕ) → Option (List ℕ) → Option (List ℕ) → Status → Type 0
 IsUnasked facts kinds found names things source left sink full status =

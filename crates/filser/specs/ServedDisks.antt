@@ -1,4 +1,4 @@
--- What a run makes of the disk of an image. `begun` is the disk before anything was asked of it.
+-- What a run makes of the disk of an image. `begun` is the disk before its first call.
 use Rattle.std.specs.Prelude.{◌≡◌, ◌⊎◌, ◌≤◌, ℕ, List, Option, Result, Ok, Err, false, max, if◌then◌else◌}
 use Rattle.blockdisk.specs.Common.{DiskState, LeavesOnly, NoneOpen, SameDisk, Still, one_more}
 use Rattle.changeset.specs.Common.{IsRecovered}
@@ -23,13 +23,13 @@ use Rattle.filser.specs.declared.task.Task.TheVariants.{Check}
 abbrev pub machine_over : {D : Type 0} → (D → DiskState) → MonitorState D → Machine
 machine_over state m = machine_of (state m.disk) m.map m.failed m.jobs
 
--- the status of a run whose lines were counted so, or which broke off
+-- the status of a run whose lines were counted in this tally, or which broke off
 abbrev pub IsEnding : Status → Result Tally SessionError → Type 0
 IsEnding status (Ok tally) = status_code status ≡ max (if tally.refused then 1 else 0) (if tally.broke then 4 else 0)
 IsEnding status (Err error) = status ≡ Fault
 
--- A start took the disk: it stood for these files, which are served now, in the same layout. Nothing but the recovery
--- was written, and at each moment a crash left what stands for the same files.
+-- A start accepted the disk: it stood for these files, which are served now, in the same layout. Nothing but the
+-- recovery was written, and at each moment a crash left what stands for the same files.
 pub record IsStarted {D : Type 0} (state : D → DiskState) (begun : DiskState) (m : MonitorState D) : Type 0 where
   pub files : Files File
   pub stood : StandsOn (pack_of (state m.disk)) begun.contents files
@@ -39,7 +39,7 @@ pub record IsStarted {D : Type 0} (state : D → DiskState) (begun : DiskState) 
   pub settled : NoneOpen (state m.disk)
 
 -- A service was started with nobody logged in, and went from its first value to its last as `IsTranscript` says; the
--- disk of the last is what is handed back.
+-- disk of the last is handed back.
 pub record IsServed {D : Type 0} (state : D → DiskState) (begun : DiskState) (end : D) (status : Status)
     (IsTranscript : MonitorState D → MonitorState D → Result Tally SessionError → Type 0) : Type 0 where
   pub first : MonitorState D
@@ -55,9 +55,9 @@ pub record IsServed {D : Type 0} (state : D → DiskState) (begun : DiskState) (
   pub ends : IsEnding status result
   pub ended : end ≡ last.disk
 
--- A start refused the disk for a fault that stands there, or for want of memory or a fault of the device, which alone
--- are left where the disk stood for files. It is as it was, or recovered at most, and at each moment a crash left what
--- stands for the same files.
+-- A start refused the disk for a fault that is on it, or for lack of memory or a device fault; if the disk stood for
+-- files, only the latter two are possible. Except after a device fault the disk is unchanged, or only recovered. At
+-- each moment a crash left what stands for the same files.
 pub record IsTurnedDown (begun end : DiskState) (error : VolumeError) : Type 0 where
   pub refuses : Refuses begun.size end.contents error
   pub faultless : (files : Files File) → Stands begun.size begun.contents files
@@ -65,7 +65,7 @@ pub record IsTurnedDown (begun end : DiskState) (error : VolumeError) : Type 0 w
   pub kept : (error ≡ Device → ⊥) → Still begun end ⊎ IsRecovered begun.size begun.contents end.contents
   pub crash : LeavesOnly begun end (StandsLikeBefore begun)
 
--- The same, with what holds of every disk: a refusal for the device has a fault of it as its cause.
+-- The same, with what holds for every disk: a refusal for the device is caused by a device fault.
 pub record IsRefusedBy (begun end : DiskState) (error : VolumeError) : Type 0 where
   pub size : end.size ≡ begun.size
   pub named : NamesInSpace begun.size error

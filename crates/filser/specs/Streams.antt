@@ -10,7 +10,7 @@ use Rattle.filser.specs.declared.streams.MissingStreams.{MissingStreams}
 
 -- Missing streams.
 
--- the file that is held has this number
+-- the open file has this number
 abbrev pub HasNumber : Option File → ℤ → Type 0
 HasNumber None number = ⊥
 HasNumber (Some file) number = file_raw_fd file ≡ number
@@ -37,7 +37,7 @@ pub record LeadToOne {F : Type 0} (facts : HostFacts F) (path other : List ℕ) 
   pub here : facts.found path (Some file)
   pub there : facts.found other (Some file)
 
--- it answered that it is not
+-- the host answered that it isn't
 pub record LeadApart {F : Type 0} (facts : HostFacts F) (path other : List ℕ) : Type 0 where
   pub file : FileId
   pub another : Option FileId

@@ -1,4 +1,4 @@
--- What becomes of a service, of a reader and of a writer by a task.
+-- What a task makes of a service, of a reader and of a writer.
 use Rattle.std.specs.Prelude.{◌≡◌, ℕ, List, Option, Result}
 use Rattle.words36.specs.declared.moment.Moment.{Moment}
 use Rattle.blockdisk.specs.Common.{DiskState}
@@ -16,8 +16,8 @@ use Rattle.filser.specs.declared.task.Task.TheVariants.{Run, Calls, Wire, Put, G
 abbrev pub IsFirstMoment : Moment → Type 0
 IsFirstMoment moment = (moment.date ≡ 0) × (moment.minute ≡ 0)
 
--- The reader had `source` and has `left`, the writer held `sink` and holds `full`. What isn't made of the input reads
--- none of it.
+-- The reader had `source` and has `left`, the writer had `sink` and has `full`. A task that isn't made of the input
+-- reads none of it.
 abbrev pub Attends : {D : Type 0} → (D → DiskState) → Task → Option (List ℕ) → Option (List ℕ) → Option (List ℕ)
     → Option (List ℕ) → MonitorState D → MonitorState D → Result Tally SessionError → Type 0
 Attends state (Run at) source left sink full first last result =

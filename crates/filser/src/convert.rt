@@ -1,6 +1,7 @@
+//! `convert`: an image copied to a new one of the other form.
 ghost use Rattle.std.specs.Prelude.{◌≡◌, ◌≢◌, None, OnOk, IfOk, IfErr, IfSome, IsErrOf};
 ghost use Rattle.blockdisk.specs.Common.{SameDisk, one_more};
-ghost use Rattle.imagefile.specs.Common.{BeganAs, other_form, unseen_in};
+ghost use Rattle.imagefile.specs.Common.{BeganAs, other_form, assumed_in};
 ghost use Rattle.volume.specs.declared.error.CopyError.TheVariants.{Source, Target};
 ghost use Rattle.volume.specs.declared.error.VolumeError.{VolumeError as Errors};
 ghost use Rattle.filser.specs.Common.{IsExplained, IsCopied, IsCopyFault, IsCopyRun, IsLeftAlone, IsNewDisk};
@@ -28,21 +29,21 @@ use std::alloc::Global;
 use std::io::Write;
 use volume::{CopyError, VolumeError};
 
-/// What is to be converted.
+/// A conversion that was requested.
 #[derive(Clone, Copy)]
 pub(crate) struct Conversion<'a> {
-    /// The path of the image that is there.
+    /// The path of the existing image.
     pub(crate) path: &'a str,
     /// Its form.
     pub(crate) form: Form,
-    /// The path of the new one, which has the other form.
+    /// The path of the new image, which has the other form.
     pub(crate) new: &'a str,
-    /// Whether people are told how far it is.
+    /// Whether its progress is reported.
     pub(crate) telling: Telling,
 }
 
 impl<'a> Conversion<'a> {
-    /// The conversion of the image of this form at a path to a new one.
+    /// Returns the conversion of the image of this form at a path to a new one.
     pub(crate) fn new(path: &'a str, form: Form, new: &'a str, telling: Telling) -> Self
         ensures { result ≡ record { path = path.entry; form = form; new = new.entry; telling = telling } }
     {
@@ -55,9 +56,9 @@ impl<'a> Conversion<'a> {
     }
 }
 
-/// Writes what is on an image to a new one of the other form, and prints how many blocks they have. Nothing else is
-/// written to the one that is there than its recovery. A new one that can't be finished is left, and people are told
-/// that it is incomplete; where `telling` says so, they are told before how far it is.
+/// Writes the contents of an image to a new one of the other form, and prints their number of blocks. Nothing but its
+/// recovery is written to the existing image. A new image that can't be finished stays, and the standard error reports
+/// that it is incomplete; if `telling` requires it, the progress is reported before.
 pub(crate) fn convert_image<H: Host, W: Write, E: Write>(
     host: &H,
     alloc: Global,
@@ -69,7 +70,7 @@ pub(crate) fn convert_image<H: Host, W: Write, E: Write>(
     ensures serving { result.status ≢ BadArguments }
     ensures memory { result.memory ≡ None }
     ensures ran { IsOnBoth (H.facts host.now) (⟦<Run as Seen>⟧.views) conversion.now.path.now
-        conversion.now.new.now conversion.now.form (unseen_in leaves.image.supposed) (unseen_in leaves.new.supposed)
+        conversion.now.new.now conversion.now.form (assumed_in leaves.image.supposed) (assumed_in leaves.new.supposed)
         leaves.image leaves.new
         (W.contents writer.old) (W.contents writer.new) result.image result.new result.status }
 {
@@ -86,7 +87,8 @@ pub(crate) fn convert_image<H: Host, W: Write, E: Write>(
     }
 }
 
-/// Why a new image can't have a name, if something has it. If a stream leads there, nothing is printed into it.
+/// Returns why a new image can't have a name, if something has that name. If a stream leads there, nothing is printed
+/// into it.
 fn name_taken<H: Host>(host: &H, new: &str) -> Option<ImageFault>
     ensures { IfSome result (IsNameTaken (H.facts host.now) new.now) }
 {
@@ -97,7 +99,7 @@ fn name_taken<H: Host>(host: &H, new: &str) -> Option<ImageFault>
     })
 }
 
-/// Says why an image isn't converted, before a new one is made.
+/// Reports why an image isn't converted, before a new one is made.
 fn unconverted<W: Write, E: Write>(
     fault: ImageFault,
     path: &str,
@@ -120,7 +122,8 @@ fn unconverted<W: Write, E: Write>(
     }
 }
 
-/// The disk of an image, which was recovered and read as a start does it: for one that is refused no new file is made.
+/// Returns the disk of an image after it was recovered and read as by a start: if the start refuses it, no new file is
+/// made.
 ///
 /// # Errors
 ///
@@ -139,7 +142,7 @@ fn taken<D: Disk>(alloc: Global, disk: D) -> Result<D, (VolumeError, D)>
     }
 }
 
-/// Writes what is on the disk of an image to a new one.
+/// Writes the contents of an image's disk to a new image.
 fn convert_disk<H: Host, W: Write, E: Write>(
     host: &H,
     alloc: Global,
@@ -155,7 +158,7 @@ fn convert_disk<H: Host, W: Write, E: Write>(
         × SameDisk (⟦<ImageDisk<HostFile> as Disk>⟧.state disk) (⟦<ImageDisk<HostFile> as Disk>⟧.state from)
         × IsLeftAlone (⟦<ImageDisk<HostFile> as Disk>⟧.state disk) (⟦<ImageDisk<HostFile> as Disk>⟧.state from)
         × IsOnSource (H.facts host.now) (⟦<Run as Seen>⟧.views) conversion.now.new.now
-        (other_form conversion.now.form) (unseen_in leave.supposed) leave (⟦<ImageDisk<HostFile> as Disk>⟧.state disk)
+        (other_form conversion.now.form) (assumed_in leave.supposed) leave (⟦<ImageDisk<HostFile> as Disk>⟧.state disk)
         (⟦<ImageDisk<HostFile> as Disk>⟧.state from) (W.contents writer.old) (W.contents writer.new) result.new
         result.status }
 {
@@ -175,8 +178,8 @@ fn convert_disk<H: Host, W: Write, E: Write>(
     }
 }
 
-/// The disk of a new image, as many blocks of zeros, and the right to remove its file. It gets the permission bits of
-/// the image that is there. One that was made and can't be filled is left, and people are told so.
+/// Returns the disk of a new image, which is `blocks` blocks of zeros, and the right to remove its file. The file gets
+/// the permission bits of the existing image's. A file that was made and can't be filled stays, and a report says so.
 ///
 /// # Errors
 ///
@@ -189,13 +192,13 @@ fn new_target<H: Host, E: Write>(
     errors: &mut E,
 ) -> Result<(ImageDisk<HostFile>, RemovalRight), NotMade>
     ensures made { IfOk result (λ made. IsNewDisk (H.facts host.now) (⟦<Run as Seen>⟧.views) conversion.now.new.now
-        (other_form conversion.now.form) blocks (unseen_in leave.supposed) made.0) }
+        (other_form conversion.now.form) blocks (assumed_in leave.supposed) made.0) }
     ensures began { IfOk result
-        (λ made. BeganAs (other_form conversion.now.form) (unseen_in leave.supposed)
+        (λ made. BeganAs (other_form conversion.now.form) (assumed_in leave.supposed)
         (⟦<ImageDisk<HostFile> as Disk>⟧.state made.0)) }
     ensures counted { IfOk result (λ made. (⟦<ImageDisk<HostFile> as Disk>⟧.state made.0).failures ≡ 0) }
     ensures denied { IfErr result (λ denied. IsNotMade (H.facts host.now) (⟦<Run as Seen>⟧.views)
-        conversion.now.new.now (other_form conversion.now.form) blocks (unseen_in leave.supposed) denied.0 denied.1) }
+        conversion.now.new.now (other_form conversion.now.form) blocks (assumed_in leave.supposed) denied.0 denied.1) }
 {
     let new = conversion.new;
     let (made, supposed) = match new_file(host, new, Some(conversion.path), leave) {
@@ -212,7 +215,7 @@ fn new_target<H: Host, E: Write>(
     }
 }
 
-/// Writes what is on a disk to a new image of the other form.
+/// Writes the contents of a disk to a new image of the other form.
 fn write_new<H: Host, W: Write, E: Write>(
     host: &H,
     alloc: Global,
@@ -231,7 +234,7 @@ fn write_new<H: Host, W: Write, E: Write>(
         → IsLeftAlone (⟦<ImageDisk<HostFile> as Disk>⟧.state was) (⟦<ImageDisk<HostFile> as Disk>⟧.state source)
         → IsLeftAlone (⟦<ImageDisk<HostFile> as Disk>⟧.state was) (⟦<ImageDisk<HostFile> as Disk>⟧.state from))
         × IsOnCopy (H.facts host.now) (⟦<Run as Seen>⟧.views) conversion.now.new.now
-        (other_form conversion.now.form) (unseen_in leave.supposed) (⟦<ImageDisk<HostFile> as Disk>⟧.state source)
+        (other_form conversion.now.form) (assumed_in leave.supposed) (⟦<ImageDisk<HostFile> as Disk>⟧.state source)
         (⟦<ImageDisk<HostFile> as Disk>⟧.state from) (W.contents writer.old) (W.contents writer.new) result.new
         result.status }
 {
@@ -246,7 +249,7 @@ fn write_new<H: Host, W: Write, E: Write>(
     }
 }
 
-/// Copies a disk to another of as many blocks, and says how that went.
+/// Copies a disk to another with the same number of blocks, and reports the result.
 fn copy_to<W: Write, E: Write>(
     alloc: Global,
     source: ImageDisk<HostFile>,
@@ -281,7 +284,7 @@ fn copy_to<W: Write, E: Write>(
     }
 }
 
-/// Says why a copy wasn't made. What there is of it is left, and people are told so.
+/// Reports why a copy wasn't made. What was written of it stays, and a report says so.
 fn uncopied<W: Write, E: Write>(
     error: CopyError,
     source: ImageDisk<HostFile>,
@@ -324,9 +327,9 @@ fn uncopied<W: Write, E: Write>(
     }
 }
 
-/// Copies a disk to another of as many blocks, and tells people how far it is. The other one is handed back.
+/// Copies a disk to another with the same number of blocks, reports the progress, and hands the other disk back.
 ///
-/// The answer is that of `Volume::copy_image`.
+/// The result is that of `Volume::copy_image`.
 fn copy<E: Write>(
     alloc: Global,
     source: &mut ImageDisk<HostFile>,
@@ -336,7 +339,7 @@ fn copy<E: Write>(
 ) -> (Result<(), CopyError>, ImageDisk<HostFile>)
     requires { (⟦<ImageDisk<HostFile> as Disk>⟧.state source.old).size
         ≡ (⟦<ImageDisk<HostFile> as Disk>⟧.state target).size }
-    // Where both files have kept to the model up to the end: the copy stands for what the image stood for.
+    // If both files keep to the model up to the end, the copy stands for what the image stood for.
     ensures copied { (⟦<ImageDisk<HostFile> as Disk>⟧.state source.new).honest
         → (⟦<ImageDisk<HostFile> as Disk>⟧.state result.1).honest
         → OnOk result.0 (IsCopied (⟦<ImageDisk<HostFile> as Disk>⟧.state source.old)
@@ -369,7 +372,7 @@ fn tell_converted<W: Write>(blocks: u32, writer: &mut W) -> Status
     print_line(writer, &message, Status::Done)
 }
 
-/// Tells people that a new image was left as it was when the conversion ended.
+/// Reports that a new image stays as it was when the conversion ended.
 fn tell_incomplete<E: Write>(new: &str, errors: &mut E) {
     report(errors, new, &"incomplete");
 }

@@ -1,9 +1,10 @@
+//! The errors of a command line.
 use crate::Escaped;
 use clap::Error as ClapError;
 use commands::Encoding;
 use thiserror::Error;
 
-/// An argument that isn't what it should be, with its text.
+/// An argument that isn't valid, with its text.
 #[derive(Clone, Copy, Debug, PartialEq, Eq, Error)]
 pub enum WrongArgument<'a> {
     /// The directory.
@@ -12,7 +13,7 @@ pub enum WrongArgument<'a> {
     /// The file.
     #[error("NAME {}: 1 to 6 letters and digits, and at most 3 more after a full stop, as FOO.TXT", Escaped(.0))]
     Name(&'a str),
-    /// Two flags that say what the bytes of a file are.
+    /// Two flags that choose different encodings of a file's bytes.
     #[error("--{} and --{} exclude each other", flag_of(.0), flag_of(.1))]
     Encodings(Encoding, Encoding),
     /// The date.
@@ -20,7 +21,7 @@ pub enum WrongArgument<'a> {
     Date(&'a str),
 }
 
-/// The flag that asks for an encoding.
+/// Returns the flag that chooses an encoding.
 fn flag_of(encoding: &Encoding) -> &'static str {
     match encoding {
         Encoding::Characters => "text",
@@ -29,16 +30,16 @@ fn flag_of(encoding: &Encoding) -> &'static str {
     }
 }
 
-/// Why the words of a command line ask for nothing that is done.
+/// Why the words of a command line make no request.
 #[derive(Debug, Drop, Error)]
 pub enum RequestError<'a> {
     /// They are refused, or ask for help or the version: `clap` has the text and the kind.
     #[error(transparent)]
     Usage(ClapError),
-    /// They are taken, and this argument isn't what it should be.
+    /// They are accepted, and this argument isn't valid.
     #[error("bad argument")]
     BadArgument(Option<WrongArgument<'a>>),
-    /// A growth was refused.
+    /// An allocation was refused.
     #[error("out of memory")]
     NoMemory,
 }

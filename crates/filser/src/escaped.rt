@@ -1,11 +1,12 @@
+//! Texts with their control characters escaped.
 use std::fmt::{self, Display, Formatter, Write};
 
-/// A text of one line, in which a control character is shown as `\n` or `\u{1b}`: what a name has can't act on a
+/// A text of one line, in which a control character is shown as `\n` or `\u{1b}`, so that a name can't act on a
 /// terminal, or look like a line of its own.
 #[derive(Clone, Copy, Debug)]
 pub struct Escaped<'a>(pub &'a str);
 
-/// A text of several lines that has words of the command line in it. Its line feeds stay.
+/// A text of several lines that contains words of the command line. Its line feeds stay.
 #[derive(Clone, Copy, Debug)]
 pub(crate) struct EscapedLines<'a, T: Display>(pub(crate) &'a T);
 
@@ -24,7 +25,7 @@ impl<T: Display> Display for EscapedLines<'_, T> {
     }
 }
 
-/// Writes texts on, with their control characters escaped except one.
+/// A writer that escapes the control characters of texts, except one, and passes them on.
 #[derive(Drop)]
 struct Escaper<'a, W: fmt::Write> {
     f: &'a mut Formatter<W>,
@@ -32,7 +33,7 @@ struct Escaper<'a, W: fmt::Write> {
 }
 
 impl<W: fmt::Write> Escaper<'_, W> {
-    /// Whether a character is escaped.
+    /// Returns whether a character is escaped.
     fn escapes(&self, c: char) -> bool {
         c.is_control() && self.keeps != Some(c)
     }
@@ -40,7 +41,7 @@ impl<W: fmt::Write> Escaper<'_, W> {
 
 impl<W: fmt::Write> fmt::Write for Escaper<'_, W> {
     fn write_str(&mut self, s: &str) -> fmt::Result {
-        // A text without any is written as one, since the standard error has no buffer.
+        // A text without such characters is written in one call, since the standard error has no buffer.
         if !s.chars().any(|c| self.escapes(c)) {
             return self.f.write_str(s);
         }

@@ -1,3 +1,4 @@
+//! Faults of the host, and their reports on the standard error.
 ghost use Rattle.std.specs.Prelude.{◌≡◌};
 ghost use Rattle.filser.specs.Common.{of_host, forbids_errors, forbids_output};
 
@@ -7,10 +8,10 @@ use std::io::{self, ErrorKind, Write};
 use thiserror::Error;
 use volume::VolumeError;
 
-/// Why the host doesn't give what is asked of it, as people are told on the standard error.
+/// Why the host doesn't provide what was requested, as reported on the standard error.
 #[derive(Clone, Copy, Debug, Error)]
 pub enum HostFault {
-    /// A call of the system's failed.
+    /// A system call failed.
     #[error(transparent)]
     System(#[from] io::Error),
     /// Another process has the image.
@@ -19,13 +20,13 @@ pub enum HostFault {
     /// The standard input leads to the image.
     #[error("the standard input of this run")]
     Input,
-    /// What is printed would land in the image. So nothing is printed.
+    /// What is printed would land in the image, so nothing is printed.
     #[error("the standard output of this run")]
     Output,
-    /// What is told would land in the image. So nothing is told or printed.
+    /// What is reported would land in the image, so nothing is reported or printed.
     #[error("the standard error of this run")]
     Errors,
-    /// There is no memory to serve an image. People are told so, and nothing is printed.
+    /// There is no memory to serve an image. That is reported, and nothing is printed.
     #[error("out of memory")]
     Memory,
     /// A file that was made and filled has another length.
@@ -34,7 +35,7 @@ pub enum HostFault {
 }
 
 impl HostFault {
-    /// Whether nothing may be written to the standard output.
+    /// Returns whether nothing may be written to the standard output.
     pub fn forbids_output(&self) -> bool
         ensures { result ≡ forbids_output self.now }
     {
@@ -45,7 +46,7 @@ impl HostFault {
         }
     }
 
-    /// Whether nothing may be written to the standard error.
+    /// Returns whether nothing may be written to the standard error.
     pub fn forbids_errors(&self) -> bool
         ensures { result ≡ forbids_errors self.now }
     {
@@ -61,13 +62,12 @@ impl HostFault {
     }
 }
 
-/// Why an image isn't served: the line that is printed, with the status, and what the host has to do with it, if it
-/// has.
+/// Why an image isn't served: the line that is printed, with the status, and the fault of the host, if there was one.
 #[derive(Clone, Copy, Debug)]
 pub struct ImageFault {
     /// What is printed.
     pub refusal: Refusal,
-    /// What people are told beside it.
+    /// What is also reported on the standard error.
     pub host: Option<HostFault>,
 }
 
@@ -82,14 +82,14 @@ impl From<HostFault> for ImageFault {
     }
 }
 
-/// Tells people something about a file, or about another part of the host: a line on the standard error, which is left
-/// out where that fails.
+/// Reports something about a file, or about another part of the host: a line on the standard error, which is dropped if
+/// that fails.
 pub(crate) fn report<E: Write, T: Display>(errors: &mut E, name: &str, what: &T) {
     let _ = writeln!(errors, "filser: {}: {what}", Escaped(name));
 }
 
-/// Tells people what the host has to do with a file. A call that comes to the end of an image comes there too early,
-/// since an image keeps its length.
+/// Reports a fault of the host on a file. A call that reaches the end of an image reaches it too early, since an image
+/// keeps its length.
 pub(crate) fn tell_fault<E: Write>(errors: &mut E, path: &str, fault: &HostFault) {
     match fault {
         HostFault::System(error) if error.kind() == ErrorKind::UnexpectedEof => report(
@@ -101,8 +101,8 @@ pub(crate) fn tell_fault<E: Write>(errors: &mut E, path: &str, fault: &HostFault
     }
 }
 
-/// Tells people what to do after a fault of a device, if there was one: a host may go on with what it couldn't write,
-/// and forget that it failed, so that a start reads what isn't on the disk.
+/// Reports what to do after a fault of a device, if there was one: a host may keep the data that it couldn't write in
+/// its cache and forget the failure, so that a start reads what isn't on the disk.
 pub(crate) fn tell_stale_cache<E: Write>(errors: &mut E, path: &str, fault: &Option<HostFault>) {
     if fault.is_some() {
         report(
@@ -113,7 +113,7 @@ pub(crate) fn tell_stale_cache<E: Write>(errors: &mut E, path: &str, fault: &Opt
     }
 }
 
-/// Tells people that the program found no memory for itself.
+/// Reports that the program found no memory for itself.
 pub(crate) fn tell_no_memory<E: Write>(errors: &mut E) {
     let _ = writeln!(errors, "filser: out of memory");
 }

@@ -1,12 +1,13 @@
+//! The files of the host: the calls that the program makes on them, and the system that serves these.
 ghost use Rattle.std.specs.Prelude.{◌≡◌, Ok, Err, IfOk, IfErr, pos, ◌<ℤ◌};
-ghost use Rattle.imagefile.specs.Common.{BeganAs, IsImageSize, unseen_in, size_of};
+ghost use Rattle.imagefile.specs.Common.{BeganAs, IsImageSize, assumed_in, size_of};
 ghost use Rattle.imagefile.specs.declared.size.ImageError.TheVariants.{BadSize, Device};
 ghost use Rattle.filser.specs.Hosts.{HostFacts};
 
 use crate::FileId;
 use blockdisk::Disk;
 use collection::{HostFiles, Source, moment_of, second_of};
-use imagefile::{Durable, Form, HostFile, ImageDisk, ImageError, Supposition};
+use imagefile::{AssumedImage, Durable, Form, HostFile, ImageDisk, ImageError};
 use std::alloc::Global;
 use std::fs::{self, File, Metadata, OpenOptions, Permissions, TryLockError};
 use std::io::{self, ErrorKind, Read, Write};
@@ -17,23 +18,23 @@ use std::rt::Files;
 use std::time::{Duration, SystemTime};
 use words36::{BLOCK_BYTES, Moment};
 
-/// The permission bits of a file that its owner alone may read and write.
+/// The permission bits of a file that only its owner may read and write.
 const OWNER_ALONE: u32 = 0o600;
 
-/// The bits of a mode that say who may read, write and run a file.
+/// The bits of a mode that determine who may read, write and run a file.
 const PERMISSION_BITS: u32 = 0o777;
 
-/// What the program may do with the files of the host: open one, make one where there is none, fill that with zeros,
-/// and find out which file a path leads to. It can't cut a file short or write to one, except through the disk that is
-/// made of it, and it can remove only what it has made.
+/// What the program may do with the files of the host: open one, make one if it doesn't exist, fill that with zeros,
+/// and find out which file a path leads to. The program can't truncate a file or write to one, except through the disk
+/// that is made of it, and it can remove only what it has made.
 pub trait Host {
     /// An open file.
     type File: Drop;
 
     ghost facts: { Self → HostFacts Self.File };
 
-    /// Opens the file at a path, to read it and to write to it, and gives back what is supposed of it. A file that the
-    /// system lets nobody write to is opened all the same, if it is only to be read.
+    /// Opens the file at a path, to read it and to write to it, and returns it with what is supposed of it. If it is
+    /// only to be read, a file that the system lets nobody write to is opened all the same.
     ///
     /// # Errors
     ///
@@ -43,13 +44,13 @@ pub trait Host {
         path: &str,
         access: Access,
         leave: OpeningLeave,
-    ) -> Result<(Self::File, Supposition), io::Error>
+    ) -> Result<(Self::File, AssumedImage), io::Error>
         ensures opened { IfOk result (λ opened. (facts self.now).opened path.now (Ok opened.0)
-            × (unseen_in opened.1 ≡ unseen_in leave.supposed)) }
+            × (assumed_in opened.1 ≡ assumed_in leave.supposed)) }
         ensures refused { IfErr result (λ error. (facts self.now).opened path.now (Err error)) };
 
-    /// Makes a file at a path where there is none, and gives back what is supposed of it and the right to remove it. It
-    /// gets the permission bits of the file at `like`, if one is named, and until then its owner alone may open it.
+    /// Makes a file at a path, if nothing is there, and returns it with what is supposed of it and the right to remove
+    /// it. It gets the permission bits of the file at `like`, if one is named; until then only its owner may open it.
     ///
     /// # Errors
     ///
@@ -59,13 +60,13 @@ pub trait Host {
         path: &str,
         like: Option<&str>,
         leave: MakingLeave,
-    ) -> Result<(NewFile<Self::File>, Supposition), io::Error>
+    ) -> Result<(NewFile<Self::File>, AssumedImage), io::Error>
         ensures made { IfOk result (λ made. (facts self.now).created path.now (Ok made.0.file)
-            × (unseen_in made.1 ≡ unseen_in leave.supposed)) }
+            × (assumed_in made.1 ≡ assumed_in leave.supposed)) }
         ensures refused { IfErr result (λ error. (facts self.now).created path.now (Err error)) };
 
-    /// Fills a file that was made with as many blocks of zeros, in this form, and waits until they, and the name of the
-    /// file, are on the device. So a file system that has no room for an image refuses it now, and not when somebody's
+    /// Fills a file that was made with `blocks` blocks of zeros, in this form, and waits until these and the name of
+    /// the file are on the device. So a file system that has no room for an image refuses it now, not when somebody's
     /// file is written.
     ///
     /// # Errors
@@ -75,7 +76,7 @@ pub trait Host {
         requires { (facts self.now).created path.now (Ok file.now) }
         ensures { (facts self.now).filled file.now result };
 
-    /// Keeps a file for this process, until the process ends. It never waits, and tries an interrupted call again.
+    /// Locks a file for this process, until the process ends. It never waits, and retries an interrupted call.
     ///
     /// # Errors
     ///
@@ -83,36 +84,36 @@ pub trait Host {
     fn try_lock(&self, file: &Self::File) -> Result<(), TryLockError>
         ensures { (facts self.now).locked file.now result };
 
-    /// The number by which the system knows an open file.
+    /// Returns the number by which the system knows an open file.
     fn number(&self, file: &Self::File) -> RawFd
         ensures { result ≡ (facts self.now).number file.now };
 
-    /// Which file a path leads to, if there is one.
+    /// Returns which file a path leads to, if there is one.
     fn identity(&self, path: &str) -> Option<FileId>
         ensures { (facts self.now).found path.now result };
 
-    /// The disk of this form in an open file, that began as is supposed. Nothing was asked of the file but its length.
+    /// Returns the disk of this form in an open file that began as supposed. Only the length of the file was read.
     ///
     /// # Errors
     ///
-    /// The file: `BadSize` if its length is not that of an image, `Device` if the length couldn't be had.
+    /// The file: `BadSize` if its length is not that of an image, `Device` if the length couldn't be read.
     fn disk_of(
         &self,
         file: Self::File,
         form: Form,
-        supposed: Supposition,
+        supposed: AssumedImage,
     ) -> Result<ImageDisk<HostFile>, (ImageError, HostFile)>
         requires { pos 2 <ℤ (facts self.now).number file }
-        ensures supposed { (facts self.now).supposed file (unseen_in supposed) }
+        ensures supposed { (facts self.now).supposed file (assumed_in supposed) }
         ensures began { IfOk result
-            (λ disk. BeganAs form (unseen_in supposed) (⟦<ImageDisk<HostFile> as Disk>⟧.state disk)) }
+            (λ disk. BeganAs form (assumed_in supposed) (⟦<ImageDisk<HostFile> as Disk>⟧.state disk)) }
         ensures counted { IfOk result (λ disk. (⟦<ImageDisk<HostFile> as Disk>⟧.state disk).failures ≡ 0) }
         ensures size { IfErr result (λ refused. refused.0 ≡ BadSize → (⟦<HostFile as Durable>⟧.state refused.1).honest
-            → IsImageSize form (size_of (unseen_in supposed)) → ⊥) }
+            → IsImageSize form (size_of (assumed_in supposed)) → ⊥) }
         ensures failed { IfErr result (λ refused. refused.0 ≡ Device
             → (⟦<HostFile as Durable>⟧.state refused.1).failures ≡ 1) };
 
-    /// Removes the file that was made at a path. If something else has come to its place, that is left alone.
+    /// Removes the file that was made at a path. If something else has taken its place, that is left alone.
     ///
     /// # Errors
     ///
@@ -132,12 +133,12 @@ pub trait Host {
     ///
     /// # Errors
     ///
-    /// The system's. Its parent has to be there.
+    /// The system's. Its parent must exist.
     fn make_folder(&self, path: &str) -> io::Result<()>
         ensures { (facts self.now).files.folder path.now result };
 
-    /// Makes a file of these bytes at a path where there is none, last changed at this moment, in UTC. One before 1970
-    /// isn't given to it.
+    /// Makes a file of these bytes at a path, if nothing is there, with this moment, in UTC, as its last change. A
+    /// moment before 1970 isn't set.
     ///
     /// # Errors
     ///
@@ -147,14 +148,14 @@ pub trait Host {
         ensures { (facts self.now).files.stored path.now bytes.now changed result };
 }
 
-/// What a host does with files that are no images.
+/// What a host does with files that aren't images.
 #[derive(Clone, Copy, Drop)]
 pub(crate) struct Shelf<'a, H: Host> {
     host: &'a H,
 }
 
 impl<'a, H: Host> Shelf<'a, H> {
-    /// That of this host.
+    /// Returns the shelf of this host.
     pub(crate) fn of(host: &'a H) -> Self
         ensures { result.host.now ≡ host.entry.now }
     {
@@ -181,24 +182,24 @@ impl<H: Host> HostFiles for Shelf<'_, H> {
 /// What an open file is for.
 #[derive(Clone, Copy, Debug, PartialEq, Eq)]
 pub enum Access {
-    /// It is read. A start writes to an image if a change was cut short.
+    /// It is read. A start still writes to an image if a commit was interrupted.
     Read,
     /// It is read and written.
     Write,
 }
 
 /// The leave to open one file, with what is supposed of that file that no call on it shows. A run has it once, so that
-/// it can open one file alone.
+/// it can open only one file.
 #[derive(Drop)]
 pub struct OpeningLeave {
-    pub(crate) supposed: Supposition,
+    pub(crate) supposed: AssumedImage,
     _once: (),
 }
 
-/// The leave to make one file, with what is supposed of it once it is filled. A run has it once.
+/// The leave to make one file, with what is supposed of it after it is filled. A run has it once.
 #[derive(Drop)]
 pub struct MakingLeave {
-    pub(crate) supposed: Supposition,
+    pub(crate) supposed: AssumedImage,
     _once: (),
 }
 
@@ -209,36 +210,37 @@ pub struct NewFile<F: Drop> {
     pub(crate) right: RemovalRight,
 }
 
-/// The right to remove a file that was made. Whoever has made one has it once.
+/// The right to remove a file that was made. Whoever has made a file has it once.
 #[derive(Drop)]
 pub struct RemovalRight {
-    /// Which file that is, if the system could say it.
+    /// Which file that is, if the system could tell.
     made: Option<FileId>,
 }
 
-/// The files of a system. Nothing is supposed of what it answers, so that each fact is only that it was asked; that the
-/// calls are those that the trait names is all that is trusted here, one line of each method.
+/// The files of a system. Nothing is supposed of its answers, so each fact states only that a call was made. All that
+/// is trusted here, one line of each method, is that the calls are those that the trait names.
 #[derive(Drop)]
 pub struct SystemHost<'a, F: Files<File = File>> {
     files: &'a F,
 }
 
 impl<'a, F: Files<File = File>> SystemHost<'a, F> {
-    /// The host whose files these are, with the leave to open one file and to make one. Nothing is known of either.
+    /// Returns the host whose files these are, with the leave to open one file and to make one. Nothing is known of
+    /// either.
     pub fn new(files: &'a F) -> (Self, OpeningLeave, MakingLeave) {
         let opening = OpeningLeave {
-            supposed: Supposition::any(),
+            supposed: AssumedImage::any(),
             _once: (),
         };
         let making = MakingLeave {
-            supposed: Supposition::any(),
+            supposed: AssumedImage::any(),
             _once: (),
         };
         (SystemHost { files }, opening, making)
     }
 }
 
-/// Writes as many blocks of zeros.
+/// Writes `blocks` blocks of zeros.
 ///
 /// # Errors
 ///
@@ -253,7 +255,7 @@ fn write_zeros(file: &File, form: Form, blocks: u32) -> io::Result<()> {
     file.sync_all()
 }
 
-/// Whether a file may be read, perhaps, but not written.
+/// Returns whether an error means that a file may be read, perhaps, but not written.
 fn forbids_writes(error: &io::Error) -> bool {
     matches!(
         error.kind(),
@@ -261,7 +263,7 @@ fn forbids_writes(error: &io::Error) -> bool {
     )
 }
 
-/// Opens the file at a path, for reading alone where that is all that is wanted and all that the system allows.
+/// Opens the file at a path, only for reading if nothing more is needed and the system allows no more.
 ///
 /// # Errors
 ///
@@ -273,8 +275,8 @@ fn open_as<F: Files<File = File>>(files: &F, path: &str, access: Access) -> io::
     }
 }
 
-/// Makes a file that has the permission bits of the one at `like`. Nobody else may open it before it has them, and if
-/// they can't be had or given, it stays so.
+/// Makes a file that has the permission bits of the one at `like`. Nobody else may open it before it has them; if they
+/// can't be read or set, this remains so.
 ///
 /// # Errors
 ///
@@ -293,7 +295,7 @@ fn create_like<F: Files<File = File>>(files: &F, path: &str, like: &str) -> io::
     Ok(file)
 }
 
-/// By which numbers the system knows what was asked for, if it could be.
+/// Returns the numbers by which the system knows a file, if it could read them.
 fn file_id(asked: io::Result<Metadata>) -> Option<FileId> {
     let found = asked.ok()?;
     Some(FileId {
@@ -342,7 +344,7 @@ impl<F: Files<File = File>> Host for SystemHost<'_, F> {
         path: &str,
         access: Access,
         leave: OpeningLeave,
-    ) -> Result<(File, Supposition), io::Error> {
+    ) -> Result<(File, AssumedImage), io::Error> {
         let file = open_as(self.files, path, access)?;
         Ok((file, leave.supposed))
     }
@@ -352,7 +354,7 @@ impl<F: Files<File = File>> Host for SystemHost<'_, F> {
         path: &str,
         like: Option<&str>,
         leave: MakingLeave,
-    ) -> Result<(NewFile<File>, Supposition), io::Error> {
+    ) -> Result<(NewFile<File>, AssumedImage), io::Error> {
         let file = match like {
             Some(like) => create_like(self.files, path, like)?,
             None => File::create_new(self.files, path)?,
@@ -384,7 +386,7 @@ impl<F: Files<File = File>> Host for SystemHost<'_, F> {
         &self,
         file: File,
         form: Form,
-        supposed: Supposition,
+        supposed: AssumedImage,
     ) -> Result<ImageDisk<HostFile>, (ImageError, HostFile)> {
         ImageDisk::open_file(file, supposed, form)
     }
@@ -419,16 +421,16 @@ impl<F: Files<File = File>> Host for SystemHost<'_, F> {
     }
 }
 
-/// Whether a folder is at a path.
+/// Returns whether a folder is at a path.
 fn is_folder<F: Files<File = File>>(files: &F, path: &str) -> bool {
     fs::metadata(files, path).is_ok_and(|found| found.is_dir())
 }
 
-/// The bytes of a file up to its end, or one more than so many.
+/// Returns the bytes of a file up to its end, but at most `most` and one more.
 ///
 /// # Errors
 ///
-/// The system's, and `OutOfMemory` if they find no room.
+/// The system's, and `OutOfMemory` if there is no room for them.
 fn read_most(alloc: Global, file: File, most: usize) -> io::Result<Vec<u8>> {
     let mut bytes = Vec::new(alloc);
     file.take((most as u64).saturating_add(1))
@@ -436,13 +438,13 @@ fn read_most(alloc: Global, file: File, most: usize) -> io::Result<Vec<u8>> {
     Ok(bytes)
 }
 
-/// The time of a moment, if that isn't before 1970.
+/// Returns the time of a moment, unless that is before 1970.
 fn time_of(moment: Moment) -> Option<SystemTime> {
     let seconds = u64::try_from(second_of(moment)?).ok()?;
     SystemTime::UNIX_EPOCH.checked_add(Duration::from_secs(seconds))
 }
 
-/// Writes the bytes of a file that was made, and the moment of its last change, if that isn't before 1970.
+/// Writes the bytes of a file that was made, and the moment of its last change, unless that is before 1970.
 ///
 /// # Errors
 ///
@@ -456,7 +458,7 @@ fn fill_file(file: &File, bytes: &[u8], changed: Option<Moment>) -> io::Result<(
     }
 }
 
-/// Removes the file that was made at a path, unless something else has come to its place.
+/// Removes the file that was made at a path, unless something else has taken its place.
 fn remove_made<F: Files<File = File>>(
     files: &F,
     path: &str,

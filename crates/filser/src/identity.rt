@@ -1,4 +1,6 @@
-/// Which file a path leads to, by the numbers that the system has for it.
+//! The identity of a file of the host.
+
+/// Which file a path leads to, by the system's numbers for it.
 #[derive(Clone, Copy, Debug, PartialEq, Eq)]
 pub struct FileId {
     /// The number of the device that the file is on.

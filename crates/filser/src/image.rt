@@ -1,6 +1,7 @@
+//! Images: opening an existing one, and making a new one.
 ghost use Rattle.std.specs.Prelude.{◌≡◌, Ok, Err, IfOk, IfErr, OnOk, option_map, pos, ◌<ℤ◌};
 ghost use Rattle.blockdisk.specs.Common.{SameDisk};
-ghost use Rattle.imagefile.specs.Common.{BeganAs, failure_of as reason_of, unseen_in, Unseen};
+ghost use Rattle.imagefile.specs.Common.{BeganAs, failure_of as reason_of, assumed_in, Unseen};
 ghost use Rattle.imagefile.specs.declared.form.Form.{Form as Forms};
 ghost use Rattle.filser.specs.Common.{IsNoImage, IsUnfilled, IsUnfit, IsUnlocked, IsUnmade, IsUnopened, of_host};
 ghost use Rattle.filser.specs.Common.{IsKept, IsOpened, IsOwn, HasNoDisk, IsDenied, IsEmptyVolume, IsNewDisk};
@@ -17,7 +18,7 @@ use crate::{
 use blockcache::Cached;
 use blockdisk::{Disk, NoMemory};
 use commands::Volume;
-use imagefile::{Durable, Form, HostFile, ImageDisk, ImageError, Supposition};
+use imagefile::{AssumedImage, Durable, Form, HostFile, ImageDisk, ImageError};
 use spec_image::layout::Layout;
 use std::alloc::Global;
 use std::fs::TryLockError;
@@ -25,10 +26,10 @@ use std::io::{ErrorKind, Write};
 use std::num::NonZeroUsize;
 use volume::VolumeError;
 
-/// How many blocks of an image are kept in memory while it is served.
+/// How many blocks of an image are cached in memory while it is served.
 const KEPT_BLOCKS: usize = 256;
 
-/// An image that words name.
+/// An image that the words name.
 #[derive(Clone, Copy, Debug, PartialEq, Eq)]
 pub(crate) struct NamedImage<'a> {
     /// Its path.
@@ -49,7 +50,7 @@ pub(crate) struct NewVolume {
 }
 
 impl NewVolume {
-    /// A volume of this layout on an image of this form, which has this many blocks.
+    /// Returns a volume of this layout on an image of this form with this many blocks.
     pub(crate) fn new(blocks: u32, form: Form, layout: Layout) -> Self
         ensures { result ≡ record { blocks = blocks; form = form; layout = layout } }
     {
@@ -67,14 +68,14 @@ pub(crate) type Denied = (ImageFault, ImageDisks);
 /// Why an image isn't made, and what is left of its disk.
 pub(crate) type NotMade = (ImageFault, NewDisks);
 
-/// Why the first call failed that did on a file, for people.
+/// Returns why the first call that failed on a file did so, for reports.
 pub(crate) fn failure_of(file: &HostFile) -> Option<HostFault>
     ensures { result ≡ option_map System (reason_of file.now) }
 {
     file.failure().map(HostFault::System)
 }
 
-/// Tells people why the file of an image failed, if it did, and what to do then.
+/// Reports why the file of an image failed, if it did, and what to do then.
 pub(crate) fn tell_failure<E: Write>(errors: &mut E, path: &str, image: &Image) {
     let fault = failure_of(image.inner().file());
     if let Some(fault) = &fault {
@@ -83,11 +84,11 @@ pub(crate) fn tell_failure<E: Write>(errors: &mut E, path: &str, image: &Image) 
     tell_stale_cache(errors, path, &fault);
 }
 
-/// Takes the file of an image for this process alone, until the process ends. It never waits.
+/// Locks the file of an image for this process alone, until the process ends. It never waits.
 ///
 /// # Errors
 ///
-/// `InUse` where another process has it, `System` where no lock can be had, as on a file system without locks.
+/// `InUse` if another process has it, `System` if there is no lock, as on a file system without locks.
 fn claim<H: Host>(host: &H, file: &H::File) -> Result<(), ImageFault>
     ensures kept { OnOk result (IsKept (H.facts host.now) file.now) }
     ensures refused { IfErr result (IsUnlocked (H.facts host.now) file.now) }
@@ -99,8 +100,8 @@ fn claim<H: Host>(host: &H, file: &H::File) -> Result<(), ImageFault>
     }
 }
 
-/// An open file for this process alone, unless it has the number of a standard stream: what is printed then would land
-/// in it.
+/// Returns an open file, locked for this process, unless it has the number of a standard stream: what is printed would
+/// then land in it.
 ///
 /// # Errors
 ///
@@ -117,20 +118,20 @@ fn own<H: Host>(host: &H, file: H::File) -> Result<H::File, ImageFault>
     Ok(file)
 }
 
-/// The open file of an image, for this process alone and none of the standard streams.
+/// Returns the open file of an image, locked for this process; it isn't one of the standard streams.
 ///
 /// # Errors
 ///
-/// `InUse` where another process has it, `System` where the file can't be opened or locked, or the stream whose number
-/// it has.
+/// `InUse` if another process has it, `System` if the file can't be opened or locked, or the stream whose number it
+/// has.
 fn open_file<H: Host>(
     host: &H,
     path: &str,
     access: Access,
     leave: OpeningLeave,
-) -> Result<(H::File, Supposition), ImageFault>
+) -> Result<(H::File, AssumedImage), ImageFault>
     ensures opened { IfOk result (λ opened. (H.facts host.now).opened path.now (Ok opened.0)
-        × IsOwn (H.facts host.now) opened.0 × (unseen_in opened.1 ≡ unseen_in leave.supposed)) }
+        × IsOwn (H.facts host.now) opened.0 × (assumed_in opened.1 ≡ assumed_in leave.supposed)) }
     ensures refused { IfErr result (IsUnopened (H.facts host.now) path.now) }
 {
     match host.open(path, access, leave) {
@@ -139,23 +140,23 @@ fn open_file<H: Host>(
     }
 }
 
-/// The disk of this form in a file that began as is supposed.
+/// Returns the disk of this form in a file that began as supposed.
 ///
 /// # Errors
 ///
-/// The file: `NotVolume` where its length is not that of an image, `Device` where the device failed.
+/// The file: `NotVolume` if its length is not that of an image, `Device` if the device failed.
 fn disk_in<H: Host>(
     host: &H,
     file: H::File,
     form: Form,
-    supposed: Supposition,
+    supposed: AssumedImage,
 ) -> Result<ImageDisk<HostFile>, (ImageFault, HostFile)>
     requires { pos 2 <ℤ (H.facts host.now).number file }
-    ensures supposed { (H.facts host.now).supposed file (unseen_in supposed) }
+    ensures supposed { (H.facts host.now).supposed file (assumed_in supposed) }
     ensures began { IfOk result
-        (λ disk. BeganAs form (unseen_in supposed) (⟦<ImageDisk<HostFile> as Disk>⟧.state disk)) }
+        (λ disk. BeganAs form (assumed_in supposed) (⟦<ImageDisk<HostFile> as Disk>⟧.state disk)) }
     ensures counted { IfOk result (λ disk. (⟦<ImageDisk<HostFile> as Disk>⟧.state disk).failures ≡ 0) }
-    ensures refused { IfErr result (λ refused. IsNoImage form (unseen_in supposed)
+    ensures refused { IfErr result (λ refused. IsNoImage form (assumed_in supposed)
         (⟦<HostFile as Durable>⟧.state refused.1) refused.0) }
 {
     match host.disk_of(file, form, supposed) {
@@ -177,7 +178,7 @@ fn disk_in<H: Host>(
     }
 }
 
-/// The disk of an image of this form at a path, whose file is this process's alone and began as is supposed.
+/// Returns the disk of an image of this form at a path, whose file is locked for this process and began as supposed.
 ///
 /// # Errors
 ///
@@ -189,12 +190,12 @@ pub(crate) fn open_disk<H: Host>(
     access: Access,
     leave: OpeningLeave,
 ) -> Result<ImageDisk<HostFile>, Denied>
-    ensures opened { IfOk result (λ disk. IsOpened (H.facts host.now) path.now (unseen_in leave.supposed)) }
+    ensures opened { IfOk result (λ disk. IsOpened (H.facts host.now) path.now (assumed_in leave.supposed)) }
     ensures began { IfOk result
-        (λ disk. BeganAs form (unseen_in leave.supposed) (⟦<ImageDisk<HostFile> as Disk>⟧.state disk)) }
+        (λ disk. BeganAs form (assumed_in leave.supposed) (⟦<ImageDisk<HostFile> as Disk>⟧.state disk)) }
     ensures counted { IfOk result (λ disk. (⟦<ImageDisk<HostFile> as Disk>⟧.state disk).failures ≡ 0) }
     ensures denied { IfErr result (λ denied. IsDenied (H.facts host.now) (⟦<Run as Seen>⟧.views) path.now form
-        (unseen_in leave.supposed) denied.0 denied.1) }
+        (assumed_in leave.supposed) denied.0 denied.1) }
     ensures undone { IfErr result (λ denied. HasNoDisk denied.1) }
 {
     let (file, supposed) = match open_file(host, path, access, leave) {
@@ -207,7 +208,7 @@ pub(crate) fn open_disk<H: Host>(
     }
 }
 
-/// The same disk, with memory to read more neighbouring blocks by one call of its file, if there is any.
+/// Returns the same disk, with memory to read several neighbouring blocks by one call of its file, if there is memory.
 fn with_room(alloc: Global, disk: ImageDisk<HostFile>) -> ImageDisk<HostFile>
     ensures began { (form : Forms) (u : Unseen) → BeganAs form u (⟦<ImageDisk<HostFile> as Disk>⟧.state disk)
         → BeganAs form u (⟦<ImageDisk<HostFile> as Disk>⟧.state result) }
@@ -217,11 +218,11 @@ fn with_room(alloc: Global, disk: ImageDisk<HostFile>) -> ImageDisk<HostFile>
     disk.with_room(alloc)
 }
 
-/// The same disk, with room to keep blocks of it in memory.
+/// Returns the same disk, with room to cache blocks of it in memory.
 ///
 /// # Errors
 ///
-/// `Memory` where that room isn't found: the disk is as it was.
+/// `Memory` if that room isn't found: the disk is unchanged.
 fn keep_blocks(alloc: Global, disk: ImageDisk<HostFile>) -> Result<Image, Denied>
     ensures began { (form : Forms) (u : Unseen) → BeganAs form u (⟦<ImageDisk<HostFile> as Disk>⟧.state disk)
         → IfOk result (λ image. BeganAs form u (⟦<Cached<ImageDisk<HostFile>> as Disk>⟧.state image)) }
@@ -237,12 +238,12 @@ fn keep_blocks(alloc: Global, disk: ImageDisk<HostFile>) -> Result<Image, Denied
     }
 }
 
-/// The image of this form at a path, whose file is this process's alone and began as is supposed, with room to keep
-/// blocks of it in memory. Nothing of it was read or written yet.
+/// Returns the image of this form at a path, whose file is locked for this process and began as supposed, with room to
+/// cache blocks of it in memory. Nothing of it was read or written yet.
 ///
 /// # Errors
 ///
-/// As of `open_disk`; `Memory` where that room isn't found.
+/// As of `open_disk`; `Memory` if that room isn't found.
 pub(crate) fn open_image<H: Host>(
     host: &H,
     alloc: Global,
@@ -251,32 +252,32 @@ pub(crate) fn open_image<H: Host>(
     access: Access,
     leave: OpeningLeave,
 ) -> Result<Image, Denied>
-    ensures opened { IfOk result (λ image. IsOpened (H.facts host.now) path.now (unseen_in leave.supposed)) }
+    ensures opened { IfOk result (λ image. IsOpened (H.facts host.now) path.now (assumed_in leave.supposed)) }
     ensures began { IfOk result
-        (λ image. BeganAs form (unseen_in leave.supposed) (⟦<Cached<ImageDisk<HostFile>> as Disk>⟧.state image)) }
+        (λ image. BeganAs form (assumed_in leave.supposed) (⟦<Cached<ImageDisk<HostFile>> as Disk>⟧.state image)) }
     ensures counted { IfOk result (λ image. (⟦<Cached<ImageDisk<HostFile>> as Disk>⟧.state image).failures ≡ 0) }
     ensures denied { IfErr result (λ denied. IsDenied (H.facts host.now) (⟦<Run as Seen>⟧.views) path.now form
-        (unseen_in leave.supposed) denied.0 denied.1) }
+        (assumed_in leave.supposed) denied.0 denied.1) }
 {
     let disk = open_disk(host, path, form, access, leave)?;
     let disk = with_room(alloc, disk);
     keep_blocks(alloc, disk)
 }
 
-/// A new file, where there was none, and the right to remove it. It gets the permission bits of the file at `like`, if
-/// one is named, and else those of any new file.
+/// Makes a file at a path, if nothing is there, and returns it with the right to remove it. It gets the permission bits
+/// of the file at `like`, if one is named, and otherwise those of any new file.
 ///
 /// # Errors
 ///
-/// `Exists` where something has that name, `Device` where it can't be made.
+/// `Exists` if something has that name, `Device` if the file can't be made.
 pub(crate) fn new_file<H: Host>(
     host: &H,
     path: &str,
     like: Option<&str>,
     leave: MakingLeave,
-) -> Result<(NewFile<H::File>, Supposition), ImageFault>
+) -> Result<(NewFile<H::File>, AssumedImage), ImageFault>
     ensures made { IfOk result (λ made. (H.facts host.now).created path.now (Ok made.0.file)
-        × (unseen_in made.1 ≡ unseen_in leave.supposed)) }
+        × (assumed_in made.1 ≡ assumed_in leave.supposed)) }
     ensures refused { IfErr result (IsUnmade (H.facts host.now) path.now) }
 {
     match host.create(path, like, leave) {
@@ -289,11 +290,11 @@ pub(crate) fn new_file<H: Host>(
     }
 }
 
-/// Takes a file that was made at a path for this process alone, and fills it with as many blocks of zeros.
+/// Locks a file that was made at a path for this process, and fills it with `blocks` blocks of zeros.
 ///
 /// # Errors
 ///
-/// The system's where it can't be locked or filled, or another process has it.
+/// The system's if it can't be locked or filled, or another process has it.
 fn filled<H: Host>(
     host: &H,
     file: H::File,
@@ -313,11 +314,11 @@ fn filled<H: Host>(
     }
 }
 
-/// The disk, if it has as many blocks as were written.
+/// Returns the disk, if it has as many blocks as were written.
 ///
 /// # Errors
 ///
-/// `WrongLength` where the host has given it another number.
+/// `WrongLength` if the host has given it another number.
 fn as_long(disk: ImageDisk<HostFile>, blocks: u32) -> Result<ImageDisk<HostFile>, NotMade>
     ensures same { IfOk result (λ long. (long ≡ disk)
         × ((⟦<ImageDisk<HostFile> as Disk>⟧.state long).size ≡ blocks)) }
@@ -335,27 +336,27 @@ fn as_long(disk: ImageDisk<HostFile>, blocks: u32) -> Result<ImageDisk<HostFile>
     }
 }
 
-/// The disk of as many blocks of zeros in a file that was made at a path.
+/// Returns the disk of `blocks` blocks of zeros in a file that was made at a path.
 ///
 /// # Errors
 ///
-/// `Device` where the file can't be written, or another process has it.
+/// `Device` if the file can't be written, or another process has it.
 pub(crate) fn zeros_in<H: Host>(
     host: &H,
     file: H::File,
     path: &str,
     form: Form,
     blocks: u32,
-    supposed: Supposition,
+    supposed: AssumedImage,
 ) -> Result<ImageDisk<HostFile>, NotMade>
     requires { (H.facts host.now).created path.now (Ok file) }
     ensures made { IfOk result (λ disk. IsNewDisk (H.facts host.now) (⟦<Run as Seen>⟧.views) path.now form
-        blocks (unseen_in supposed) disk) }
+        blocks (assumed_in supposed) disk) }
     ensures began { IfOk result
-        (λ disk. BeganAs form (unseen_in supposed) (⟦<ImageDisk<HostFile> as Disk>⟧.state disk)) }
+        (λ disk. BeganAs form (assumed_in supposed) (⟦<ImageDisk<HostFile> as Disk>⟧.state disk)) }
     ensures counted { IfOk result (λ disk. (⟦<ImageDisk<HostFile> as Disk>⟧.state disk).failures ≡ 0) }
     ensures denied { IfErr result (λ denied. IsNotMade (H.facts host.now) (⟦<Run as Seen>⟧.views) path.now form
-        blocks (unseen_in supposed) denied.0 denied.1) }
+        blocks (assumed_in supposed) denied.0 denied.1) }
 {
     let file = match filled(host, file, path, form, blocks) {
         Ok(file) => file,
@@ -367,11 +368,11 @@ pub(crate) fn zeros_in<H: Host>(
     }
 }
 
-/// Makes an empty volume of this layout on the disk of a new image, and hands it back.
+/// Makes an empty volume of this layout on the disk of a new image, and hands the disk back.
 ///
 /// # Errors
 ///
-/// `NotVolume` where the disk has a number of blocks that is no volume's, `Device` where the device failed.
+/// `NotVolume` if no volume has that number of blocks, `Device` if the device failed.
 fn volume_on(
     disk: ImageDisk<HostFile>,
     blocks: u32,
@@ -398,35 +399,35 @@ fn volume_on(
     }
 }
 
-/// Makes this volume in a file that was made at a path.
+/// Makes this volume in a file that was made at a path, and returns its disk.
 ///
 /// # Errors
 ///
-/// `Device` where the file can't be written, or another process has it.
+/// `Device` if the file can't be written, or another process has it.
 fn volume_in<H: Host>(
     host: &H,
     file: H::File,
     path: &str,
     volume: &NewVolume,
-    supposed: Supposition,
+    supposed: AssumedImage,
 ) -> Result<ImageDisk<HostFile>, NotMade>
     requires { (H.facts host.now).created path.now (Ok file) }
     ensures made { IfOk result (λ disk. IsNewDisk (H.facts host.now) (⟦<Run as Seen>⟧.views) path.now
-        volume.now.form volume.now.blocks (unseen_in supposed) disk) }
+        volume.now.form volume.now.blocks (assumed_in supposed) disk) }
     ensures empty { IfOk result (λ disk. IsEmptyVolume volume.now.layout (⟦<ImageDisk<HostFile> as Disk>⟧.state disk)) }
     ensures denied { IfErr result (λ denied. IsNotMade (H.facts host.now) (⟦<Run as Seen>⟧.views) path.now
-        volume.now.form volume.now.blocks (unseen_in supposed) denied.0 denied.1) }
+        volume.now.form volume.now.blocks (assumed_in supposed) denied.0 denied.1) }
 {
     let disk = zeros_in(host, file, path, volume.form, volume.blocks, supposed)?;
     volume_on(disk, volume.blocks, volume.layout)
 }
 
-/// Makes an image with this volume, which has no directory. All of its blocks are written. The right to remove its file
-/// is handed back with its disk.
+/// Makes an image with this volume, which has no directory. All of its blocks are written. Its disk is returned with
+/// the right to remove its file.
 ///
 /// # Errors
 ///
-/// `Exists` where something has that name; it is left alone. `Device` where the file can't be made or written; it is
+/// `Exists` if something has that name, which is left alone. `Device` if the file can't be made or written; it is
 /// removed then.
 pub(crate) fn make_image<H: Host>(
     host: &H,
@@ -435,11 +436,11 @@ pub(crate) fn make_image<H: Host>(
     leave: MakingLeave,
 ) -> Result<(ImageDisk<HostFile>, RemovalRight), NotMade>
     ensures made { IfOk result (λ made. IsNewDisk (H.facts host.now) (⟦<Run as Seen>⟧.views) path.now
-        volume.now.form volume.now.blocks (unseen_in leave.supposed) made.0) }
+        volume.now.form volume.now.blocks (assumed_in leave.supposed) made.0) }
     ensures empty { IfOk result (λ made. IsEmptyVolume volume.now.layout
         (⟦<ImageDisk<HostFile> as Disk>⟧.state made.0)) }
     ensures denied { IfErr result (λ denied. IsNotMade (H.facts host.now) (⟦<Run as Seen>⟧.views) path.now
-        volume.now.form volume.now.blocks (unseen_in leave.supposed) denied.0 denied.1) }
+        volume.now.form volume.now.blocks (assumed_in leave.supposed) denied.0 denied.1) }
 {
     let (made, supposed) = match new_file(host, path, None, leave) {
         Ok(made) => made,

@@ -1,8 +1,9 @@
+//! A reader that counts lines and remembers its fault.
 ghost use Rattle.std.specs.Prelude.{◌≡◌, None};
 
 use std::io::{self, Read};
 
-/// A reader that knows the line that it is in, and why it failed.
+/// A reader that knows the number of its line, and why it failed.
 #[derive(Drop)]
 pub struct LineReader<R: Read> {
     reader: R,
@@ -11,7 +12,7 @@ pub struct LineReader<R: Read> {
 }
 
 impl<R: Read> LineReader<R> {
-    /// The lines of this reader, from the first one on.
+    /// Returns the lines of this reader, from the first one.
     pub fn new(reader: R) -> Self
         ensures { (result.reader ≡ reader) × (result.fault ≡ None) }
     {
@@ -22,7 +23,7 @@ impl<R: Read> LineReader<R> {
         }
     }
 
-    /// Why the input broke off, where it did, and the number of the line that it broke off in: decimal, from 1 on.
+    /// Returns why the input broke off, if it did, and the number of the line in which it did: decimal, from 1.
     pub(crate) fn fault(&self) -> Option<(u64, io::Error)> {
         match self.fault {
             Some(fault) => Some((self.line, fault)),
@@ -31,7 +32,7 @@ impl<R: Read> LineReader<R> {
     }
 }
 
-/// How many lines end in these bytes.
+/// Returns how many lines end in these bytes.
 fn ends_in(bytes: &[u8]) -> u64 {
     bytes.iter().filter(|byte| **byte == b'\n').count() as u64
 }

@@ -1,3 +1,4 @@
+//! The files that are lost on a disk that a start refused, as `check` reports them.
 ghost use Rattle.std.specs.Prelude.{◌≡◌, IsTrue};
 ghost use Rattle.filser.specs.Common.{IsGivenBack, IsSearched};
 ghost use Rattle.filser.specs.declared.task.Task.TheVariants.{Check};
@@ -13,21 +14,21 @@ use std::io::Write;
 use volume::VolumeError;
 use words36::{FileName, Ppn, text_of};
 
-/// How often the search for lost files reads a block, all in all: more often than it has to unless files and directories
-/// have blocks in common.
+/// How often the search for lost files reads a block on average, at most: more often than needed unless files and
+/// directories share blocks.
 const READS_PER_BLOCK: u64 = 16;
 
-/// How many faults are told at most.
+/// How many faults are reported at most.
 const MOST_TOLD: usize = 100;
 
 /// A file of a directory, as a line names it: `FOO.TXT[10,20]`.
 #[derive(Clone, Copy, Debug)]
-struct Place {
+struct FilePlace {
     owner: Ppn,
     name: FileName,
 }
 
-impl Display for Place {
+impl Display for FilePlace {
     fn fmt<W: fmt::Write>(&self, f: &mut Formatter<W>) -> fmt::Result {
         let name = text_of(self.name.name);
         write_part(f, &name)?;
@@ -48,16 +49,16 @@ fn write_part<W: fmt::Write>(f: &mut Formatter<W>, part: &[u8]) -> fmt::Result {
     Ok(())
 }
 
-/// Tells people which file a fault costs, if it costs one.
+/// Reports which file a fault costs, if it costs one.
 fn tell_loss<E: Write>(errors: &mut E, finding: Finding) {
     let Finding { fault, costs } = finding;
     let _ = match costs {
         Cost::File(owner, name) => {
-            let place = Place { owner, name };
+            let place = FilePlace { owner, name };
             writeln!(errors, "filser: {place}: {fault}")
         }
         Cost::Unnamed(owner, name) => {
-            let place = Place { owner, name };
+            let place = FilePlace { owner, name };
             writeln!(errors, "filser: {place}, in no directory: {fault}")
         }
         Cost::Directory(owner) => writeln!(errors, "filser: {owner}: {fault}"),
@@ -66,12 +67,12 @@ fn tell_loss<E: Write>(errors: &mut E, finding: Finding) {
     };
 }
 
-/// Tells people which command says more.
+/// Reports which command shows more.
 fn tell_elsewhere<E: Write>(errors: &mut E, what: &str) {
     let _ = writeln!(errors, "filser: {what}: see filser salvage --list");
 }
 
-/// Tells people which files these faults cost: of a few of them.
+/// Reports which files these faults cost, up to `MOST_TOLD` of them.
 fn tell_findings<E: Write>(errors: &mut E, findings: &[Finding]) {
     let (told, others) = findings.split_at(findings.len().min(MOST_TOLD));
     for finding in told {
@@ -86,8 +87,9 @@ fn tell_findings<E: Write>(errors: &mut E, findings: &[Finding]) {
 ///
 /// # Errors
 ///
-/// `NotVolume` if it has a number of blocks that no volume has; `Device` if a block couldn't be read, or if the faults lead
-/// to the same blocks again and again; `NoMemory` if there is none: it takes twice what the disk holds.
+/// `NotVolume` if it has a number of blocks that no volume has; `Device` if a block couldn't be read, or if the faults
+/// lead to the same blocks again and again; `NoMemory` if there is no memory: the search takes twice what the disk
+/// holds.
 fn search<D: Disk>(alloc: Global, disk: &mut D) -> Result<Survey, SalvageError>
     ensures { IsSearched (D.state disk.old) (D.state disk.new) }
 {
@@ -104,7 +106,7 @@ fn search<D: Disk>(alloc: Global, disk: &mut D) -> Result<Survey, SalvageError>
     survey_disk(alloc, &mut copy)
 }
 
-/// Tells people which files the faults of a disk cost.
+/// Reports which files the faults of a disk cost.
 fn tell_losses<D: Disk, E: Write>(alloc: Global, disk: &mut D, errors: &mut E)
     ensures { IsSearched (D.state disk.old) (D.state disk.new) }
 {
@@ -116,7 +118,7 @@ fn tell_losses<D: Disk, E: Write>(alloc: Global, disk: &mut D, errors: &mut E)
     }
 }
 
-/// Whether files may be lost by what a start was refused for.
+/// Returns whether the cause of a start's refusal may cost files.
 fn may_cost_files(error: VolumeError) -> bool {
     match error {
         VolumeError::NotVolume
@@ -133,7 +135,7 @@ fn may_cost_files(error: VolumeError) -> bool {
     }
 }
 
-/// Whether a disk that a start refused is searched for files that are lost.
+/// Returns whether a disk that a start refused is searched for lost files.
 fn is_searched(task: Task, error: VolumeError) -> bool
     ensures { IsTrue result → task ≡ Check }
 {
@@ -143,7 +145,7 @@ fn is_searched(task: Task, error: VolumeError) -> bool
     }
 }
 
-/// Hands a disk back that a start refused. If the task is to check it, people are told first which files are lost.
+/// Hands back a disk that a start refused. If the task is to check it, the lost files are reported first.
 pub(crate) fn give_back<D: Disk, E: Write>(
     alloc: Global,
     disk: D,

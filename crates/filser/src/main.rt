@@ -1,66 +1,64 @@
-//! The program: what its arguments ask for, and a run of it. What the layer keeps:
+//! The program: what its arguments ask for, and a run of it. What this layer guarantees:
 //!
-//! 1. The command line is a value of `clap`'s, and a definition says which. (`arguments`)
-//! 2. `request` answers Ok only with what `clap` matches: the subcommand, its texts and its numbers are
-//!    a function of the words, and each number is decimal and in its range. (`asked`, `range`, `taken`)
-//! 3. `Usage` comes only where `clap` refuses the words, or is asked for help or the version, and with
-//!    that kind, or for a date that names no day; `BadArgument` only where the words are taken and ask for nothing, and
-//!    the argument that it names isn't what it should be. (`usage`, `bad`)
-//! 4. Why a run ends before a line is served is shown as the definition has it, byte by byte, and the
-//!    status of such a run is the definition's. (`specs/Refusals.antt`)
-//! 5. `work` is a whole run: it ends, takes nothing but what it is handed, and answers a status from 0 to 4. `main`
-//!    holds the numbers of the standard streams that are missing, asks whether the standard error is a terminal, hands
-//!    `work` the streams and the host's files, drops what is left of the images, and does nothing else, except that it
-//!    tells why there are no arguments or no numbers.
+//! 1. The command line is a value of `clap`'s, fixed by a definition. (`arguments`)
+//! 2. `request` returns Ok only with what `clap` matches: the subcommand, its texts and its numbers are a function of
+//!    the words, and each number is decimal and in its range. (`asked`, `range`, `taken`)
+//! 3. `Usage` is returned only if `clap` refuses the words, or they ask for help or the version, and with that kind, or
+//!    for a date that names no day; `BadArgument` only if the words are accepted and make no request, and the
+//!    argument that it names isn't valid. (`usage`, `bad`)
+//! 4. If a run ends before a line is served, the reason is shown as the definition requires, byte by byte, and the
+//!    run's status is the definition's. (`specs/Refusals.antt`)
+//! 5. `work` is a whole run: it ends, uses nothing but what it is handed, and returns a status from 0 to 4. `main`
+//!    takes the numbers of the standard streams that are missing, checks whether the standard error is a terminal,
+//!    hands `work` the streams and the host's files, drops what is left of the images, and does nothing else, except
+//!    that it reports why there are no arguments or no numbers.
 //! 6. Files are reached through `Host` alone: generic code can't truncate one, write to one except through its disk, or
-//!    remove one that it didn't make. What was asked of the host can be shown only by asking. (`HostFacts`) A run can
-//!    open one file and make one, and hands back the leave that it didn't use. (`Leaves`)
-//! 7. The file of an image was opened at its path, has the number of no standard stream, and is locked.
-//!    (`IsOpened`) The disk that is served is that file's from before its first call. (`IsOnImage`)
-//! 8. Every task on an image is done by one function, `serve`: it starts a service on the disk, or says why there is
-//!    none, and hands the disk back. (`IsTaskRun`) Only a check reads a disk that was refused, and writes nothing to it.
-//!    (`IsGivenBack`) A new image has the layout that was asked for. (`IsEmptyVolume`)
-//!    A migration writes the home copies alone, and its line is printed only if the volume has layout 2.
-//!    (`IsMigrationRun`)
+//!    remove one that it didn't make. A call of the host can be shown only by making it. (`HostFacts`) A run can open
+//!    one file and make one, and hands back the leave that it didn't use. (`Leaves`)
+//! 7. The file of an image was opened at its path, doesn't have the number of a standard stream, and is locked.
+//!    (`IsOpened`) The disk that is served has been that file's since before its first call. (`IsOnImage`)
+//! 8. Every task on an image is done by one function, `serve`: it starts a service on the disk, or reports why there is
+//!    none, and hands the disk back. (`IsTaskRun`) Only a check reads a disk that was refused, and it writes nothing to
+//!    it. (`IsGivenBack`) A new image has the requested layout. (`IsEmptyVolume`) A migration changes the home copies
+//!    alone, besides gate and log, and its line is printed only if the volume has layout 2. (`IsMigrationRun`)
 //! 9. A refusal has its cause (`IsDenied`, `IsNotMade`), and its line is printed whole, or a beginning of it if the
 //!    writer fails. (`IsExplained`, `IsLine`)
-//! 10. A run hands back the images that it worked on, so that its contract says what became of them. (`WasRun`)
-//! 11. Words that ask for nothing print nothing into a file that one of them names. (`SparesNamed`)
+//! 10. A run hands back the images that it worked on, so that its contract states what became of them. (`WasRun`)
+//! 11. Words that make no request print nothing into a file that one of them names. (`SparesNamed`)
 //!
 //! What an image stands for, and what a line does, is not known here.
 #![tactic(auto)]
 
-mod asked;
 mod convert;
 mod disks;
 mod error;
 mod escaped;
-mod exporting;
+mod export_image;
 mod fault;
+mod free_streams;
 mod host;
 mod identity;
 mod image;
-mod importing;
+mod import_image;
 mod lines;
 mod losses;
 mod message;
-mod migrating;
+mod migrate_image;
 mod outcome;
 mod output;
+mod parse_request;
 mod program;
 mod progress;
-mod reading;
 mod reasons;
 mod refusal;
-mod salvaging;
+mod request;
+mod salvage_image;
 mod seen;
-mod serving;
-mod sparing;
+mod serve_image;
 mod status;
 mod streams;
 mod task;
 
-pub use asked::Request;
 pub use collection::{ExportTask, ImportTask};
 pub use disks::Disks;
 pub use error::{RequestError, WrongArgument};
@@ -72,10 +70,11 @@ pub use lines::LineReader;
 pub use message::Message;
 pub use outcome::{Leaves, Run};
 pub use output::{OutputFault, OutputWriter};
+pub use parse_request::request;
 pub use program::work;
 pub use progress::Telling;
-pub use reading::request;
 pub use refusal::Refusal;
+pub use request::Request;
 pub use seen::{Image, ImageDisks, NewDisks, Seen};
 pub use status::Status;
 use std::env::{self, FillError};
@@ -90,7 +89,8 @@ pub use task::{NamedFile, Task};
 /// How many bytes the path of a file has at most, with its end.
 const PATH_BYTES: usize = 4096;
 
-/// Runs the program on its arguments and the standard streams, whose numbers are held before anything else is opened.
+/// Runs the program on its arguments and the standard streams. The numbers of missing streams are taken before anything
+/// else is opened.
 fn main(rt: HostRuntime) -> ExitCode {
     let code = match MissingStreams::hold(&rt) {
         Ok(missing) => match run(&rt, &missing) {
@@ -98,33 +98,33 @@ fn main(rt: HostRuntime) -> ExitCode {
             Err(error) => tell_unread(&rt, &error),
         },
         Err(error) => {
-            tell(&rt, &format_args!("filser: /: {error}"));
+            report(&rt, &format_args!("filser: /: {error}"));
             Status::Fault.code()
         }
     };
     ExitCode::from(code)
 }
 
-/// Tells people why the arguments couldn't be had, and answers the status of a run without any.
+/// Reports why the arguments couldn't be read, and returns the status of a run without arguments.
 fn tell_unread(rt: &HostRuntime, error: &io::Error) -> u8 {
     if error.kind() == ErrorKind::OutOfMemory {
-        tell(rt, &"filser: out of memory");
+        report(rt, &"filser: out of memory");
         Status::Fault.code()
     } else {
-        tell(rt, &"?Bad argument\nfilser: an argument isn't UTF-8");
+        report(rt, &"?Bad argument\nfilser: an argument isn't UTF-8");
         Status::BadArguments.code()
     }
 }
 
-/// Tells people why there is no run, unless that would land in a file that an argument names.
-fn tell<T: Display>(rt: &HostRuntime, what: &T) {
+/// Reports why there is no run, unless that would land in a file that an argument names.
+fn report<T: Display>(rt: &HostRuntime, what: &T) {
     if !leads_to_argument(rt) {
         let _ = eprintln!(rt; "{what}");
     }
 }
 
-/// Whether the standard error leads to a file that an argument names. The arguments are read one by one, into a buffer
-/// that has room for any path, since there may be no memory for them.
+/// Returns whether the standard error leads to a file that an argument names. The arguments are read one by one, into a
+/// buffer that has room for any path, since there may be no memory for them.
 fn leads_to_argument(rt: &HostRuntime) -> bool {
     let (host, _, _) = SystemHost::new(rt);
     let mut bytes = [0; PATH_BYTES];
@@ -138,12 +138,13 @@ fn leads_to_argument(rt: &HostRuntime) -> bool {
     false
 }
 
-/// Whether the standard error leads to the file that an argument of these bytes names. One that isn't text names none.
+/// Returns whether the standard error leads to the file that an argument of these bytes names. An argument that isn't
+/// text names no file.
 fn names_errors<H: Host>(host: &H, argument: &[u8]) -> bool {
     str::from_utf8(argument).is_ok_and(|path| is_at_errors(host, path))
 }
 
-/// The status of a run, or why there are no arguments: one isn't text, or memory ran out.
+/// Does a run and returns its status, or why there are no arguments: one isn't text, or memory ran out.
 fn run(rt: &HostRuntime, missing: &MissingStreams) -> io::Result<u8> {
     let alloc = rt.alloc();
     let words: Vec<String> = env::args(rt)?.collect(alloc)?;

@@ -1,3 +1,4 @@
+//! The lines that a run prints.
 ghost use Rattle.std.specs.Prelude.{◌≡◌, ◌⊎◌, ◌∷◌, ◌++◌, []};
 ghost use Rattle.std.specs.Fmt.{decimal};
 ghost use Rattle.spec_language.specs.Common.{feed};
@@ -58,8 +59,8 @@ fn write_line<W: Write>(writer: &mut W, message: &Message) -> Result<(), Session
     write_text(writer, b"\n")
 }
 
-/// Prints a line, and answers how a run ends that has no more to print: with this status, or with a fault if the writer
-/// failed, which holds a beginning of the line then. It takes no memory.
+/// Prints a line, and returns the status of a run that prints nothing more: this one, or a fault if the writer failed,
+/// which then holds a beginning of the line. It takes no memory.
 pub(crate) fn print_line<W: Write>(writer: &mut W, message: &Message, status: Status) -> Status
     ensures printed { IsLine (W.contents writer.old) (W.contents writer.new) result (status_code status)
         (message_text message.now) }

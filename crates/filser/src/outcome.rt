@@ -1,10 +1,11 @@
+//! How a run ends, and what is left of the things it worked on.
 use crate::{ImageDisks, MakingLeave, NewDisks, OpeningLeave, Status};
 use blockdisk::MemDisk;
 
-/// What a run may ask the host for: one file that is there, and one that it makes.
+/// What a run may request from the host: one existing file, and one that it makes.
 #[derive(Drop)]
 pub struct Leaves {
-    /// To open the image that is there.
+    /// To open the existing image.
     pub image: OpeningLeave,
     /// To make a new one.
     pub new: MakingLeave,
@@ -15,9 +16,9 @@ pub struct Leaves {
 pub(crate) struct Outcome {
     /// How it ended.
     pub(crate) status: Status,
-    /// Of the image that is there.
+    /// What is left of the existing image.
     pub(crate) image: ImageDisks,
-    /// Of the image that is made.
+    /// What is left of the new image.
     pub(crate) new: NewDisks,
     /// The volume in memory.
     pub(crate) memory: Option<MemDisk>,
@@ -28,9 +29,9 @@ pub(crate) struct Outcome {
 pub struct Run {
     /// The exit status: 0 to 4.
     pub code: u8,
-    /// Of the image that is there.
+    /// What is left of the existing image.
     pub image: ImageDisks,
-    /// Of the image that is made.
+    /// What is left of the new image.
     pub new: NewDisks,
     /// The volume in memory.
     pub memory: Option<MemDisk>,

@@ -1,20 +1,21 @@
+//! A writer that remembers its first fault.
 ghost use Rattle.std.specs.Prelude.{◌≡◌, None};
 
 use std::io::{self, Write};
 use thiserror::Error;
 
-/// Why the standard output failed, as people are told on the standard error.
+/// Why the standard output failed, as reported on the standard error.
 #[derive(Clone, Copy, Debug, Error)]
 pub enum OutputFault {
-    /// A call of the system's failed.
+    /// A system call failed.
     #[error(transparent)]
     System(io::Error),
-    /// It took no byte of some.
+    /// It was given bytes and took none.
     #[error("it can't be written")]
     NoByte,
 }
 
-/// A writer that knows why it failed first.
+/// A writer that knows why it first failed.
 #[derive(Drop)]
 pub struct OutputWriter<W: Write> {
     writer: W,
@@ -22,7 +23,7 @@ pub struct OutputWriter<W: Write> {
 }
 
 impl<W: Write> OutputWriter<W> {
-    /// What this writer takes. It has not failed yet.
+    /// Returns a writer that passes what it takes to this one. It has not failed yet.
     pub fn new(writer: W) -> Self
         ensures { (result.writer ≡ writer) × (result.fault ≡ None) }
     {
@@ -32,12 +33,12 @@ impl<W: Write> OutputWriter<W> {
         }
     }
 
-    /// Why it failed first, if it did.
+    /// Returns why it first failed, if it did.
     pub(crate) fn fault(&self) -> Option<OutputFault> {
         self.fault
     }
 
-    /// Keeps a fault, unless one came before.
+    /// Records a fault, unless there was one before.
     fn keep(&mut self, fault: OutputFault)
         ensures { self.new.writer ≡ self.old.writer }
     {

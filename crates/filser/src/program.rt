@@ -1,15 +1,16 @@
+//! A whole run of the program, by the words of its command line.
 ghost use Rattle.std.specs.Prelude.{◌≡◌, ◌≢◌, ◌⊎◌, ◌≤◌, ℕ, List, [], map, true, Option, None, Some, IfSome};
 ghost use Rattle.std.specs.Prelude.{MatchOption, MatchResult, IsFalse, drop};
 ghost use Rattle.std.specs.Io.KnownBytes.{Keeps};
 ghost use Rattle.clap.specs.Words.{fault_of, kind_of, subcommand_of};
 ghost use Rattle.clap.specs.declared.error.Error.{Error as Errors};
 ghost use Rattle.arguments.specs.CommandLine.{command_line};
-ghost use Rattle.imagefile.specs.Common.{unseen_in};
+ghost use Rattle.imagefile.specs.Common.{assumed_in};
 ghost use Rattle.filser.specs.Common.{IsExplained, AreMistaken, AskToSee, EndsUnasked, AsksForHelp, forbids_errors};
 ghost use Rattle.filser.specs.Common.{IsOnNew, Asks, InRange, image_named, IsApart, IsHandled, IsRequestRun, WasRun};
 ghost use Rattle.filser.specs.Common.{status_code, IsStreamAt};
 ghost use Rattle.filser.specs.declared.disks.Disks.TheVariants.{Unasked};
-ghost use Rattle.filser.specs.declared.asked.Request.{Request as Asked};
+ghost use Rattle.filser.specs.declared.request.Request.{Request as Asked};
 ghost use Rattle.filser.specs.declared.error.WrongArgument.{WrongArgument as WrongArguments};
 ghost use Rattle.filser.specs.declared.error.RequestError.TheVariants.{BadArgument, NoMemory, Usage};
 ghost use Rattle.filser.specs.declared.status.Status.{Status as Statuses};
@@ -17,17 +18,17 @@ ghost use Rattle.filser.specs.declared.status.Status.TheVariants.{Done, BadArgum
 
 use crate::convert::{Conversion, convert_image};
 use crate::escaped::EscapedLines;
-use crate::exporting::export_image;
+use crate::export_image::export_image;
 use crate::fault::{report, tell_fault, tell_no_memory};
+use crate::free_streams::FreeStreams;
 use crate::image::{NamedImage, NewVolume, make_image};
-use crate::importing::import_image;
+use crate::import_image::import_image;
 use crate::lines::LineReader;
-use crate::migrating::migrate_image;
+use crate::migrate_image::migrate_image;
 use crate::outcome::Outcome;
 use crate::output::OutputWriter;
-use crate::salvaging::salvage_image;
-use crate::serving::{say, serve_fresh, serve_image};
-use crate::sparing::FreeStreams;
+use crate::salvage_image::salvage_image;
+use crate::serve_image::{say, serve_fresh, serve_image};
 use crate::streams::{Streams, is_at_errors, stream_at};
 use crate::{
     Disks, Host, HostFault, ImageDisks, ImageFault, Leaves, MakingLeave, MissingStreams, NewDisks,
@@ -38,14 +39,14 @@ use clap::Error;
 use std::alloc::Global;
 use std::io::{self, Read, Write};
 
-/// A whole run of the program: reads the words, the first of which is its name, does what they ask for over the files
-/// of the host, and answers the exit status, 0 to 4, with what is left of the images. Texts go to `writer`. To `errors`
-/// go those on wrong arguments, why the host didn't give what was asked of an image, that the date is past what a
-/// volume has, which lines of the input were refused, why it can't be a file, and the line that it broke off in; and,
-/// if `telling` says so, how far a conversion is.
+/// Performs a whole run of the program: reads the words, the first of which is the program's name, does what they ask
+/// for with the files of the host, and returns the exit status, 0 to 4, with what is left of the images. Texts are
+/// printed to `writer`. Reported to `errors` are: wrong arguments; why the host refused a call on an image; that the
+/// date is past the dates of the volume; which lines of the input were refused; why the input can't be a file; the line
+/// in which it broke off; and, if `telling` requires it, the progress of a conversion.
 ///
-/// Where several faults stand, the first of these is met: the arguments, a new file that is there, a file
-/// that can't be opened or made or that another process has, its size, the start, the input.
+/// If there are several faults, the first of these is met: the arguments, a new file that exists already, a file that
+/// can't be opened or made or that another process has, its size, the start, the input.
 pub fn work<H: Host, R: Read, W: Write, E: Write>(
     host: &H,
     alloc: Global,
@@ -69,8 +70,8 @@ pub fn work<H: Host, R: Read, W: Write, E: Write>(
         × WasRun (H.facts host.now) (⟦<Run as Seen>⟧.views) missing.now (record {
           opening = leaves.image;
           making = leaves.new;
-          u = unseen_in leaves.image.supposed;
-          v = unseen_in leaves.new.supposed;
+          u = assumed_in leaves.image.supposed;
+          v = assumed_in leaves.new.supposed;
           image = result.image;
           new = result.new;
           memory = result.memory;
@@ -96,8 +97,8 @@ pub fn work<H: Host, R: Read, W: Write, E: Write>(
     }
 }
 
-/// Tells people why the input broke off, and why the output failed, if they did, unless that would land in a file that
-/// the words name.
+/// Reports why the input broke off, and why the output failed, if they did, unless that would land in a file that the
+/// words name.
 fn tell_streams<H: Host, R: Read, W: Write, E: Write>(
     host: &H,
     words: &[&str],
@@ -117,7 +118,7 @@ fn tell_streams<H: Host, R: Read, W: Write, E: Write>(
     }
 }
 
-/// Tells people why the input broke off, and in which line, if it has lines.
+/// Reports why the input broke off, and in which line, if the input has lines.
 fn tell_input<E: Write>(errors: &mut E, words: &[&str], line: u64, fault: &io::Error) {
     if has_lines(words) {
         report(
@@ -130,7 +131,7 @@ fn tell_input<E: Write>(errors: &mut E, words: &[&str], line: u64, fault: &io::E
     }
 }
 
-/// Whether the input of a run with these words has lines. That of `wire` has records.
+/// Returns whether the input of a run with these words has lines. That of `wire` has records.
 fn has_lines(words: &[&str]) -> bool {
     match words {
         [_, command, ..] => *command != "wire",
@@ -138,7 +139,7 @@ fn has_lines(words: &[&str]) -> bool {
     }
 }
 
-/// The exit status of a run, all of whose text could be written or not.
+/// Returns the exit status of a run, by its status and by whether its whole text could be written.
 fn exit_code(status: Status, flushed: io::Result<()>) -> u8
     ensures { MatchResult flushed (λ unit. result ≡ status_code status) (λ error. result ≡ 4) }
 {
@@ -148,7 +149,7 @@ fn exit_code(status: Status, flushed: io::Result<()>) -> u8
     }
 }
 
-/// A run that asked nothing of the host.
+/// Returns the outcome of a run that opened and made no file.
 fn without_disks(status: Status, leaves: Leaves) -> Outcome
     ensures { result ≡ record {
       status = status;
@@ -165,7 +166,7 @@ fn without_disks(status: Status, leaves: Leaves) -> Outcome
     }
 }
 
-/// Does what the words ask for, or says why they ask for nothing that is done.
+/// Does what the words ask for, or reports why they make no request.
 fn answer<H: Host, R: Read, W: Write, E: Write>(
     host: &H,
     alloc: Global,
@@ -184,8 +185,8 @@ fn answer<H: Host, R: Read, W: Write, E: Write>(
     ensures ran { WasRun (H.facts host.now) (⟦<Run as Seen>⟧.views) missing.now (record {
       opening = leaves.image;
       making = leaves.new;
-      u = unseen_in leaves.image.supposed;
-      v = unseen_in leaves.new.supposed;
+      u = assumed_in leaves.image.supposed;
+      v = assumed_in leaves.new.supposed;
       image = result.image;
       new = result.new;
       memory = result.memory;
@@ -204,7 +205,7 @@ fn answer<H: Host, R: Read, W: Write, E: Write>(
     }
 }
 
-/// Does what is asked for, unless that would print into the image, or there is nothing to read or to print to.
+/// Serves the request, unless that would print into the image, or there is nothing to read from or to print to.
 fn start<H: Host, R: Read, W: Write, E: Write>(
     host: &H,
     alloc: Global,
@@ -219,8 +220,8 @@ fn start<H: Host, R: Read, W: Write, E: Write>(
     ensures ran { IsHandled (H.facts host.now) (⟦<Run as Seen>⟧.views) missing.now (record {
       opening = leaves.image;
       making = leaves.new;
-      u = unseen_in leaves.image.supposed;
-      v = unseen_in leaves.new.supposed;
+      u = assumed_in leaves.image.supposed;
+      v = assumed_in leaves.new.supposed;
       image = result.image;
       new = result.new;
       memory = result.memory;
@@ -239,7 +240,7 @@ fn start<H: Host, R: Read, W: Write, E: Write>(
     perform(host, alloc, asked, telling, leaves, streams)
 }
 
-/// Tells people that there is nothing to read or to print to, unless that would land in the file that has the name of a
+/// Reports that there is nothing to read from or to print to, unless that would land in the file that has the name of a
 /// new image.
 fn tell_closed<H: Host, E: Write>(host: &H, asked: &Request<'_>, errors: &mut E) {
     if let Request::Convert(_, new, _) = asked
@@ -250,7 +251,7 @@ fn tell_closed<H: Host, E: Write>(host: &H, asked: &Request<'_>, errors: &mut E)
     report(errors, "standard input or output", &"it is closed");
 }
 
-/// The path of the image that is named, and the standard stream that leads to it, where one does.
+/// Returns the path of the image that is named, and the standard stream that leads to it, if one does.
 fn stream_named<'a, H: Host>(host: &H, asked: &Request<'a>) -> Option<(&'a str, HostFault)>
     ensures { MatchOption result (IsApart (H.facts host.now) (image_named asked.now))
         (λ found. (image_named asked.now ≡ Some found.0.now)
@@ -261,7 +262,7 @@ fn stream_named<'a, H: Host>(host: &H, asked: &Request<'a>) -> Option<(&'a str, 
     Some((path, stream))
 }
 
-/// Does what is asked for.
+/// Serves the request.
 fn perform<H: Host, R: Read, W: Write, E: Write>(
     host: &H,
     alloc: Global,
@@ -275,8 +276,8 @@ fn perform<H: Host, R: Read, W: Write, E: Write>(
     ensures ran { IsRequestRun (H.facts host.now) (⟦<Run as Seen>⟧.views) (record {
       opening = leaves.image;
       making = leaves.new;
-      u = unseen_in leaves.image.supposed;
-      v = unseen_in leaves.new.supposed;
+      u = assumed_in leaves.image.supposed;
+      v = assumed_in leaves.new.supposed;
       image = result.image;
       new = result.new;
       memory = result.memory;
@@ -327,7 +328,7 @@ fn perform<H: Host, R: Read, W: Write, E: Write>(
     }
 }
 
-/// A run on a volume in memory alone.
+/// Returns the outcome of a run on a volume in memory alone.
 fn on_memory(served: (Status, Option<MemDisk>), leaves: Leaves) -> Outcome
     ensures { result ≡ record {
       status = served.0;
@@ -344,7 +345,7 @@ fn on_memory(served: (Status, Option<MemDisk>), leaves: Leaves) -> Outcome
     }
 }
 
-/// A run on an image that is there alone.
+/// Returns the outcome of a run on an existing image alone.
 fn on_image(served: (Status, ImageDisks), leave: MakingLeave) -> Outcome
     ensures { result ≡ record { status = served.0; image = served.1; new = Unasked leave; memory = None } }
 {
@@ -356,7 +357,7 @@ fn on_image(served: (Status, ImageDisks), leave: MakingLeave) -> Outcome
     }
 }
 
-/// A run that made an image alone.
+/// Returns the outcome of a run that only made an image.
 fn on_new(made: (Status, NewDisks), leave: OpeningLeave) -> Outcome
     ensures { result ≡ record { status = made.0; image = Unasked leave; new = made.1; memory = None } }
 {
@@ -368,7 +369,7 @@ fn on_new(made: (Status, NewDisks), leave: OpeningLeave) -> Outcome
     }
 }
 
-/// Makes an image, or says why there is none.
+/// Makes an image, or reports why it isn't made.
 fn init_image<H: Host, W: Write, E: Write>(
     host: &H,
     path: &str,
@@ -379,7 +380,7 @@ fn init_image<H: Host, W: Write, E: Write>(
 ) -> (Status, NewDisks)
     ensures serving { result.0 ≢ BadArguments }
     ensures ran { IsOnNew (H.facts host.now) (⟦<Run as Seen>⟧.views) path.now volume.now.form volume.now.blocks
-        volume.now.layout (unseen_in leave.supposed) (W.contents writer.old) (W.contents writer.new) result.1 result.0 }
+        volume.now.layout (assumed_in leave.supposed) (W.contents writer.old) (W.contents writer.new) result.1 result.0 }
 {
     match make_image(host, path, volume, leave) {
         Ok((disk, right)) => (Status::Done, Disks::Made(disk, right)),
@@ -387,8 +388,8 @@ fn init_image<H: Host, W: Write, E: Write>(
     }
 }
 
-/// Says why an image isn't served or made, and tells people what the host has to do with it. Nothing is written to a
-/// stream that leads to the image.
+/// Prints why an image isn't served or made, reports the host's part in it, and returns the status. Nothing is written
+/// to a stream that leads to the image.
 pub(crate) fn refuse_image<W: Write, E: Write>(
     fault: ImageFault,
     path: &str,
@@ -412,7 +413,7 @@ pub(crate) fn refuse_image<W: Write, E: Write>(
     say(writer, fault.refusal)
 }
 
-/// Says why the words ask for nothing that is done, on the streams that are free.
+/// Reports, on the streams that are free, why the words make no request.
 fn refuse<W: Write, E: Write>(
     error: &RequestError<'_>,
     free: FreeStreams,
@@ -444,7 +445,7 @@ fn refuse<W: Write, E: Write>(
     }
 }
 
-/// Tells people which argument isn't what it should be.
+/// Reports which argument isn't valid.
 fn tell_wrong<E: Write>(wrong: Option<WrongArgument<'_>>, errors: &mut E) {
     let _ = writeln!(errors, "?Bad argument");
     if let Some(wrong) = wrong {
@@ -452,7 +453,7 @@ fn tell_wrong<E: Write>(wrong: Option<WrongArgument<'_>>, errors: &mut E) {
     }
 }
 
-/// Shows the text of `clap`: help and the version are what was asked for, and all else is a mistake.
+/// Shows the text of `clap`: help and the version if the words ask for them, and anything else as a mistake.
 fn show<W: Write, E: Write>(
     usage: &Error,
     free: FreeStreams,

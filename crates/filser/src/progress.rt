@@ -1,23 +1,24 @@
+//! The progress of a conversion, as reported on a terminal.
 ghost use Rattle.std.specs.Prelude.{◌≡◌};
 
 use blockdisk::{Disk, Fault};
 use std::io::Write;
 use words36::Block;
 
-/// Work on fewer blocks is over before anybody looks.
+/// Work on fewer blocks ends before anybody looks.
 const TOLD_BLOCKS: u32 = 8192;
 
-/// Whether people are told how far a run is.
+/// Whether the progress of a run is reported.
 #[derive(Clone, Copy, Debug, PartialEq, Eq)]
 pub enum Telling {
-    /// They aren't: nobody may be looking.
+    /// It isn't: perhaps nobody is looking.
     Silent,
-    /// They are, by a line of a terminal that is written over.
+    /// It is, by a line of a terminal that is overwritten.
     Progress,
 }
 
-/// How far the work on so many blocks is, as people are told on the standard error. What can't be written there is left
-/// out.
+/// The progress of the work on a number of blocks, as reported on the standard error. What can't be written there is
+/// dropped.
 #[derive(Drop)]
 struct Progress<'a, E: Write> {
     telling: Telling,
@@ -28,7 +29,7 @@ struct Progress<'a, E: Write> {
 }
 
 impl<'a, E: Write> Progress<'a, E> {
-    /// None of so many blocks is done yet. Nobody is told where they are few.
+    /// Returns the progress of work on `blocks` blocks, none of which is done yet. It isn't reported if they are few.
     fn new(telling: Telling, blocks: u32, errors: &'a mut E) -> Self {
         let telling = if blocks < TOLD_BLOCKS {
             Telling::Silent
@@ -42,34 +43,34 @@ impl<'a, E: Write> Progress<'a, E> {
             done: 0,
             percent: 0,
         };
-        progress.tell();
+        progress.report_progress();
         progress
     }
 
-    /// How many hundredths of the blocks are done.
+    /// Returns how many hundredths of the blocks are done.
     fn hundredths(&self) -> u64 {
         let done = u64::from(self.done) * 100;
         done.checked_div(u64::from(self.blocks)).unwrap_or(100)
     }
 
-    /// Counts a block that is done. People are told once for each hundredth.
+    /// Counts a block that is done. Each hundredth is reported once.
     fn advance(&mut self) {
         self.done = self.done.saturating_add(1);
         let percent = self.hundredths();
         if percent > self.percent {
             self.percent = percent;
-            self.tell();
+            self.report_progress();
         }
     }
 
-    /// Writes over the line that people are told by. It names no file, so that it is never wider than the terminal.
-    fn tell(&mut self) {
+    /// Overwrites the line of the report. It names no file, so that it is never wider than the terminal.
+    fn report_progress(&mut self) {
         if self.telling == Telling::Progress {
             let _ = write!(self.errors, "\rfilser: convert: {} %", self.percent);
         }
     }
 
-    /// Ends that line, so that the next text begins one of its own.
+    /// Ends that line, so that the next text begins a new one.
     fn end(&mut self) {
         if self.telling == Telling::Progress {
             let _ = writeln!(self.errors);
@@ -77,7 +78,7 @@ impl<'a, E: Write> Progress<'a, E> {
     }
 }
 
-/// A disk that hands each call on to another disk, and tells people how many of its blocks are written.
+/// A disk that passes each call to another disk, and reports how many of its blocks are written.
 #[derive(Drop)]
 pub(crate) struct Watched<'a, D: Disk, E: Write> {
     /// The disk under it.
@@ -86,7 +87,7 @@ pub(crate) struct Watched<'a, D: Disk, E: Write> {
 }
 
 impl<'a, D: Disk, E: Write> Watched<'a, D, E> {
-    /// The same disk, whose writes people are told of.
+    /// Returns the same disk, with reports of its writes.
     pub(crate) fn new(inner: D, telling: Telling, errors: &'a mut E) -> Self
         ensures { result.inner ≡ inner }
     {
@@ -97,7 +98,7 @@ impl<'a, D: Disk, E: Write> Watched<'a, D, E> {
         }
     }
 
-    /// Ends the line that people are told by.
+    /// Ends the line of the report.
     pub(crate) fn end(&mut self)
         ensures { self.new.inner ≡ self.old.inner }
     {

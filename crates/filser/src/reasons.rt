@@ -1,3 +1,4 @@
+//! The reports of why lines or an input were refused.
 use crate::Status;
 use crate::fault::{report, tell_no_memory};
 use commands::{Misfit, Reason, RefusedLines, SessionError, Tally};
@@ -5,11 +6,11 @@ use std::io::Write;
 use volume::Layout;
 use words36::Moment;
 
-/// What lines and files come from, as people are told.
+/// Where lines and files come from, as reported.
 const INPUT: &str = "standard input";
 
-/// Tells people that every call will be refused, if the date that is asked for is past those of the volume. None is
-/// past those of layout 2, so the day that is told is the last one of layout 1.
+/// Reports that every call will be refused, if the requested date is past those of the volume. No date is past those of
+/// layout 2, so the day that is reported is the last one of layout 1.
 pub(crate) fn tell_late_date<E: Write>(errors: &mut E, moment: Option<Moment>, layout: Layout) {
     let Some(at) = moment else {
         return;
@@ -24,7 +25,7 @@ pub(crate) fn tell_late_date<E: Write>(errors: &mut E, moment: Option<Moment>, l
     }
 }
 
-/// Tells people why a run was refused, if it was and nothing worse happened, or that it broke off for want of memory.
+/// Reports why a run was refused, if it was and nothing worse happened, or that it broke off for lack of memory.
 pub(crate) fn tell_ending<E: Write>(
     errors: &mut E,
     status: Status,
@@ -33,12 +34,12 @@ pub(crate) fn tell_ending<E: Write>(
     match talked {
         Ok(tally) if status == Status::Refused => tell_refusal(errors, tally.reason),
         Err(SessionError::NoMemory) => tell_no_memory(errors),
-        // The file of an image tells its own fault, and a run that of a stream at its end.
+        // The file of an image reports its own fault, and a run that of a stream at its end.
         Ok(_) | Err(SessionError::Read | SessionError::Write) => {}
     }
 }
 
-/// Tells people why lines or an input were refused.
+/// Reports why lines or an input were refused.
 fn tell_refusal<E: Write>(errors: &mut E, reason: Option<Reason>) {
     match reason {
         Some(Reason::Lines(lines)) => tell_lines(errors, lines),
@@ -47,7 +48,7 @@ fn tell_refusal<E: Write>(errors: &mut E, reason: Option<Reason>) {
     }
 }
 
-/// Tells people how many lines were refused, and which is the first.
+/// Reports how many lines were refused, and which is the first.
 fn tell_lines<E: Write>(errors: &mut E, lines: RefusedLines) {
     let RefusedLines { count, first } = lines;
     if count == 1 {
@@ -61,7 +62,7 @@ fn tell_lines<E: Write>(errors: &mut E, lines: RefusedLines) {
     }
 }
 
-/// Tells people why the input can't be a file.
+/// Reports why the input can't be a file.
 fn tell_misfit<E: Write>(errors: &mut E, misfit: Misfit) {
     match misfit {
         Misfit::Byte(byte, place) => report(

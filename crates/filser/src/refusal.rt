@@ -1,3 +1,4 @@
+//! Refusals: why a run ends before it serves a line.
 ghost use Rattle.std.specs.Prelude.{◌≡◌, ◌⊎◌};
 ghost use Rattle.filser.specs.Common.{message_text, refusal_text, refusal_code, start_text, status_code};
 ghost use Rattle.filser.specs.declared.status.Status.TheVariants.{BadImage, Fault};
@@ -8,14 +9,14 @@ use volume::VolumeError;
 /// Why a run ends before a line of its input is served.
 #[derive(Clone, Copy, Debug, PartialEq, Eq)]
 pub enum Refusal {
-    /// The file of a new image is there already.
+    /// The file of a new image exists already.
     Exists,
-    /// The image is none that can be served, or its file can't be opened or made (`Device`).
+    /// The image can't be served, or its file can't be opened or made (`Device`).
     Start(VolumeError),
 }
 
 impl Refusal {
-    /// How a run ends so.
+    /// Returns the status of a run that ends with this refusal.
     pub fn status(self) -> Status
         ensures code { status_code result ≡ refusal_code self }
         ensures kind { (result ≡ BadImage) ⊎ (result ≡ Fault) }
@@ -26,7 +27,7 @@ impl Refusal {
         }
     }
 
-    /// The line that is printed then, without its end.
+    /// Returns the line that is then printed, without its end.
     pub fn message(self) -> Message
         ensures { message_text result ≡ refusal_text self }
     {
@@ -37,7 +38,7 @@ impl Refusal {
     }
 }
 
-/// The line that is printed for the refusal of a start.
+/// Returns the line that is printed for the refusal of a start.
 fn start_message(error: VolumeError) -> Message
     ensures { message_text result ≡ start_text error }
 {

@@ -1,3 +1,4 @@
+//! The disks and files of a run, and how contracts see them.
 ghost use Rattle.filser.specs.Views.{Views};
 
 use crate::{Disks, MakingLeave, OpeningLeave, Run};
@@ -5,13 +6,13 @@ use blockcache::Cached;
 use blockdisk::{Disk, MemDisk};
 use imagefile::{Durable, HostFile, ImageDisk};
 
-/// An image of the host's that is served in place, with some of its blocks kept in memory.
+/// An image of the host's that is served in place, with some of its blocks cached in memory.
 pub type Image = Cached<ImageDisk<HostFile>>;
 
-/// What is left of the image that is there.
+/// What is left of the existing image.
 pub type ImageDisks = Disks<OpeningLeave, HostFile, ImageDisk<HostFile>, Image>;
 
-/// What is left of the image that is made.
+/// What is left of the new image.
 pub type NewDisks = Disks<MakingLeave, HostFile, ImageDisk<HostFile>, Image>;
 
 /// Disks that contracts see as their states.
@@ -25,7 +26,7 @@ pub trait Seen {
     /// The disk in a file.
     type Disk;
 
-    /// A disk some of whose blocks are kept in memory.
+    /// A disk with some of its blocks cached in memory.
     type Image;
 
     ghost views: { Views Self.Memory Self.File Self.Disk Self.Image };

@@ -1,10 +1,11 @@
+//! The exit statuses of the program.
 ghost use Rattle.std.specs.Prelude.{◌≡◌, ◌⊎◌, max};
 ghost use Rattle.filser.specs.Common.{status_code};
 
 /// How a run of the program ended.
 #[derive(Clone, Copy, Debug, PartialEq, Eq)]
 pub enum Status {
-    /// All was done.
+    /// Everything was done.
     Done,
     /// A line of the input was refused.
     Refused,
@@ -17,7 +18,7 @@ pub enum Status {
 }
 
 impl Status {
-    /// The exit status of the program: 0 to 4, and the higher one counts.
+    /// Returns the exit status of the program: 0 to 4. Of two, the higher one counts.
     pub fn code(self) -> u8
         ensures { result ≡ status_code self }
     {
@@ -30,7 +31,7 @@ impl Status {
         }
     }
 
-    /// The one of two that counts: the one with the higher code.
+    /// Returns which of two statuses counts: the one with the higher code.
     pub fn worst(self, other: Status) -> Status
         ensures code { status_code result ≡ max (status_code self) (status_code other) }
         ensures either { (result ≡ self) ⊎ (result ≡ other) }

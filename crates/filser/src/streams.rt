@@ -1,3 +1,4 @@
+//! The standard streams: which are missing, and which lead to an image.
 ghost use Rattle.std.specs.Prelude.{◌↔◌, IfOk, IfSome, IsTrue, IsFalse, Some, pos, ◌≤ℤ◌};
 ghost use Rattle.std.specs.Fd.{file_raw_fd};
 ghost use Rattle.filser.specs.Common.{AreNeeded, IsMissing, IsStreamAt, IsStreamOf, LeadApart, LeadToOne};
@@ -18,23 +19,23 @@ const OUTPUT: RawFd = 1;
 /// The number of the standard error, which is the last.
 const ERRORS: RawFd = 2;
 
-/// What is opened in the place of a standard stream: it is on every host, and nothing can be read from it as a file or
-/// written to it.
+/// What is opened in the place of a standard stream: it exists on every host, and nothing can be read from it as a file
+/// or written to it.
 const HOLDER: &str = "/";
 
-/// What a run reads and prints to.
+/// What a run reads from and prints to.
 #[derive(Drop)]
 pub struct Streams<R, W, E> {
     /// The input.
     pub reader: R,
     /// The output.
     pub writer: W,
-    /// Where people are told what isn't part of the output.
+    /// Where everything is reported that isn't part of the output.
     pub errors: E,
 }
 
-/// The standard streams that the program was started without. An open file stands in the place of each, so that no
-/// file that is opened later gets its number, and what is printed can't land in an image.
+/// The standard streams that the program was started without. An open file takes the place of each, so that no file
+/// that is opened later gets its number, and what is printed can't land in an image.
 #[derive(Drop)]
 pub struct MissingStreams {
     first: Option<File>,
@@ -44,11 +45,11 @@ pub struct MissingStreams {
 
 impl MissingStreams {
     /// Finds the streams that are missing, and takes their places. The system gives a file the lowest number that is
-    /// free, so that the first one above them shows that all are taken.
+    /// free, so the first one above them shows that all are taken.
     ///
     /// # Errors
     ///
-    /// The system's, where no file can be opened.
+    /// The system's, if no file can be opened.
     pub fn hold<F: Files<File = File>>(files: &F) -> io::Result<Self> {
         let first = holder(files)?;
         let second = holder(files)?;
@@ -60,14 +61,14 @@ impl MissingStreams {
         })
     }
 
-    /// Whether the input or the output is missing, without which there is no run.
+    /// Returns whether the input or the output is missing, without which there is no run.
     pub fn are_needed(&self) -> bool
         ensures { IsTrue result ↔ AreNeeded self.now }
     {
         self.have(INPUT) || self.have(OUTPUT)
     }
 
-    /// Whether the stream of this number is missing.
+    /// Returns whether the stream of this number is missing.
     fn have(&self, number: RawFd) -> bool
         ensures { IsTrue result ↔ IsMissing self.now number }
     {
@@ -77,7 +78,7 @@ impl MissingStreams {
     }
 }
 
-/// A file in the place of the next standard stream that is missing, or none where none is.
+/// Returns a file in the place of the next standard stream that is missing, or `None` if none is missing.
 fn holder<F: Files<File = File>>(files: &F) -> io::Result<Option<File>>
     ensures { IfOk result (λ held. IfSome held (λ file. file_raw_fd file ≤ℤ pos 2)) }
 {
@@ -88,7 +89,7 @@ fn holder<F: Files<File = File>>(files: &F) -> io::Result<Option<File>>
     Ok(Some(file))
 }
 
-/// Whether there is a file, and it has this number.
+/// Returns whether there is a file with this number.
 fn is_numbered(file: &Option<File>, number: RawFd) -> bool
     ensures { IsTrue result ↔ HasNumber file.now number }
 {
@@ -98,14 +99,14 @@ fn is_numbered(file: &Option<File>, number: RawFd) -> bool
     }
 }
 
-/// Whether this is the number of a standard stream.
+/// Returns whether this is the number of a standard stream.
 pub(crate) fn is_stream(number: RawFd) -> bool
     ensures { IsTrue result ↔ number ≤ℤ pos 2 }
 {
     number <= ERRORS
 }
 
-/// The stream of this number, as a fault of an image that it leads to.
+/// Returns the stream of this number, as a fault of an image that it leads to.
 pub(crate) fn stream_of(number: RawFd) -> HostFault
     ensures { IsStreamOf number result }
 {
@@ -116,7 +117,7 @@ pub(crate) fn stream_of(number: RawFd) -> HostFault
     }
 }
 
-/// Whether a path leads to this file, which is at another one.
+/// Returns whether a path leads to this file, which is at another path.
 fn leads_to<H: Host>(host: &H, named: FileId, path: &str, other: &str) -> bool
     requires { (H.facts host.now).found path.now (Some named) }
     ensures one { IsTrue result → LeadToOne (H.facts host.now) path.now other.now }
@@ -125,13 +126,13 @@ fn leads_to<H: Host>(host: &H, named: FileId, path: &str, other: &str) -> bool
     host.identity(other) == Some(named)
 }
 
-/// Whether the standard error leads to the file at a path.
+/// Returns whether the standard error leads to the file at a path.
 pub(crate) fn is_at_errors<H: Host>(host: &H, path: &str) -> bool {
     stream_at(host, path).is_some_and(|stream| stream.forbids_errors())
 }
 
-/// The standard stream that leads to the file at a path, where one does, as far as the host has names for the streams:
-/// of several the one that forbids the most.
+/// Returns the standard stream that leads to the file at a path, if one does, as far as the host has names for the
+/// streams: of several the one that forbids most.
 pub(crate) fn stream_at<H: Host>(host: &H, path: &str) -> Option<HostFault>
     ensures { IsStreamAt (H.facts host.now) path.now result }
 {

@@ -1,19 +1,21 @@
+//! The tasks that can be done on an image.
 use crate::Access;
 use commands::{Encoding, Existing, Style};
 use words36::{FileName, Moment, Ppn};
 
-/// A file as the words of a command line name it, and what the bytes are that it is put from or got as.
+/// A file as the words of a command line name it, and the encoding of the bytes from which it is put or as which it is
+/// got.
 #[derive(Clone, Copy, Debug, PartialEq, Eq)]
 pub struct NamedFile {
-    /// Whose directory it is in. The job that works on it logs in so.
+    /// The owner of its directory. The job that works on it logs in as this owner.
     pub owner: Ppn,
     /// Its name.
     pub name: FileName,
-    /// What its bytes say.
+    /// The encoding of its bytes.
     pub encoding: Encoding,
 }
 
-/// What is done on an image, and at which moment where that counts.
+/// What is done on an image, and at which moment if that matters.
 #[derive(Clone, Copy, Debug, PartialEq, Eq)]
 pub enum Task {
     /// `run`: serve the lines of the input.
@@ -22,20 +24,20 @@ pub enum Task {
     Calls(Moment),
     /// `wire`: serve the orders of the input.
     Wire,
-    /// `put`: make a file of the input, and what becomes of one that has its name.
+    /// `put`: make a file of the input; what becomes of an existing one with its name.
     Put(NamedFile, Existing, Moment),
     /// `get`: print a file.
     Get(NamedFile, Moment),
     /// `delete`: delete a file, which is in the directory of this owner.
     Delete(Ppn, FileName),
-    /// `list`: print the list of a directory, or of all that there are, and how.
+    /// `list`: print the list of a directory, or of all that there are, in this style.
     List(Option<Ppn>, Style),
     /// `check`: print how many blocks it has, and how many are left.
     Check,
 }
 
 impl Task {
-    /// The moment of what is written, if the task has one.
+    /// Returns the moment of what is written, if the task has one.
     pub fn moment(&self) -> Option<Moment> {
         match self {
             Task::Run(at) | Task::Calls(at) | Task::Put(_, _, at) | Task::Get(_, at) => Some(*at),
@@ -43,7 +45,7 @@ impl Task {
         }
     }
 
-    /// What the file of the image is for: it is only read if nothing in the input can change a file.
+    /// Returns what the file of the image is opened for: only reading, if nothing in the input can change a file.
     pub fn access(&self) -> Access {
         match self {
             Task::Get(_, _) | Task::List(_, _) | Task::Check => Access::Read,

@@ -1,4 +1,4 @@
--- A disk over a file that was asked for its length and nothing else.
+-- A disk over a file whose length was read, and nothing else.
 use Rattle.std.proofs.Common.{◌≡◌, ℕ, List, [], Result, Ok, Err, IfOk, subst, sym}
 use Rattle.blockdisk.specs.Common.{keeps_still}
 use Rattle.imagefile.specs.Common.{FileState, with_failures, image_state, image_keeps, IsImageOf, Call, Unseen}

@@ -1,4 +1,4 @@
--- Neighbouring blocks that are written by one call: the bytes of each, one behind the other.
+-- Neighbouring blocks that are written by one call: the bytes of each, one after the other.
 use Rattle.std.proofs.Common.{◌≡◌, ◌∙◌, ◌+◌, ◌*◌, ◌-◌, ◌<◌, ◌≤◌, ℕ, List, length, take, drop, Result, Ok, Err, OnOk}
 use Rattle.std.proofs.Common.{refl, sym, ap, arith}
 use Rattle.std.proofs.lemmas.List.{drop-take, length-take, length-drop}
@@ -10,7 +10,7 @@ use Rattle.imagefile.specs.Common.{Bytes, window, block_content, block_length, s
 use Rattle.imagefile.specs.declared.form.Form.{Form}
 use Rattle.imagefile.proofs.BlockReads.{blocks_there}
 
--- The parts of a list after one of them was put anew.
+-- The parts of a list after one of them was replaced.
 
 module _ (a k : ℕ) (xs ys : List ℕ) (room : a + k ≤ length xs) (long : length ys ≡ k) where
   part_before : (i n : ℕ) → i + n ≤ a → take n (drop i (put_mid a k xs ys)) ≡ take n (drop i xs)
@@ -27,11 +27,11 @@ pub part_long : (a n k : ℕ) (xs ys : List ℕ) → a + n ≤ length xs → k �
     → length ys ≡ k
 part_long a n k xs ys room is long = omega (arith, room, is, long, length-take k (drop a xs), length-drop a xs)
 
--- what stands before a place ends there
+-- what is before a place ends there
 pub ends_before : (size i place end : ℕ) → i < place → end ≡ size * place → size * i + size ≤ end
 ends_before size i place end less is = grind arith
 
--- The bytes of a block that were put behind those of the blocks before it.
+-- The bytes of a block that were put after those of the blocks before it.
 module _ (form : Form) (size place k : ℕ) (bytes part : List ℕ) (is : size ≡ block_length form) (step : k ≡ size)
     (room : size * place + size ≤ length bytes) (long : length part ≡ k) where
   abbrev filled : List ℕ

@@ -134,7 +134,7 @@ module _ (u : Unseen) (at : ℕ) (earlier between : List Call) (goes : GoesTo at
       step (inl there) = ap (λ calls. (after_calls u calls).bytes) there.0
       step (inr (place, is)) = ap (λ calls. (after_calls u calls).bytes) is
 
-  -- what is so of the record before the call is so of it after the seek
+  -- what holds for the record before the call holds for it after the seek
   onward : (P : List Call → Type 0) → P earlier → ((place : ℕ) → P (SeekStart at (Some place) ∷ earlier)) → P between
   onward P same sought = step goes
     where
@@ -201,7 +201,7 @@ module _ {E : Type 0} (u : Unseen) (at : ℕ) (earlier between : List Call) (goe
   writes_said (Ok count) given few honest = writes_at u at earlier between goes given (Some count) few honest
   writes_said (Err error) given few honest = writes_at u at earlier between goes given None (omega arith) honest
 
--- Where a call ends that began at a place.
+-- The place where a call ends, given where it began.
 module _ {E : Type 0} (u : Unseen) (at n : ℕ) (between : List Call) (begins : BeginsAt u between at) where
   pub read_ends : (asked : ℕ) (result : Result ℕ E) (buffer : List ℕ) → IfOk result (λ count. count ≤ length buffer)
       → answer result ≡ Some n → BeginsAt u (Read asked (came result buffer) ∷ between) (at + n)

@@ -43,7 +43,7 @@ words_are bytes (suc n) each =
     and_from (are_words bytes n) (number_at bytes n / 2 ^ 36 == 0) (words_are bytes n (λ k less. each k (omega arith)))
     (zero_top (number_at bytes n) (each n (omega arith)))
 
--- the first place whose word is none, where there is one
+-- the first place whose word is bad, if there is one
 pub first_bad : (bytes : List ℕ) (count n : ℕ) → n ≤ count
     → (are_words bytes n ≡ true) ⊎ ((place : ℕ) × IsFirstBadWord count bytes place)
 unfolding are_words

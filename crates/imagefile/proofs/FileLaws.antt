@@ -79,7 +79,7 @@ writes_on at n to m s s' s'' low high first second = record {
     within : (p : ℕ) → Inside to m p → Inside at n p
     within p inside = record { low = omega (arith, inside.low); high = omega (arith, inside.high) }
 
--- a write behind a call that changed nothing
+-- a write after a call that changed nothing
 pub writes_after : (at n : ℕ) (s s' s'' : FileState) → FileKeeps s s' → FileWrites at n s' s'' → FileWrites at n s s''
 writes_after at n s s' s'' first second = record {
   bytes = λ p out. second.bytes p out ∙ first.bytes p;
@@ -91,7 +91,7 @@ writes_after at n s s' s'' first second = record {
       (inside_or_not at n p));
 }
 
--- A sync that failed behind a call that changed nothing, and that call alone
+-- A sync that failed after a call that changed nothing, and that call alone
 
 pub fails_after : (s s' s'' : FileState) → FileKeeps s s' → FileFails s' s'' → FileFails s s''
 fails_after s s' s'' first second = record {
@@ -149,7 +149,7 @@ module _ (at done place : ℕ) (bytes : List ℕ) (here : place ≡ at + done) (
   rest_long : length rest ≡ length bytes - done
   rest_long = ap (λ l. length l) rest_is ∙ length-drop done bytes
 
-  -- one more part, behind those that were put before
+  -- one more part, after those that were put before
   pub part_put : (b b' : Bytes) (count : ℕ) → window b at done ≡ take done bytes
       → window b' place count ≡ take count rest → ((p : ℕ) → (Inside place (length rest) p → ⊥) → b' p ≡ b p)
       → window b' at (done + count) ≡ take (done + count) bytes

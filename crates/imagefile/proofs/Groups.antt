@@ -1,4 +1,4 @@
--- The blocks of a wide image that some bytes of the file spell, one behind the other.
+-- The blocks of a wide image that some bytes of the file spell, one after the other.
 use Rattle.std.proofs.Common.{◌≡◌, ◌∙◌, ◌+◌, ◌*◌, ◌/◌, ◌%◌, ◌-◌, ◌^◌, ◌<◌, ◌≤◌, ◌↔◌, ℕ, List, length, get_or, Option}
 use Rattle.std.proofs.Common.{Some, None, ⊎_elim, refl, sym, ap, arith, add-zero}
 use Rattle.words36.specs.Common.{IsWord, IsFirstBadWord, number_at, nine_words}
@@ -43,7 +43,7 @@ module _ (b : Bytes) (first count at len : ℕ) (bytes : List ℕ) (place : at �
         byte 7 (omega arith),
       )
 
-  -- a block is whole whose words have no top bits
+  -- a block whose words have no top bits is whole
   block_whole : (k : ℕ) → k < count → ((j : ℕ) → j < 128 → IsWord (number_at bytes (128 * k + j)))
       → IsWholeBlock (image_contents Wide b) (first + k)
   block_whole k below each =
@@ -60,7 +60,7 @@ module _ (b : Bytes) (first count at len : ℕ) (bytes : List ℕ) (place : at �
       word : (j : ℕ) → j < 128 → IsWord (number_at (window b (1024 * (first + k)) 1024) j)
       word j less = is_word (number_at bytes (128 * k + j)) _ (number_there k j below less) (each j less)
 
-  -- the same of a block by its number
+  -- the same for a block by its number
   whole_at : (n : ℕ) → first ≤ n → n < first + count
       → ((place : ℕ) → place < 128 * (n - first) + 128 → IsWord (number_at bytes place))
       → IsWholeBlock (image_contents Wide b) n
@@ -94,7 +94,7 @@ module _ (b : Bytes) (first count at len : ℕ) (bytes : List ℕ) (place : at �
       high_there : (v w : ℕ) → 2 ^ 36 ≤ v → v ≡ w → 2 ^ 36 ≤ w
       high_there v w high equal = omega (arith, high, equal)
 
--- What is found in a group of blocks from `first` on before `end`.
+-- What is found in a group of blocks from `first` and before `end`.
 
 module _ (first end len : ℕ) (bytes : List ℕ) (some : first < end) (long : len ≡ (end - first) * 1024)
     (all : length bytes ≡ len) where

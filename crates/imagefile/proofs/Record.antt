@@ -1,4 +1,4 @@
--- How the record of a file in memory goes on: one more step leaves the moments before it as they were.
+-- How the record of a file in memory continues: one more step leaves the moments before it as they were.
 use Rattle.std.proofs.Common.{◌≡◌, ◌⊎◌, inl, inr, ⊎_elim, ℕ, suc, ◌+◌, ◌-◌, ◌*◌, ◌<◌, ◌≤◌, Bool, true, false, List}
 use Rattle.std.proofs.Common.{[], ◌∷◌, ◌++◌, length, get_or, take, drop, replicate, refl, sym, ◌∙◌, ap, subst, arith}
 use Rattle.std.proofs.Common.{length-append, add-zero, length-drop}
@@ -14,7 +14,7 @@ use Rattle.imagefile.specs.declared.memory.FileCall.{FileCall}
 use Rattle.imagefile.specs.declared.memory.FileCall.TheVariants.{Write, Sync}
 use Rattle.blockdisk.proofs.Record.{all_closed}
 
--- Elements that are put from a place on
+-- Elements that are put from a place
 
 module _ {A : Type 0} (at : ℕ) (xs all : List A) (fits : at + length xs ≤ length all) where
   front : length (take at all) ≡ at

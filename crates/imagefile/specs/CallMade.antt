@@ -1,4 +1,4 @@
--- A call as it is put on record.
+-- A call as it is recorded.
 use Rattle.std.specs.Prelude.{Some, None}
 use Rattle.imagefile.specs.Calls.{Call, SeekStart, SeekEnd, Read, Write, Sync}
 use Rattle.imagefile.specs.declared.call_record.CallMade.{CallMade}

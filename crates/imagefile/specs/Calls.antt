@@ -1,26 +1,26 @@
--- What a system is asked of an open file, call by call, and what it answers: none where a call failed.
+-- The calls of a system on an open file, and their answers: none if a call failed.
 use Rattle.std.specs.Prelude.{◌≡◌, ◌⊎◌, ℕ, Bool, List, Option, Some, None, Result, Ok, Err, take, refl}
 use Rattle.std.specs.Coded.{Coded, code_by, coded×, coded⊎, coded_ℕ, coded_bool, coded_list, coded_option}
 use Rattle.std.proofs.Common.{inl, inr}
 
 pub data Call : Type 0 where
-  -- the position was to be so many bytes from the beginning; the answer is where it is
+  -- a seek to this number of bytes from the beginning; the answer is the position
   SeekStart : ℕ → Option ℕ → Call
-  -- the position was to be the end
+  -- a seek to the end
   SeekEnd : Option ℕ → Call
-  -- so many bytes were to be read, and these came
+  -- a read of this number of bytes, and the bytes that came
   Read : ℕ → Option (List ℕ) → Call
-  -- these bytes were to be written, and so many were
+  -- a write of these bytes, and how many were written
   Write : List ℕ → Option ℕ → Call
-  -- all that was written was to be on the device, and is or isn't
+  -- a sync, and whether all that was written is on the device
   Sync : Bool → Call
 
--- what a call answered, where it did
+-- the answer of a call, if it didn't fail
 abbrev pub answer : {T E : Type 0} → Result T E → Option T
 answer (Ok value) = Some value
 answer (Err error) = None
 
--- the bytes that a read gave, of a buffer
+-- the bytes in a buffer that a read returned
 abbrev pub came : {E : Type 0} → Result ℕ E → List ℕ → Option (List ℕ)
 came (Ok count) buffer = Some (take count buffer)
 came (Err error) buffer = None

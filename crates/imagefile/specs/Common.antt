@@ -21,7 +21,7 @@ pub use Rattle.imagefile.specs.Calls.{Call, Read, SeekEnd, SeekStart, Sync, Writ
 pub use Rattle.imagefile.specs.CallMade.{spelled_call}
 pub use Rattle.imagefile.specs.HostCalls.{file_of, history_of}
 pub use Rattle.imagefile.specs.Unseen.{Unseen, left_by, size_of, unseen_code}
-pub use Rattle.imagefile.specs.Supposition.{unseen_in}
+pub use Rattle.imagefile.specs.AssumedImage.{assumed_in}
 pub use Rattle.imagefile.specs.Recorded.{AsksAt, BeginsAt, GoesTo, IsHonestRecord, after_calls, bytes_after, moved}
 pub use Rattle.imagefile.specs.Recorded.{recorded, words_asked_at}
 unfoldable pub use Rattle.imagefile.specs.Recorded.{is_inside}

@@ -1,8 +1,8 @@
--- A file of the host's.
+-- A file of the host.
 use Rattle.std.specs.Prelude.{ℕ, Option, Some, None, true}
 use Rattle.imagefile.specs.File.{FileState}
 
--- a file of which so many calls failed
+-- a file with this number of failed calls
 abbrev pub with_failures : FileState → ℕ → FileState
 with_failures s failures = record {
   size = s.size;
@@ -26,7 +26,7 @@ unknown_file = record {
   left_since = λ t r. ⊥;
 }
 
--- what is kept of two, one after the other: the first
+-- what is stored of two values, one after the other: the first
 abbrev pub the_first_of : {X : Type 0} → Option X → X → Option X
 the_first_of (Some x) y = Some x
 the_first_of None y = Some y

@@ -14,6 +14,6 @@ module _ {C : Type 0} {g : file_calls.Ghosts C} where
   abbrev pub failure_of : HostFile C g → Option Error
   failure_of file = file.failure
 
-  -- the length that the file had when it was last asked for
+  -- the length that the file had when it was last read
   abbrev pub known_size_of : HostFile C g → Option ℕ
   known_size_of file = file.size

@@ -1,5 +1,5 @@
--- An image: block n of the disk is the bytes of one block from place n times their number on. In the wide form a block
--- has 1024 bytes, and is damaged where a word has top bits that aren't zero; in the packed form it has 576, and none is
+-- An image: block n of the disk is the bytes of one block from place n times their number. In the wide form a block
+-- has 1024 bytes, and is damaged if a word has top bits that aren't zero; in the packed form it has 576, and none is
 -- damaged by its bytes.
 use Rattle.std.specs.Prelude.{◌≡◌, ◌<◌, ◌+◌, ◌*◌, ◌/◌, ◌^◌, ◌==◌, ◌&&◌, ◌||◌, if◌then◌else◌, ℕ, zero, suc, Bool, true}
 use Rattle.std.specs.Prelude.{false, List, [], ◌∷◌, ◌++◌, Option, Some, None, take, drop}
@@ -28,24 +28,24 @@ unfoldable pub first_words : List ℕ → ℕ → List ℕ
 first_words bytes zero = []
 first_words bytes (suc n) = first_words bytes n ++ number_at bytes n ∷ []
 
--- the words of a wide block's bytes, or none where it is damaged
+-- the words of a wide block's bytes, or none if it is damaged
 abbrev pub wide_content : List ℕ → Option (List ℕ)
 wide_content bytes = if are_words bytes 128 then Some (first_words bytes 128) else None
 
--- the words of a block's bytes, or none where it is damaged
+-- the words of a block's bytes, or none if it is damaged
 abbrev pub block_content : Form → List ℕ → Option (List ℕ)
 block_content Wide bytes = wide_content bytes
 block_content Packed bytes = Some (nine_words bytes)
 
--- what a disk holds whose image has these bytes
+-- what a disk holds if its image has these bytes
 abbrev pub image_contents : Form → Bytes → Contents
 image_contents form b n = block_content form (window b (block_length form * n) (block_length form))
 
--- what the blocks hold that have these bytes, one behind the other
+-- what the blocks with these bytes hold, one after the other
 abbrev pub spelled_blocks : Form → List ℕ → Contents
 spelled_blocks form bytes i = block_content form (take (block_length form) (drop (block_length form * i) bytes))
 
--- one of the n places from `at` on is open
+-- one of the n places from `at` is open
 unfoldable pub opened_in : (ℕ → Bool) → ℕ → ℕ → Bool
 opened_in o at zero = false
 opened_in o at (suc n) = o at || opened_in o (at + 1) n
@@ -54,12 +54,12 @@ opened_in o at (suc n) = o at || opened_in o (at + 1) n
 abbrev pub InBlock : Form → ℕ → ℕ → Type 0
 InBlock form n p = Inside (block_length form * n) (block_length form) p
 
--- Each block of c whose bytes are all known holds what they say; of a block with a byte of which
--- nothing can be said c may hold anything.
+-- Each block of c whose bytes are all known holds what they spell; if nothing is known about a byte of a block, c may
+-- hold anything there.
 abbrev pub ReadsAs : Form → Remains → Contents → Type 0
 ReadsAs form r c = (n : ℕ) (b : Bytes) → ((p : ℕ) → InBlock form n p → r p ≡ Some (b p)) → c n ≡ image_contents form b n
 
--- the disk of so many blocks whose image this file is
+-- the disk of this number of blocks whose image this file is
 abbrev pub image_state : Form → ℕ → FileState → DiskState
 image_state form blocks f = record {
   size = blocks;

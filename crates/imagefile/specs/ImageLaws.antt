@@ -1,4 +1,4 @@
--- What the laws of a disk ask of an image, from what a file promises.
+-- What the laws of a disk require of an image, from what a file promises.
 use Rattle.std.specs.Prelude.{◌≡◌, ◌+◌, ◌*◌, ◌||◌, ℕ, zero, suc, Bool, true, false, ◌∷◌, Some, None, if◌then◌else◌}
 use Rattle.std.proofs.Common.{inl, inr, ⊎_elim, refl, sym, ◌∙◌, ap, arith}
 use Rattle.std.proofs.lemmas.Bool.{cases_eq, or_parts, or_from, or_left, cond-true, cond-false, false_from_ne_true}

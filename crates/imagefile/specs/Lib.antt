@@ -12,7 +12,7 @@ pub mod Calls
 pub mod CallMade
 pub mod HostCalls
 pub mod Unseen
-pub mod Supposition
+pub mod AssumedImage
 pub mod Recorded
 pub mod Answered
 pub mod RecordedLaws

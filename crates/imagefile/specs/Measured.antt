@@ -1,4 +1,4 @@
--- What is said of a file that a disk is made of, or that is refused.
+-- The states of a file that a disk is made of, or that is refused.
 use Rattle.std.specs.Prelude.{◌≡◌, ◌<◌, ◌*◌, ◌^◌, ℕ}
 use Rattle.blockdisk.specs.Common.{one_more}
 use Rattle.imagefile.specs.File.{FileState, FileKeeps, SameFile}
@@ -7,7 +7,7 @@ use Rattle.imagefile.specs.declared.form.Form.{Form}
 use Rattle.imagefile.specs.declared.size.ImageError.{ImageError}
 use Rattle.imagefile.specs.declared.size.ImageError.TheVariants.{BadSize, Device}
 
--- The file, which was s and is s' now, is an image of so many blocks.
+-- The file, which was s and is s' now, is an image of `blocks` blocks.
 pub record IsImageOf (form : Form) (blocks : ℕ) (s s' : FileState) : Type 0 where
   pub sized : s'.honest → s.size ≡ block_length form * blocks
   pub few : blocks < 2 ^ 32

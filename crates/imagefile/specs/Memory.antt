@@ -1,5 +1,5 @@
--- A file in memory: its bytes, which of them are open, and the record of its writes and syncs, from
--- which each earlier moment can be told.
+-- A file in memory: its bytes, which of them are open, and the record of its writes and syncs, from which each
+-- earlier moment can be reconstructed.
 use Rattle.std.specs.Prelude.{◌<◌, ◌+◌, ◌≡◌, ◌⊎◌, ◌≤◌, ◌*◌, ℕ, Bool, true, false, List, [], ◌∷◌, ◌++◌, Some, get_or}
 use Rattle.std.specs.Prelude.{take, drop, length, replicate}
 use Rattle.blockdisk.specs.Common.{one_more}
@@ -9,11 +9,11 @@ use Rattle.imagefile.specs.declared.memory.FileCall.TheVariants.{Write, Sync}
 
 -- a call that succeeded
 pub data Step : Type 0 where
-  -- these bytes were written from this place on
+  -- these bytes were written from this place
   Wrote : ℕ → List ℕ → Step
   Synced : Step
 
--- the steps that a record spells: the bytes of its writes lie one behind the other
+-- the steps that a record spells: the bytes of its writes lie one after the other
 unfoldable pub spelled : List FileCall → List ℕ → List Step
 spelled [] written = []
 spelled (Write at n ∷ calls) written = Wrote at (take n written) ∷ spelled calls (drop n written)
@@ -26,9 +26,9 @@ bytes_in (Write at n ∷ calls) = n + bytes_in calls
 bytes_in (Sync ∷ calls) = bytes_in calls
 
 pub record FileMemory : Type 0 where
-  -- what a read gives
+  -- what a read returns
   pub bytes : List ℕ
-  -- what a read gave at first, when no byte was open
+  -- what a read returned at first, when no byte was open
   pub first : List ℕ
   -- the writes and syncs since then that succeeded
   pub steps : List Step
@@ -41,7 +41,7 @@ pub record FileMemory : Type 0 where
   pub byte_room : ℕ
   pub failures : ℕ
 
--- a file in memory that keeps all this
+-- a file in memory that has all this
 abbrev pub memory_of : List ℕ → List ℕ → List FileCall → List ℕ → List Bool → ℕ → ℕ → ℕ → FileMemory
 memory_of bytes first calls written opened room byte_room failures = record {
   bytes = bytes;
@@ -54,7 +54,7 @@ memory_of bytes first calls written opened room byte_room failures = record {
   failures = failures;
 }
 
--- these elements stand from a place on
+-- the list with these elements from a place
 unfoldable pub put : {A : Type 0} → ℕ → List A → List A → List A
 put at xs all = take at all ++ (xs ++ drop (at + length xs) all)
 
@@ -71,7 +71,7 @@ abbrev pub after_steps : FileMoment → List Step → FileMoment
 after_steps m [] = m
 after_steps m (step ∷ steps) = after_steps (after_step m step) steps
 
--- the moment after so many steps of the record
+-- the moment after k steps of the record
 abbrev pub moment_at : FileMemory → ℕ → FileMoment
 moment_at m k = after_steps (record { bytes = m.first; opened = replicate (length m.first) false }) (take k m.steps)
 
@@ -94,19 +94,19 @@ memory_state m = record {
       ⊎ FileLeaves (moment_now m) r;
 }
 
--- the record tells what is there
+-- the record gives the present state
 pub record IsFileReplayed (m : FileMemory) : Type 0 where
   pub same_size : length m.opened ≡ length m.bytes
   pub first_size : length m.first ≡ length m.bytes
   pub bytes : (moment_at m (length m.steps)).bytes ≡ m.bytes
-  -- a write that failed opened its bytes, and is not in the record; nothing is recorded from then on
+  -- a write that failed opened its bytes, and is not in the record; nothing is recorded after that
   pub opened : length m.steps < m.room → (moment_at m (length m.steps)).opened ≡ m.opened
   pub fits : length m.steps ≤ m.room
   pub bytes_fit : m.written ≤ m.byte_room
 
--- What the calls make of it.
+-- The memory after each call.
 
--- these bytes, and room for so many calls
+-- these bytes, and room for this number of calls
 abbrev pub begun : List ℕ → ℕ → FileMemory
 begun bytes room = record {
   bytes = bytes;
@@ -141,7 +141,7 @@ bytes_synced m = record m { steps = m.steps ++ Synced ∷ []; opened = replicate
 abbrev pub sync_refused : FileMemory → FileMemory
 sync_refused m = record m { failures = one_more m.failures }
 
--- the record has room for a write of so many bytes
+-- the record has room for a write of n bytes
 pub record HasRoom (m : FileMemory) (n : ℕ) : Type 0 where
   pub steps : length m.steps < m.room
   pub bytes : m.written + n ≤ m.byte_room

@@ -11,7 +11,7 @@ pub data Outcome : Type 0 where
   Failed : Error → Outcome
   -- a read or a write of at least one byte moved none
   Stalled : Outcome
-  -- a read or a write moved some bytes, or was asked for none
+  -- a read or a write moved some bytes, or was to move none
   Moved : Outcome
   -- the file has this length
   Measured : ℕ → Outcome
@@ -25,7 +25,7 @@ move_outcome zero (Ok count) = Moved
 move_outcome (suc asked) (Ok zero) = Stalled
 move_outcome (suc asked) (Ok (suc count)) = Moved
 
--- the outcome of a question for the length
+-- the outcome of a call for the length
 abbrev pub size_outcome : Result ℕ Error → Outcome
 size_outcome (Err error) = Failed error
 size_outcome (Ok size) = Measured size
@@ -44,7 +44,7 @@ IsWhy kind None (Measured size) told = ⊥
 IsWhy kind (Some length) (Measured size) told = (size ≢ length) × (error_kind told ≡ UnexpectedEof)
 IsWhy kind wanted Synced told = ⊥
 
--- The last call before `now` is the cause of a Device, and its error is kept if no earlier one was.
+-- The last call before `now` is the cause of a Device, and its error is stored if no earlier one was.
 pub record HasCause {C : Type 0} (ended : C → C → Outcome → Type 0) (now : C) (kind : ErrorKind) (wanted : Option ℕ)
     (before after : Option Error) : Type 0 where
   pub from : C
@@ -61,7 +61,7 @@ pub record IsPastAll (end : ℕ) (before after : Option Error) : Type 0 where
   pub why : error_kind error ≡ InvalidInput
   pub told : after ≡ the_first_of before error
 
--- If a length is expected, one call asked for the length and got that one.
+-- If a length is expected, one call read the length and got that one.
 abbrev pub Looked : {C : Type 0} → (C → C → Outcome → Type 0) → Option ℕ → C → C → Type 0
 Looked ended None from now = now ≡ from
 Looked ended (Some length) from now = ended from now (Measured length)

@@ -1,4 +1,4 @@
--- What a file's calls are asked for of the past moments of a record.
+-- What a file's calls require of the past moments of a record.
 use Rattle.std.specs.Prelude.{◌≤◌, ℕ, suc, List, [], ◌∷◌, length}
 use Rattle.std.proofs.Common.{arith, ⊎_elim, inl, inr}
 use Rattle.imagefile.specs.File.{Remains, MayRemain}

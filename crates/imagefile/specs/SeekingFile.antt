@@ -1,6 +1,6 @@
 -- What a `SeekingFile` is made of.
 use Rattle.imagefile.specs.Unseen.{Unseen}
-use Rattle.imagefile.specs.declared.seeking.SeekingFile.{SeekingFile}
+use Rattle.imagefile.specs.declared.seeking_file.SeekingFile.{SeekingFile}
 use Rattle.imagefile.specs.declared.system.SystemCalls as system
 
 module _ {S : Type 0} {g : system.Ghosts S} where

@@ -1,5 +1,5 @@
--- What no call shows of a file: how it began, what its writes left where they took less than they were given, and
--- what its syncs left that failed.
+-- What no call shows of a file: how it began, what its writes left if they took less than they were given, and what
+-- its failed syncs left.
 use Rattle.std.specs.Prelude.{◌≡◌, ℕ, Bool, false, List, [], length, get_or, refl}
 use Rattle.std.specs.Coded.{Coded, code_by, coded×, coded_ℕ, coded_bool, coded_list}
 use Rattle.imagefile.specs.File.{Bytes}
@@ -9,8 +9,8 @@ pub record Unseen : Type 0 where
   pub first : List ℕ
   -- which of them were open
   pub opened : List Bool
-  -- what the call after so many others left at each place of the file where it was to write and took nothing, or,
-  -- where it was a sync that failed, at each place that was open
+  -- what the call after n others left: if it was a write, at each place of the file that it was to write and didn't;
+  -- if it was a sync that failed, at each place that was open
   pub left : List (List ℕ)
 
 -- the number of bytes

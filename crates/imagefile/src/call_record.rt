@@ -1,11 +1,12 @@
+//! The record of the calls on an open file, with their answers, for proofs alone.
 ghost use Rattle.std.specs.Prelude.{◌≡◌, List, [], ◌∷◌};
 ghost use Rattle.std.specs.Borrow.{ftrue};
 ghost use Rattle.imagefile.specs.Calls.{Call, calls_code};
 
 use std::marker::Model;
 
-/// What a system was asked of an open file, call by call, and what it answered. Proofs alone read it:
-/// it takes no memory and costs no time.
+/// The calls that were made on an open file, with the system's answers. Proofs alone read it: it takes no memory and
+/// costs no time.
 #[derive(Drop)]
 pub struct CallRecord {
     /// The newest call comes first.
@@ -16,32 +17,32 @@ impl Model for CallRecord {
     ghost also_owns = { λ _. ftrue };
 }
 
-/// A call with its answer: `None` where it failed.
+/// A call with its answer: `None` if it failed.
 #[derive(Clone, Copy, Drop)]
 pub(crate) enum CallMade<'a> {
-    /// The position was to be so many bytes from the beginning; the answer is where it is.
+    /// A seek to this number of bytes from the beginning; the answer is the position.
     SeekStart(u64, Option<u64>),
-    /// The position was to be the end; the answer is where it is.
+    /// A seek to the end; the answer is the position.
     SeekEnd(Option<u64>),
-    /// So many bytes were to be read, and these came.
+    /// A read of this number of bytes; the answer is the bytes that came.
     Read(usize, Option<&'a [u8]>),
-    /// These bytes were to be written, and so many were.
+    /// A write of these bytes; the answer is how many were written.
     Write(&'a [u8], Option<usize>),
-    /// All that was written was to be on the device, and is or isn't.
+    /// A sync, and whether all that was written is on the device.
     Sync(bool),
 }
 
 impl CallRecord {
     ghost use Rattle.imagefile.specs.Common.{spelled_call};
 
-    /// The record of a file that was asked nothing yet.
+    /// Returns the record of a file before its first call.
     pub(crate) fn new() -> CallRecord
         ensures { result.calls ≡ [] }
     {
         CallRecord {}
     }
 
-    /// This record, and one more call.
+    /// Returns this record with one more call.
     pub(crate) fn then(&self, _call: &CallMade<'_>) -> CallRecord
         ensures { result.calls ≡ spelled_call _call.now ∷ self.now.calls }
     {

@@ -1,3 +1,4 @@
+//! The trait of a system's calls on an open file, which may do less than requested.
 ghost use Rattle.std.specs.Prelude.{◌≡◌, ◌+◌, ◌<◌, ◌≤◌, ℕ, length, take, is_ok, IfOk, OnOk, OnErr};
 ghost use Rattle.imagefile.specs.File.{Remains, FileState, MayRemain, SameFile, FileKeeps, FileWrites, FileSyncs};
 ghost use Rattle.imagefile.specs.File.{FileFails, window};
@@ -5,11 +6,10 @@ ghost use Rattle.imagefile.specs.Outcomes.{Outcome, size_outcome, move_outcome, 
 
 use std::io;
 
-/// The calls of a system on an open file, each of which may do less than it was asked.
+/// The calls of a system on an open file, each of which may do less than requested.
 ///
-/// A file is `honest` while it has kept to the model so far: an answer may end that, and none brings it
-/// back. What is said of a file that is honest *after* a call is what an honest answer means; the rest
-/// holds of every file.
+/// A file is `honest` while it has kept to the model so far: an answer may end that, and none brings it back. What is
+/// stated for a file that is honest *after* a call is what an honest answer means; the rest holds for every file.
 pub trait FileCalls {
     ghost state: { Self → FileState };
 
@@ -17,7 +17,7 @@ pub trait FileCalls {
     /// only prove it by making that call.
     ghost ended: { Self → Self → Outcome → Type 0 };
 
-    /// The number of bytes.
+    /// Returns the number of bytes.
     ///
     /// # Errors
     ///
@@ -28,7 +28,7 @@ pub trait FileCalls {
         ensures keeps { (state self.new).honest → FileKeeps (state self.old) (state self.new) }
         ensures same { SameFile (state self.old) (state self.new) };
 
-    /// Reads some of the bytes from place `at` on, and answers how many.
+    /// Reads some of the bytes from place `at`, and returns how many.
     ///
     /// # Errors
     ///
@@ -42,8 +42,8 @@ pub trait FileCalls {
         ensures keeps { (state self.new).honest → FileKeeps (state self.old) (state self.new) }
         ensures same { SameFile (state self.old) (state self.new) };
 
-    /// Writes some of the bytes from place `at` on, and answers how many. All are open from then on,
-    /// whatever the answer.
+    /// Writes some of the bytes from place `at`, and returns how many. After that, all of them are open, whatever the
+    /// answer was.
     ///
     /// # Errors
     ///
@@ -58,12 +58,11 @@ pub trait FileCalls {
         ensures writes { (state self.new).honest → FileWrites at (length bytes.now) (state self.old) (state self.new) }
         ensures same { SameFile (state self.old) (state self.new) };
 
-    /// Waits until all that was written is on the device. No byte is open then.
+    /// Waits until everything that was written is on the device. After that, no byte is open.
     ///
     /// # Errors
     ///
-    /// The system's. The open bytes stay open, and each may be anything then; the closed ones stay as they
-    /// are.
+    /// The system's. The open bytes then stay open, and each may be anything; the closed ones stay as they are.
     fn sync_all(&mut self) -> io::Result<()>
         ensures ended { ended self.old self.new (sync_outcome result) }
         ensures syncs { (state self.new).honest → OnOk result (FileSyncs (state self.old) (state self.new)) }
@@ -71,15 +70,15 @@ pub trait FileCalls {
         ensures fails { (state self.new).honest → OnErr result (FileFails (state self.old) (state self.new)) }
         ensures same { SameFile (state self.old) (state self.new) };
 
-    /// This moment is one of those since an earlier one.
+    /// This moment is one of the moments since any earlier one.
     ghost counts_now: { (file : Self) (t : ℕ) (r : Remains) → (state file).honest → t ≤ (state file).clock
         → MayRemain (state file) r → (state file).left_since t r };
 
-    /// Since this moment there is no other.
+    /// Since this moment there has been no other moment.
     ghost only_now: { (file : Self) (r : Remains) → (state file).honest → (state file).left_since (state file).clock r
         → MayRemain (state file) r };
 
-    /// What was left since a moment was left since each earlier one.
+    /// What was left since a moment was also left since each earlier one.
     ghost reaches_back: { (file : Self) (t s : ℕ) (r : Remains) → (state file).honest → t ≤ s
         → (state file).left_since s r → (state file).left_since t r };
 }

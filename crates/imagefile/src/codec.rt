@@ -1,3 +1,4 @@
+//! The blocks of an image in the bytes of its file, in either form.
 ghost use Rattle.std.specs.Prelude.{◌≡◌, ◌+◌, ◌*◌, ◌<◌, ◌≤◌, ◌^◌, ℕ, Some, length};
 ghost use Rattle.blockdisk.specs.Common.{IsRead, IsRunRead, IsVerify, IsWrite, IsRunWrite, AreFilled, HoldRun};
 ghost use Rattle.blockdisk.specs.Common.{IsWithin};
@@ -12,14 +13,14 @@ use words36::{
     block_to_bytes, block_to_nine, first_bad_word,
 };
 
-/// How many neighbouring blocks are read, looked at or written by one call of the file.
+/// The number of neighbouring blocks that one call of the file reads, verifies or writes.
 const GROUP_BLOCKS: u32 = 16;
 
-/// The words of block n of the image that this file is.
+/// Reads the words of block n of the image that this file is.
 ///
 /// # Errors
 ///
-/// As of a disk: `Damaged` where the bytes are no block's, `Device` where the file fails.
+/// As for a disk: `Damaged` if the bytes are no block's, `Device` if the file fails.
 pub(crate) fn read_block<F: Durable>(form: Form, file: &mut F, n: u32) -> Result<Block, Fault>
     requires { (F.state file.old).honest → block_length form * n + block_length form ≤ (F.state file.old).size }
     ensures same { SameFile (F.state file.old) (F.state file.new) }
@@ -32,12 +33,12 @@ pub(crate) fn read_block<F: Durable>(form: Form, file: &mut F, n: u32) -> Result
     }
 }
 
-/// Puts the words of neighbouring blocks of the image that this file is, from one on, into as many places. Answers the
-/// first damaged block of them, if any.
+/// Reads neighbouring blocks of the image that this file is, from block `first`, into as many places. Returns the
+/// first damaged block among them, if any.
 ///
 /// # Errors
 ///
-/// As of a disk: `Device` where the file fails.
+/// As for a disk: `Device` if the file fails.
 pub(crate) fn read_blocks<F: Durable>(
     form: Form,
     file: &mut F,
@@ -55,11 +56,11 @@ pub(crate) fn read_blocks<F: Durable>(
     read_groups(form, file, &mut room, first, blocks)
 }
 
-/// Does the same through memory that was found for the bytes of more blocks, if there is any.
+/// Reads neighbouring blocks as `read_blocks` does, but through memory for the bytes of more blocks, if there is any.
 ///
 /// # Errors
 ///
-/// As of a disk: `Device` where the file fails.
+/// As for a disk: `Device` if the file fails.
 pub(crate) fn read_blocks_through<F: Durable>(
     form: Form,
     file: &mut F,
@@ -82,7 +83,7 @@ pub(crate) fn read_blocks_through<F: Durable>(
     read_blocks(form, file, first, blocks)
 }
 
-/// Does the same by as many blocks a call of the file as there is room for the bytes of.
+/// Reads neighbouring blocks as `read_blocks` does, with as many in each call of the file as there is room for.
 fn read_groups<F: Durable>(
     form: Form,
     file: &mut F,
@@ -117,11 +118,11 @@ fn read_groups<F: Durable>(
     Ok(None)
 }
 
-/// The first damaged block of those from one on before another, if any, of the image that this file is.
+/// Returns the first damaged block from block `first` and before block `end`, if any, of the image that this file is.
 ///
 /// # Errors
 ///
-/// As of a disk: `Device` where the file fails.
+/// As for a disk: `Device` if the file fails.
 pub(crate) fn verify_blocks<F: Durable>(
     form: Form,
     file: &mut F,
@@ -149,7 +150,7 @@ pub(crate) fn verify_blocks<F: Durable>(
 ///
 /// # Errors
 ///
-/// As of a disk: `Device` where the file fails.
+/// As for a disk: `Device` if the file fails.
 pub(crate) fn write_block<F: Durable>(
     form: Form,
     file: &mut F,
@@ -168,11 +169,11 @@ pub(crate) fn write_block<F: Durable>(
     }
 }
 
-/// Writes the words of neighbouring blocks of the image that this file is, from one on.
+/// Writes the words of neighbouring blocks of the image that this file is, from block `first`.
 ///
 /// # Errors
 ///
-/// As of a disk: `Device` where the file fails.
+/// As for a disk: `Device` if the file fails.
 pub(crate) fn write_blocks<F: Durable>(
     form: Form,
     file: &mut F,
@@ -195,14 +196,14 @@ pub(crate) fn write_blocks<F: Durable>(
     Ok(())
 }
 
-/// The place of a block's first byte.
+/// Returns the place of a block's first byte.
 fn place_of(form: Form, n: u32) -> u64
     ensures { result ≡ block_length form * n }
 {
     form.block_bytes() * n as u64
 }
 
-/// The words of a block of eight bytes to a word.
+/// Reads the words of a block with eight bytes to a word.
 fn read_wide<F: Durable>(file: &mut F, n: u32) -> Result<Block, Fault>
     requires { (F.state file.old).honest → 1024 * n + 1024 ≤ (F.state file.old).size }
     ensures same { SameFile (F.state file.old) (F.state file.new) }
@@ -217,7 +218,7 @@ fn read_wide<F: Durable>(file: &mut F, n: u32) -> Result<Block, Fault>
     }
 }
 
-/// The words of a block of nine bytes to two words.
+/// Reads the words of a block with nine bytes to two words.
 fn read_packed<F: Durable>(file: &mut F, n: u32) -> Result<Block, Fault>
     requires { (F.state file.old).honest → 576 * n + 576 ≤ (F.state file.old).size }
     ensures same { SameFile (F.state file.old) (F.state file.new) }
@@ -253,8 +254,8 @@ fn read_group<F: Durable>(
     }
 }
 
-/// Puts the words of the blocks that have these bytes, one behind the other, into as many places. Answers the place of
-/// the first that is damaged, if any.
+/// Puts the words of the blocks that have these bytes, one after the other, into as many places. Returns the place of
+/// the first damaged one, if any.
 fn fill_blocks(form: Form, bytes: &[u8], blocks: &mut [Block]) -> Option<usize>
     requires { length bytes.now ≡ block_length form * length blocks.old }
     ensures within { IsWithin 0 (length blocks.old) result }
@@ -270,7 +271,7 @@ fn fill_blocks(form: Form, bytes: &[u8], blocks: &mut [Block]) -> Option<usize>
     None
 }
 
-/// The words of the block that has these bytes; none where it is damaged.
+/// Returns the words of the block that has these bytes, or `None` if it is damaged.
 fn block_of(form: Form, bytes: &[u8]) -> Option<Block>
     requires { length bytes.now ≡ block_length form }
     ensures { result ≡ block_content form bytes.now }
@@ -278,7 +279,7 @@ fn block_of(form: Form, bytes: &[u8]) -> Option<Block>
     match form {
         Form::Wide => {
             let Ok(own) = <&[u8; BLOCK_BYTES]>::try_from(bytes) else {
-                unreachable!() // it has as many bytes
+                unreachable!() // the length is a block's
             };
             match block_from_bytes(own) {
                 Ok(block) => Some(block),
@@ -287,14 +288,14 @@ fn block_of(form: Form, bytes: &[u8]) -> Option<Block>
         }
         Form::Packed => {
             let Ok(own) = <&[u8; PACKED_BYTES]>::try_from(bytes) else {
-                unreachable!() // it has as many bytes
+                unreachable!() // the length is a block's
             };
             Some(block_from_nine(own))
         }
     }
 }
 
-/// Where the group of blocks ends that begins at one, before another.
+/// Returns the end of the group of blocks that begins at block `first`, no later than `end`.
 fn group_end(first: u32, end: u32) -> u32
     requires { first < end }
     ensures some { first < result }
@@ -308,7 +309,7 @@ fn group_end(first: u32, end: u32) -> u32
     }
 }
 
-/// The first damaged one of neighbouring blocks, if any, which are read by one call.
+/// Returns the first damaged one of neighbouring blocks, if any, which it reads by one call.
 fn verify_group<F: Durable>(
     form: Form,
     file: &mut F,
@@ -328,7 +329,7 @@ fn verify_group<F: Durable>(
     }
 }
 
-/// A group of eight bytes to a word: its top bits are looked at, and no word is made.
+/// Verifies a group with eight bytes to a word: checks the top bits, and makes no word.
 fn verify_wide<F: Durable>(file: &mut F, first: u32, end: u32) -> Result<Option<u32>, Fault>
     requires some { first < end }
     requires few { end ≤ first + 16 }
@@ -346,7 +347,7 @@ fn verify_wide<F: Durable>(file: &mut F, first: u32, end: u32) -> Result<Option<
     }
 }
 
-/// A group of nine bytes to two words: any bytes are words, where they can be read.
+/// Verifies a group with nine bytes to two words: any bytes are words, if they can be read.
 fn verify_packed<F: Durable>(file: &mut F, first: u32, end: u32) -> Result<Option<u32>, Fault>
     requires some { first < end }
     requires few { end ≤ first + 16 }
@@ -381,7 +382,7 @@ fn write_group<F: Durable>(
     file.write_at(place_of(form, first), group)
 }
 
-/// Puts the bytes of blocks into as many places, one behind the other.
+/// Puts the bytes of blocks into as many places, one after the other.
 fn put_blocks(form: Form, blocks: &[Block], bytes: &mut [u8])
     requires { length bytes.old ≡ block_length form * length blocks.now }
     ensures long { length bytes.new ≡ length bytes.old }

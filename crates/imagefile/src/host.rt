@@ -1,26 +1,27 @@
+//! A durable file over a system's calls: it makes them until all is done.
 ghost use Rattle.std.specs.Prelude.{◌≡◌, ◌⊎◌, ◌+◌, ◌<◌, ◌≤◌, ℕ, [], length, take, Some, None, IfOk, OnOk, OnErr};
 ghost use Rattle.std.specs.Prelude.{IsErrOf};
 ghost use Rattle.blockdisk.specs.Common.{one_more};
 ghost use Rattle.blockdisk.specs.declared.fault.Fault.TheVariants.{Device, Damaged};
 ghost use Rattle.imagefile.specs.File.{SameFile, FileKeeps, FileWrites, FileSyncs, FileFails, window};
 ghost use Rattle.imagefile.specs.Host.{with_failures, the_first_of};
-ghost use Rattle.imagefile.specs.Supposition.{unseen_in};
+ghost use Rattle.imagefile.specs.AssumedImage.{assumed_in};
 ghost use Rattle.imagefile.specs.Recorded.{IsHonestRecord};
 ghost use Rattle.imagefile.specs.Outcomes.{HasCause, IsPastAll, Looked, LookedAndSynced, Measured};
 ghost use Rattle.std.specs.declared.io.ErrorKind.TheVariants.{UnexpectedEof, WriteZero};
 
-use crate::{Durable, FileCalls, HostCalls, SeekingFile, Supposition};
+use crate::{AssumedImage, Durable, FileCalls, HostCalls, SeekingFile};
 use blockdisk::Fault;
 use std::fs::File;
 use std::io::{Error, ErrorKind};
 
-/// A file of the host's, whose calls are made until all is done.
+/// A file of the host, whose calls are made until all is done.
 ///
-/// It is honest while its calls are: what a call answered is right wherever they have kept to the model
-/// so far. Why its first call failed is kept, for people.
+/// It is honest while its calls are: what a call answered is right if the calls have kept to the model so far. It
+/// stores the reason of its first failure, for people.
 ///
-/// A sync first looks that the file is as long as it was when its length was asked for: where somebody has cut it
-/// short meanwhile, what was written behind its end is no file's, and nothing is called done.
+/// A sync first checks that the file is as long as it was when its length was read: if somebody has cut it short
+/// meanwhile, what was written past its end is in no file, and the sync fails.
 #[derive(Drop)]
 pub struct HostFile<C: FileCalls = SeekingFile> {
     calls: C,
@@ -36,12 +37,12 @@ impl HostFile {
     ghost use Rattle.imagefile.specs.Common.{system_of, unseen_of};
     ghost use Rattle.imagefile.specs.Common.{file_of, history_of};
 
-    /// An open file of the host, of which nothing was asked yet, with what is supposed of it that its
+    /// Returns the file over an open file of the host, before its first call, with what is supposed of it that its
     /// calls don't show. Its record is empty, and so it is honest.
-    pub fn from_file(file: File, supposed: Supposition) -> Self
+    pub fn from_file(file: File, supposed: AssumedImage) -> Self
         ensures file { file_of (system_of (calls_of result)) ≡ file }
         ensures history { history_of (system_of (calls_of result)) ≡ [] }
-        ensures supposed { unseen_of (calls_of result) ≡ unseen_in supposed }
+        ensures supposed { unseen_of (calls_of result) ≡ assumed_in supposed }
         ensures honest { IsHonestRecord (unseen_of (calls_of result)) (history_of (system_of (calls_of result))) }
         ensures none_failed { failures_of result ≡ 0 }
         ensures no_failure { failure_of result ≡ None }
@@ -54,7 +55,7 @@ impl HostFile {
 impl<C: FileCalls> HostFile<C> {
     ghost use Rattle.imagefile.specs.Common.{calls_of, failures_of, failure_of, known_size_of};
 
-    /// The file of these calls. No call has failed yet.
+    /// Returns the file of these calls. No call has failed yet.
     pub fn new(calls: C) -> Self
         ensures calls { calls_of result ≡ calls }
         ensures none_failed { failures_of result ≡ 0 }
@@ -69,15 +70,16 @@ impl<C: FileCalls> HostFile<C> {
         }
     }
 
-    /// Why the first call failed that did: the system's error, `UnexpectedEof` where a read came to the end of the
-    /// file, or `WriteZero` where a write took nothing.
+    /// Returns why the first call that failed did so: the system's error, `UnexpectedEof` if a read came to the end
+    /// of the file or the file has another length, `WriteZero` if a write took nothing, or `InvalidInput` if a
+    /// place exceeds the largest offset of a file.
     pub fn failure(&self) -> Option<Error>
         ensures { result ≡ failure_of self.now }
     {
         self.failure
     }
 
-    /// Counts a failure, and keeps why the first one was.
+    /// Counts a failure, and stores the reason of the first one.
     fn device_fault(&mut self, error: Error) -> Fault
         ensures fault { result ≡ Device }
         ensures calls { calls_of self.new ≡ calls_of self.old }
@@ -92,11 +94,11 @@ impl<C: FileCalls> HostFile<C> {
         Fault::Device
     }
 
-    /// Looks that the file is as long as it was, where its length was asked for.
+    /// Checks that the file is as long as it was, if its length has been read.
     ///
     /// # Errors
     ///
-    /// `Device` where it isn't, or the call failed.
+    /// `Device` if it isn't, or if the call failed.
     fn keep_size(&mut self) -> Result<(), Fault>
         ensures keeps { (C.state (calls_of self.new)).honest
             → FileKeeps (C.state (calls_of self.old)) (C.state (calls_of self.new)) }
@@ -121,11 +123,11 @@ impl<C: FileCalls> HostFile<C> {
         }
     }
 
-    /// Reads some of the bytes from place `at` on, and answers how many: at least one.
+    /// Reads some of the bytes from place `at`, and returns how many: at least one.
     ///
     /// # Errors
     ///
-    /// `Device` where the call failed, or read none.
+    /// `Device` if the call failed or read none.
     fn get_some(&mut self, at: u64, bytes: &mut [u8]) -> Result<usize, Fault>
         requires inside { (C.state (calls_of self.old)).honest
             → at + length bytes.old ≤ (C.state (calls_of self.old)).size }
@@ -151,12 +153,11 @@ impl<C: FileCalls> HostFile<C> {
         }
     }
 
-    /// Writes some of the bytes from place `at` on, and answers how many: at least one, where there
-    /// are any.
+    /// Writes some of the bytes from place `at`, and returns how many: at least one, if there are any.
     ///
     /// # Errors
     ///
-    /// `Device` where the call failed, or wrote none of them.
+    /// `Device` if the call failed or wrote none of them.
     fn put_some(&mut self, at: u64, bytes: &[u8]) -> Result<usize, Fault>
         requires { (C.state (calls_of self.old)).honest → at + length bytes.now ≤ (C.state (calls_of self.old)).size }
         ensures few { IfOk result (λ count. (0 < length bytes.now → 0 < count) × (count ≤ length bytes.now)) }

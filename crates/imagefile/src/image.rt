@@ -1,3 +1,4 @@
+//! A disk over an image of either form.
 ghost use Rattle.std.specs.Prelude.{◌≡◌, ◌+◌, ◌*◌, ◌<◌, ◌≤◌, ◌^◌, ◌↔◌, ℕ, Some, None, IfOk, IfErr, OnOk, OnErr};
 ghost use Rattle.std.specs.Prelude.{IsErrOf, IsOk, IsSome, List, All, length};
 ghost use Rattle.words36.specs.Common.{IsBlock, block_bytes, nine_bytes};
@@ -7,23 +8,23 @@ ghost use Rattle.imagefile.specs.Began.{BeganAs};
 ghost use Rattle.imagefile.specs.Image.{block_length, image_state, block_content, IsImageSize};
 ghost use Rattle.imagefile.specs.Measured.{IsImageOf, IsNoImage};
 ghost use Rattle.imagefile.specs.ImageLaws.{image_counts_now, image_only_now, image_reaches_back};
-ghost use Rattle.imagefile.specs.Supposition.{unseen_in};
+ghost use Rattle.imagefile.specs.AssumedImage.{assumed_in};
 ghost use Rattle.imagefile.specs.Unseen.{size_of};
 ghost use Rattle.imagefile.specs.declared.form.Form.TheVariants.{Wide, Packed};
 ghost use Rattle.imagefile.specs.declared.size.ImageError.TheVariants.{BadSize};
 ghost use Rattle.imagefile.specs.declared.size.ImageError.TheVariants as ImageError;
 
 use crate::codec::{read_block, read_blocks_through, verify_blocks, write_block, write_blocks};
-use crate::{Durable, Form, HostFile, ImageError, Supposition, block_count};
+use crate::{AssumedImage, Durable, Form, HostFile, ImageError, block_count};
 use blockdisk::{Disk, Fault};
 use std::alloc::Global;
 use std::fs::File;
 use words36::{BLOCK_BYTES, Block};
 
-/// How many neighbouring blocks are read by one call of the file, if there is memory for their bytes.
+/// The number of neighbouring blocks that one call of the file reads, if there is memory for their bytes.
 const RUN_BLOCKS: usize = 128;
 
-/// A disk whose blocks lie in a file, one after the other.
+/// A disk whose blocks are in a file, one after the other.
 #[derive(Drop)]
 pub struct ImageDisk<F: Durable> {
     file: F,
@@ -38,11 +39,11 @@ impl<F: Durable> ImageDisk<F> {
     ghost use Rattle.imagefile.specs.ImageDisk.{file_of};
     ghost use Rattle.imagefile.specs.Common.{form_of, blocks_of};
 
-    /// The disk of an image of form 1, as many blocks as the file has 1024 bytes. Nothing is written.
+    /// Makes the disk of an image of form 1, with one block for every 1024 bytes of the file. Writes nothing.
     ///
     /// # Errors
     ///
-    /// As of `of_form`.
+    /// As for `of_form`.
     pub fn new(file: F) -> Result<Self, (ImageError, F)>
         ensures form { IfOk result (λ disk. form_of disk ≡ Wide) }
         ensures image { IfOk result
@@ -52,12 +53,12 @@ impl<F: Durable> ImageDisk<F> {
         ImageDisk::of_form(file, Form::Wide)
     }
 
-    /// The disk of an image of this form, as many blocks as the file has times the bytes of one. Nothing is written.
+    /// Makes the disk of an image of this form, whose number of blocks is the file's length divided by a block's.
+    /// Writes nothing.
     ///
     /// # Errors
     ///
-    /// The file is handed back: `BadSize` where its length is not that of an image, `Device` where the
-    /// device failed.
+    /// The file is handed back: `BadSize` if its length is not that of an image, `Device` if the device failed.
     pub fn of_form(file: F, form: Form) -> Result<Self, (ImageError, F)>
         ensures form { IfOk result (λ disk. form_of disk ≡ form) }
         ensures image { IfOk result
@@ -80,8 +81,8 @@ impl<F: Durable> ImageDisk<F> {
         }
     }
 
-    /// The same disk, with memory to read up to 128 neighbouring blocks by one call of the file. If there is none, it
-    /// reads up to 16, and nobody is told.
+    /// Returns the same disk, with memory to read up to 128 neighbouring blocks by one call of the file. If there is
+    /// none, the disk silently reads up to 16.
     pub fn with_room(self, alloc: Global) -> Self
         ensures file { file_of result ≡ file_of self }
         ensures form { form_of result ≡ form_of self }
@@ -107,7 +108,7 @@ impl<F: Durable> ImageDisk<F> {
         &self.file
     }
 
-    /// The file that the disk lies in.
+    /// Returns the file that the disk is in.
     pub fn finish(self) -> F
         ensures { result ≡ file_of self }
     {
@@ -120,23 +121,23 @@ impl ImageDisk<HostFile> {
     ghost use Rattle.imagefile.specs.Common.{form_of};
     ghost use Rattle.imagefile.specs.Common.{failures_of, failure_of};
 
-    /// Makes the disk of an image of this form from an open file that has not been used yet. `supposed` stands for what
-    /// no call shows of the file. Writes nothing.
+    /// Makes the disk of an image of this form from an open file that has not been used yet. `supposed` is what no
+    /// call shows of the file. Writes nothing.
     ///
     /// # Errors
     ///
-    /// As of `of_form`. The file comes back and knows why it failed.
+    /// As for `of_form`. The file comes back and knows why it failed.
     pub fn open_file(
         file: File,
-        supposed: Supposition,
+        supposed: AssumedImage,
         form: Form,
     ) -> Result<Self, (ImageError, HostFile)>
         ensures form { IfOk result (λ disk. form_of disk ≡ form) }
         ensures began { IfOk result
-            (λ disk. BeganAs form (unseen_in supposed) (⟦<ImageDisk<HostFile> as Disk>⟧.state disk)) }
+            (λ disk. BeganAs form (assumed_in supposed) (⟦<ImageDisk<HostFile> as Disk>⟧.state disk)) }
         ensures counted { IfOk result (λ disk. failures_of (file_of disk) ≡ 0) }
         ensures size { IfErr result (λ refused. refused.0 ≡ BadSize → (⟦<HostFile as Durable>⟧.state refused.1).honest
-            → IsImageSize form (size_of (unseen_in supposed)) → ⊥) }
+            → IsImageSize form (size_of (assumed_in supposed)) → ⊥) }
         ensures served { IfErr result (λ refused. refused.0 ≡ BadSize → failures_of refused.1 ≡ 0) }
         ensures failed { IfErr result (λ refused. refused.0 ≡ ImageError.Device
             → (failures_of refused.1 ≡ 1) × IsSome (failure_of refused.1)) }
@@ -145,14 +146,15 @@ impl ImageDisk<HostFile> {
     }
 }
 
-/// A law: a wide block's bytes hold words exactly where they are the bytes of those words, eight to each,
-/// the most significant first. Other bytes are a damaged block's.
+/// Proves that a wide block's bytes hold words exactly if they are the bytes of those words, eight to each, the most
+/// significant first. Other bytes are a damaged block's.
 pub fn damage_is_by_the_format()
     ensures { (words bytes : List ℕ) → All (λ byte. byte < 256) bytes → length bytes ≡ 1024
         → (block_content Wide bytes ≡ Some words ↔ (IsBlock words × (block_bytes words ≡ bytes))) }
 {}
 
-/// A law: any bytes of a packed block hold the words that they are the bytes of, nine to two words. None is damaged.
+/// Proves that any bytes of a packed block hold the words that they are the bytes of, nine to two words. None is
+/// damaged.
 pub fn packed_bytes_are_words()
     ensures { (words bytes : List ℕ) → All (λ byte. byte < 256) bytes → length bytes ≡ 576
         → (block_content Packed bytes ≡ Some words ↔ (IsBlock words × (nine_bytes words ≡ bytes))) }
@@ -179,7 +181,7 @@ impl<F: Durable> Disk for ImageDisk<F> {
     }
 
     fn read_run(&mut self, first: u32, blocks: &mut [Block]) -> Result<Option<u32>, Fault> {
-        let _size = self.blocks(); // no more than a u32 counts
+        let _size = self.blocks(); // the number of places fits a u32
         read_blocks_through(self.form, &mut self.file, &mut self.room, first, blocks)
     }
 
@@ -192,7 +194,7 @@ impl<F: Durable> Disk for ImageDisk<F> {
     }
 
     fn write_run(&mut self, first: u32, blocks: &[Block]) -> Result<(), Fault> {
-        let _size = self.blocks(); // no more than a u32 counts
+        let _size = self.blocks(); // the number of blocks fits a u32
         write_blocks(self.form, &mut self.file, first, blocks)
     }
 

@@ -1,3 +1,4 @@
+//! A file in memory that records its writes and syncs.
 ghost use Rattle.std.specs.Prelude.{◌≡◌, ◌<◌, ◌≤◌, ◌+◌, ◌*◌, ◌++◌, ◌∷◌, ℕ, Ok, IsOk, IsTrue, ◌↔◌, get_or, [], true};
 ghost use Rattle.std.specs.Prelude.{false, Some, None, IfOk, IfErr, OnOk, OnErr, IsErrOf, length, replicate, vec_len};
 ghost use Rattle.std.specs.Prelude.{vec_capacity};
@@ -14,17 +15,17 @@ use std::alloc::Global;
 use std::marker::Model;
 use words36::BLOCK_BYTES;
 
-/// A call of a file in memory, as it is recorded.
+/// A recorded call of a file in memory.
 #[derive(Clone, Copy)]
 pub(crate) enum FileCall {
-    /// So many bytes were written from this place on.
+    /// Bytes were written: from this place, this number of them.
     Write(usize, usize),
     /// A sync succeeded.
     Sync,
 }
 
-/// A file in memory, always honest. It records its writes and syncs with what was written, and has
-/// room for so many calls and 1024 bytes a call: from then on each answers `Device`.
+/// A file in memory, always honest. It records its writes and syncs with what was written, and has room for a fixed
+/// number of calls and 1024 bytes a call: after that, each answers `Device`.
 #[derive(Drop)]
 pub struct MemFile {
     bytes: Vec<u8>,
@@ -54,11 +55,11 @@ impl Model for MemFile {
 }
 
 impl MemFile {
-    /// A file of these bytes, with room to record so many writes and syncs and 1024 bytes for each.
+    /// Returns a file of these bytes, with room to record this number of writes and syncs and 1024 bytes for each.
     ///
     /// # Errors
     ///
-    /// `NoMemory` where the bytes, a second copy of them or the record find no room.
+    /// `NoMemory` if there is no room for the bytes, a second copy of them or the record.
     pub fn new(alloc: Global, bytes: &[u8], calls: usize) -> Result<Self, NoMemory>
         ensures { IfOk result (λ file. file ≡ begun bytes.now calls) }
     {
@@ -75,7 +76,7 @@ impl MemFile {
         })
     }
 
-    /// Whether the record has room for a write of so many bytes.
+    /// Returns whether the record has room for a write of this number of bytes.
     fn has_room(&self, count: usize) -> bool
         ensures { IsTrue result ↔ HasRoom self.now count }
     {
@@ -169,14 +170,14 @@ fn record_write(calls: &mut Vec<FileCall>, written: &mut Vec<u8>, at: usize, byt
     }
 }
 
-/// The number of bytes that a record of so many calls has room for.
+/// Returns the number of bytes that a record of this number of calls has room for.
 fn bytes_for(calls: usize) -> Result<usize, NoMemory>
     ensures { IfOk result (λ room. room ≡ 1024 * calls) }
 {
     calls.checked_mul(BLOCK_BYTES).ok_or(NoMemory)
 }
 
-/// Puts these bytes into the others from a place on.
+/// Puts these bytes into the others, from a place.
 fn put_bytes(all: &mut Vec<u8>, at: usize, bytes: &[u8])
     requires { at + length bytes.now ≤ length all.old.items }
     ensures { all.new.items ≡ put at bytes.now all.old.items }
@@ -191,7 +192,7 @@ fn put_slice(all: &mut [u8], at: usize, bytes: &[u8])
     all[at..at + bytes.len()].copy_from_slice(bytes);
 }
 
-/// Marks so many bytes as open from a place on.
+/// Marks a number of bytes as open, from a place.
 fn open_bytes(opened: &mut Vec<bool>, at: usize, count: usize)
     requires { at + count ≤ length opened.old.items }
     ensures { opened.new.items ≡ put at (replicate count true) opened.old.items }

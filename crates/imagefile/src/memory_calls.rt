@@ -1,3 +1,4 @@
+//! The file in memory as a system's calls.
 ghost use Rattle.std.specs.Prelude.{◌≡◌, ◌≤◌, ◌+◌, Ok, IfOk, OnOk, OnErr, length, take};
 ghost use Rattle.std.proofs.Common.{inr};
 ghost use Rattle.imagefile.specs.File.{FileWrites, FileSyncs, window};
@@ -9,7 +10,7 @@ use crate::{Durable, FileCalls, MemFile};
 use blockdisk::Fault;
 use std::io;
 
-/// The calls of a system that does all it is asked, or fails where the record has no room.
+/// The calls of a system that does all that is requested, or fails if the record has no room.
 impl FileCalls for MemFile {
     ghost state = { memory_state };
 

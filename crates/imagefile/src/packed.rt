@@ -1,3 +1,4 @@
+//! A disk over an image of form 2.
 ghost use Rattle.std.specs.Prelude.{◌≡◌, ◌*◌, IfOk, IfErr};
 ghost use Rattle.imagefile.specs.Image.{image_state};
 ghost use Rattle.imagefile.specs.ImageLaws.{image_counts_now, image_only_now, image_reaches_back};
@@ -20,11 +21,11 @@ pub struct PackedDisk<F: Durable> {
 impl<F: Durable> PackedDisk<F> {
     ghost use Rattle.imagefile.specs.PackedDisk.{file_of, blocks_of};
 
-    /// The disk of this image, as many blocks as the file has 576 bytes. Nothing is written.
+    /// Makes the disk of this image, with one block for every 576 bytes of the file. Writes nothing.
     ///
     /// # Errors
     ///
-    /// The file is handed back: `BadSize` where its length is not that of an image, `Device` where the device failed.
+    /// The file is handed back: `BadSize` if its length is not that of an image, `Device` if the device failed.
     pub fn new(file: F) -> Result<Self, (ImageError, F)>
         ensures image { IfOk result
             (λ disk. IsImageOf Packed (blocks_of disk) (F.state file) (F.state (file_of disk))) }
@@ -42,7 +43,7 @@ impl<F: Durable> PackedDisk<F> {
         }
     }
 
-    /// The file that the disk lies in.
+    /// Returns the file that the disk is in.
     pub fn finish(self) -> F
         ensures { result ≡ file_of self }
     {
@@ -71,7 +72,7 @@ impl<F: Durable> Disk for PackedDisk<F> {
     }
 
     fn read_run(&mut self, first: u32, blocks: &mut [Block]) -> Result<Option<u32>, Fault> {
-        let _size = self.blocks(); // no more than a u32 counts
+        let _size = self.blocks(); // the number of places fits a u32
         read_blocks(Form::Packed, &mut self.file, first, blocks)
     }
 
@@ -84,7 +85,7 @@ impl<F: Durable> Disk for PackedDisk<F> {
     }
 
     fn write_run(&mut self, first: u32, blocks: &[Block]) -> Result<(), Fault> {
-        let _size = self.blocks(); // no more than a u32 counts
+        let _size = self.blocks(); // the number of blocks fits a u32
         write_blocks(Form::Packed, &mut self.file, first, blocks)
     }
 

@@ -1,3 +1,4 @@
+//! A system's calls on an open file, one by one and each on record, and the host's own.
 ghost use Rattle.std.specs.Prelude.{◌≡◌, ◌≤◌, Bool, List, ◌∷◌, [], length, is_ok, pos, IfOk};
 ghost use Rattle.std.specs.Io.KnownBytes.{ReadConsumes, WriteAppends};
 ghost use Rattle.std.specs.Io.Seek.{SeekMoves};
@@ -9,13 +10,13 @@ use crate::call_record::{CallMade, CallRecord};
 use std::fs::{File, OpenFile};
 use std::io::{self, Read, Seek, SeekFrom, Write};
 
-/// The calls of a system on an open file, one by one: each goes on record with its answer, whatever
-/// that is. Nothing is supposed of the answers.
+/// The calls of a system on an open file, one by one: each goes on record with its answer, whatever that is. Nothing
+/// is supposed about the answers.
 pub trait SystemCalls {
-    /// What was asked so far and what was answered, the newest call first.
+    /// The calls so far with their answers, the newest first.
     ghost history: { Self → List Call };
 
-    /// Sets the position to be `at` bytes from the beginning, and answers where it is.
+    /// Moves the position to `at` bytes from the beginning, and returns where it is.
     ///
     /// # Errors
     ///
@@ -23,7 +24,7 @@ pub trait SystemCalls {
     fn seek_start(&mut self, at: u64) -> io::Result<u64>
         ensures noted { history self.new ≡ SeekStart at (answer result) ∷ history self.old };
 
-    /// Sets the position to be the end, and answers where it is.
+    /// Moves the position to the end, and returns where it is.
     ///
     /// # Errors
     ///
@@ -31,7 +32,7 @@ pub trait SystemCalls {
     fn seek_end(&mut self) -> io::Result<u64>
         ensures noted { history self.new ≡ SeekEnd (answer result) ∷ history self.old };
 
-    /// Reads some bytes from the position on, which moves behind them, and answers how many.
+    /// Reads some bytes from the position, which moves past them, and returns how many.
     ///
     /// # Errors
     ///
@@ -40,7 +41,7 @@ pub trait SystemCalls {
         ensures few { IfOk result (λ count. count ≤ length bytes.old) }
         ensures noted { history self.new ≡ ReadCall (length bytes.old) (came result bytes.new) ∷ history self.old };
 
-    /// Writes some of the bytes from the position on, which moves behind them, and answers how many.
+    /// Writes some of the bytes from the position, which moves past them, and returns how many.
     ///
     /// # Errors
     ///
@@ -49,7 +50,7 @@ pub trait SystemCalls {
         ensures few { IfOk result (λ count. count ≤ length bytes.now) }
         ensures noted { history self.new ≡ WriteCall bytes.now (answer result) ∷ history self.old };
 
-    /// Waits until all that was written is on the device.
+    /// Waits until everything that was written is on the device.
     ///
     /// # Errors
     ///
@@ -66,7 +67,7 @@ pub trait SyncData {
     /// this trait can only prove it by calling `sync_data`.
     ghost was_synced: { Self → Self → Bool → Type 0 };
 
-    /// Waits until all that was written is on the device.
+    /// Waits until everything that was written is on the device.
     ///
     /// # Errors
     ///
@@ -75,9 +76,9 @@ pub trait SyncData {
         ensures { was_synced self.old self.new (is_ok result) };
 }
 
-/// The trusted line of the host file: the standard library promises nothing about `File::sync_data` that a proof could
-/// use, so nothing proves that this impl calls it. What else the host file does rests on what the library's `Read`,
-/// `Write` and `Seek` promise for any type.
+/// The trusted line of the host file: the standard library promises nothing about `File::sync_data` that a proof
+/// could use, so nothing proves that this impl calls it. Everything else that the host file does rests on what the
+/// library's `Read`, `Write` and `Seek` promise for any type.
 impl SyncData for File {
     ghost was_synced = { λ before after done. Unit {0} };
 
@@ -89,11 +90,11 @@ impl SyncData for File {
 
 /// An open file of the host, with the record of its calls.
 ///
-/// Each method makes one call of the standard library and records it. The contracts prove that the recorded call is the
-/// one that was made, as far as the library's traits can say: where a seek goes, which bytes a read returned, which
-/// bytes a write took. For a sync `SyncData` says it. The library's traits do not say when a call fails, so that a
-/// recorded failure came from the library has to be read from the bodies below. No body can make another call on the
-/// file: `self.file.set_len(0)` does not compile, because `F` has no such method.
+/// Each method makes one call of the standard library and records it. The contracts prove that the recorded call is
+/// the one that was made, as far as the library's traits can state it: where a seek goes, which bytes a read
+/// returned, which bytes a write took. For a sync, `SyncData` states it. The library's traits do not state when a
+/// call fails, so only the bodies below show that a recorded failure came from the library. No body can make another
+/// call on the file: `self.file.set_len(0)` does not compile, because `F` has no such method.
 #[derive(Drop)]
 pub struct HostCalls<F: Read + Write + Seek + SyncData = File> {
     file: F,
@@ -103,7 +104,7 @@ pub struct HostCalls<F: Read + Write + Seek + SyncData = File> {
 impl<F: Read + Write + Seek + SyncData> HostCalls<F> {
     ghost use Rattle.imagefile.specs.Common.{history_of, file_of};
 
-    /// This open file, of which nothing was asked yet.
+    /// Returns the calls of this open file before its first call.
     pub fn new(file: F) -> Self
         ensures file { file_of result ≡ file }
         ensures history { history_of result ≡ [] }

@@ -7,5 +7,5 @@ pub mod PublishedRows
 pub mod PublishedStates
 pub mod PublishedAnswers
 pub mod Sides
-pub mod Serving
+pub mod Serves
 pub mod Closings

@@ -2,4 +2,4 @@
 pub mod Calls
 pub mod States
 pub mod Asked
-pub mod Serving
+pub mod Serves

@@ -1,8 +1,8 @@
 -- ENTER on a channel that reads nothing.
-pub mod Beginning
+pub mod Begins
 pub mod Outcomes
 pub mod Enters
-pub mod Serving
+pub mod Serves
 pub mod Calls
 pub mod Readers
 pub mod Refusals

@@ -1,9 +1,9 @@
--- Events, one after the other, from a start on.
+-- Events, one after the other, from a start.
 pub mod Started
-pub mod Listing
+pub mod Lists
 pub mod Starts
 pub mod CoreWords
-pub mod Depositing
+pub mod Deposits
 pub mod EventCrashes
 pub mod Listed
 pub mod Along

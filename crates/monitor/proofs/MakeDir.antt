@@ -1,4 +1,4 @@
 -- MakeDir.
 pub mod Calls
 pub mod States
-pub mod Serving
+pub mod Serves

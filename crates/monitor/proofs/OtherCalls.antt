@@ -1,5 +1,5 @@
 -- OPEN, INBUF, OUTBUF, USETI, USETO, GETSTS and RESET.
-pub mod Resetting
+pub mod Resets
 pub mod Opens
 pub mod RingsMade
 pub mod Usetos

@@ -1,6 +1,6 @@
 -- IN.
 pub mod Inputs
 pub mod Words
-pub mod Asking
+pub mod AskedWords
 pub mod Calls
 pub mod ByJobs

@@ -5,8 +5,8 @@ pub mod MovedCore
 pub mod Arrivals
 pub mod MoveReplies
 pub mod MovedStates
-pub mod Wanting
-pub mod MoveServing
+pub mod NoMemory
+pub mod MoveServes
 pub mod Moves
 pub mod DeletedFiles
 pub mod ChangeAnswers

@@ -1,7 +1,7 @@
 -- OUT.
 pub mod Outs
 pub mod Outgoings
-pub mod Serving
+pub mod Serves
 pub mod Calls
 pub mod ByJobs
 pub mod Placed

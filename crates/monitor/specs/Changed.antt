@@ -1,9 +1,9 @@
--- Which words of its own core a call of a job may change, told by the call and by the job before it.
+-- Which words of its own core a call of a job may change, by the call and the job before it.
 use Rattle.std.specs.Prelude.{◌≡◌, ◌<◌, ◌≤◌, ℕ, ◌+◌, ◌-◌, ◌==◌, ◌||◌, ◌&&◌, not, Bool, true, is_none, is_some}
 use Rattle.std.specs.Prelude.{if◌then◌else◌, min, map, List, [], ◌∷◌, length, Option, Some, None}
 use Rattle.std.specs.List.{filter}
 use Rattle.spec_machine.specs.Common.{keeps_output, keeps_input, discards, dump_list, lies_outside, first_free}
-use Rattle.spec_machine.specs.Common.{areas_or_none, Channel, Job, State, channel_at, job_at, mode_at}
+use Rattle.spec_machine.specs.Common.{areas_or_none, Channel, SpecJob, State, channel_at, job_at, mode_at}
 use Rattle.spec_machine.specs.Common.{output_header_at, input_header_at, has_no_ring, is_buffered, buffers_of}
 use Rattle.spec_machine.specs.declared.area.Area.{Area}
 use Rattle.spec_machine.specs.declared.call.Call.{Call}
@@ -12,7 +12,7 @@ use Rattle.spec_machine.specs.declared.call.Call.TheVariants.{Useti, Useto, Clos
 use Rattle.spec_machine.specs.declared.call.Call.TheVariants.{DeleteDir, Quota}
 use Rattle.usercore.specs.Common.{ChangesWithin, words_at, setup_areas, in_areas, out_areas}
 
--- The parts of areas that lie in core, without those that have no words.
+-- The parts of areas that lie in a core, without those that have no words.
 
 abbrev pub clipped : List ℕ → Area → Area
 clipped core area = words_at area.first (min area.count (length core - area.first))
@@ -30,7 +30,7 @@ IsInside area = area.first + area.count ≤ 0o400000
 
 -- What a call names.
 
--- the three words of a header, if it is one that is meant; address 0 is no header
+-- the three words of a header, or no words if it isn't meant; address 0 is no header
 abbrev pub header_area : Bool → ℕ → Area
 header_area is_meant header = words_at header (if is_meant && not (header == 0) then 3 else 0)
 
@@ -63,14 +63,14 @@ areas_closed c bits =
     else header_area (is_some c.output && not (keeps_output bits)) c.output_header
     ∷ header_area (is_some c.input && not (keeps_input bits)) c.input_header ∷ []
 
--- a call on a channel, which has to be open
+-- a call on a channel, which must be open
 abbrev pub on_open : Option Channel → (Channel → List Area) → List Area
 on_open None areas = []
 on_open (Some c) areas = areas c
 
 -- A line for each call. A refusal writes its code into the second word of the block that the call names. LOOKUP and
 -- ENTER write a file's date and attributes into the second and third, and LOOKUP its size into the fourth.
-abbrev pub areas_named : Job → Call → List Area
+abbrev pub areas_named : SpecJob → Call → List Area
 areas_named job (Open ch a) = areas_opened job.core a
 areas_named job (Inbuf ch n) = on_open (channel_at job ch) (λ c. areas_set_up job.core c c.input_header n)
 areas_named job (Outbuf ch n) = on_open (channel_at job ch) (λ c. areas_set_up job.core c c.output_header n)
@@ -90,18 +90,18 @@ areas_named job (DeleteDir e) = words_at (e + 1) 1 ∷ []
 areas_named job (Quota e) = words_at (e + 1) 1 ∷ []
 
 -- the areas of its core that a call of a job may change
-abbrev pub areas_of : Job → Call → List Area
+abbrev pub areas_of : SpecJob → Call → List Area
 areas_of job call = in_core job.core (areas_named job call)
 
--- none, where nobody is logged in
-abbrev pub areas_for : Option Job → Call → List Area
+-- none if nobody is logged in
+abbrev pub areas_for : Option SpecJob → Call → List Area
 areas_for None call = []
 areas_for (Some job) call = areas_of job call
 
 -- From one state to another, job n stays, and of its core no word outside these areas changes; all other jobs are as
 -- before.
-pub record ChangesJob (n : ℕ) (job : Job) (areas : List Area) (s t : State) : Type 0 where
-  pub after : Job
+pub record ChangesJob (n : ℕ) (job : SpecJob) (areas : List Area) (s t : State) : Type 0 where
+  pub after : SpecJob
   pub there : job_at t n ≡ Some after
   pub core : ChangesWithin areas job.core after.core
   pub others : (m : ℕ) → (m ≡ n → ⊥) → job_at t m ≡ job_at s m

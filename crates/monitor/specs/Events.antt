@@ -9,22 +9,22 @@ use Rattle.spec_machine.specs.declared.call.Event.TheVariants.{Call as Calls, Lo
 use Rattle.spec_machine.specs.declared.call.Reply.{Reply}
 use Rattle.spec_machine.specs.declared.call.Reply.TheVariants.{Done, Value, Refused, Stopped, NoChannel, AddressCheck}
 use Rattle.spec_machine.specs.declared.call.Reply.TheVariants.{NoJob, NoMemory, Device, Failed, DateRange}
-use Rattle.volume.specs.Common.{VolumeCore}
-use Rattle.monitor.specs.Serving.{IsState}
+use Rattle.volume.specs.Common.{MemoryMap}
+use Rattle.monitor.specs.Serves.{IsState}
 use Rattle.monitor.specs.declared.job.Job.{Job}
 use Rattle.monitor.specs.Calls.{IsLight}
 use Rattle.spec_machine.specs.declared.call.Event.{Event}
 
 -- At any moment of the call by the job of a number, whether it is logged in or not, a crash leaves the files from
 -- before, or those of the machine after it, in the same layout.
-abbrev pub CallCrashes : (d d' : DiskState) (c : VolumeCore) (jobs : List (Option Job)) (n : ℕ) → Call → Moment → Type 0
+abbrev pub CallCrashes : (d d' : DiskState) (c : MemoryMap) (jobs : List (Option Job)) (n : ℕ) → Call → Moment → Type 0
 CallCrashes d d' c jobs n call moment =
     d'.honest → (s : State) → IsState d c jobs s
     → LeavesOnly d d' (λ contents. StandsOn (pack_of d) contents (without_serials s.files)
     ⊎ ((serial : ℕ)
     × StandsOn (pack_of d) contents (without_serials ((step (pack_of d) serial s (Calls n call moment)).1.files))))
 
--- an answer with which the disk isn't touched
+-- an answer that leaves the disk untouched
 abbrev pub IsIdle : Reply → Type 0
 IsIdle Done = ⊥
 IsIdle (Value word) = Unit {0}
@@ -52,21 +52,21 @@ IsDecided Device = ⊥
 IsDecided Failed = ⊥
 IsDecided DateRange = Unit {0}
 
--- What is said of the call that an event is, by the job that makes it and the moment.
+-- What holds for the call that an event is, by the job that makes it and the moment.
 abbrev pub OfCall : Event → (ℕ → Call → Moment → Type 0) → Type 0
 OfCall (Login job ppn words) P = Unit {0}
 OfCall (Deposit job address word) P = Unit {0}
 OfCall (Examine job address) P = Unit {0}
 OfCall (Calls job call moment) P = P job call moment
 
--- an event that is none
+-- an event that isn't a call
 abbrev pub IsNoCall : Event → Type 0
 IsNoCall (Login job ppn words) = Unit {0}
 IsNoCall (Deposit job address word) = Unit {0}
 IsNoCall (Examine job address) = Unit {0}
 IsNoCall (Calls job call moment) = ⊥
 
--- an event that takes no memory and leaves the disk alone, by the jobs that there are
+-- an event that takes no memory and leaves the disk alone, given these jobs
 abbrev pub IsLightEvent : Event → List (Option Job) → Type 0
 IsLightEvent (Login job ppn words) jobs = ⊥
 IsLightEvent (Deposit job address word) jobs = Unit {0}

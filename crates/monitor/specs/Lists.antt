@@ -1,4 +1,4 @@
--- What the monitor answers to who asks for a list, and where the volume refuses a call.
+-- What the monitor answers to a request for a list, and if the volume refuses a call.
 use Rattle.std.specs.Prelude.{◌≡◌, ◌+◌, List, Result, Ok, Err}
 use Rattle.spec_image.specs.Common.{number_of}
 use Rattle.spec_machine.specs.Common.{cleared, block_too_large}
@@ -6,7 +6,7 @@ use Rattle.spec_image.specs.declared.entry.Entry.{Entry}
 use Rattle.spec_machine.specs.declared.call.Reply.{Reply}
 use Rattle.volume.specs.declared.error.CallError.{CallError}
 use Rattle.volume.specs.declared.error.CallError.TheVariants.{Refused, Device, NoMemory, Failed}
-use Rattle.monitor.specs.declared.channel.Channel.{Channel}
+use Rattle.monitor.specs.declared.channel.OpenChannel.{OpenChannel}
 use Rattle.spec_machine.specs.declared.call.Reply.TheVariants as replies
 
 -- the answer to a call that the volume refused
@@ -16,8 +16,8 @@ reply_of Device = replies.Device
 reply_of NoMemory = replies.NoMemory
 reply_of Failed = replies.Failed
 
--- the answer where it refuses to publish what a channel has written, which it does for want of room alone
-abbrev pub unpublished_by : Channel → CallError → Reply
+-- the answer if it refuses to publish what a channel has written, which it does only for lack of room
+abbrev pub unpublished_by : OpenChannel → CallError → Reply
 unpublished_by c (Refused code) = replies.Stopped (cleared c.status + block_too_large)
 unpublished_by c Device = replies.Device
 unpublished_by c NoMemory = replies.NoMemory

@@ -1,11 +1,11 @@
--- Lists of events, moment by moment; and that reading holds still along them.
+-- Lists of events, moment by moment; and reading, which holds still along them.
 use Rattle.std.specs.Prelude.{◌≡◌, ℕ, List, [], ◌∷◌, ◌++◌, length, Option, Some, None}
 use Rattle.words36.specs.declared.moment.Moment.{Moment}
 use Rattle.blockdisk.specs.Common.{Contents, DiskState, MayLeave, LeavesOnly}
 use Rattle.spec_machine.specs.Common.{StandsForState, StandsForEither, SpareAll, FoundBy, MovesWordsOf, reads}
 use Rattle.spec_machine.specs.Common.{body_read, core_filled, State, channel_at, job_at, Service, Serving, Broken}
 use Rattle.spec_machine.specs.Common.{Answers}
-use Rattle.spec_image.specs.Common.{Version, Pack, words_from}
+use Rattle.spec_image.specs.Common.{SpecVersion, Pack, words_from}
 use Rattle.spec_machine.specs.declared.call.Call.TheVariants.{Lookup, In}
 use Rattle.spec_machine.specs.declared.call.Event.{Event}
 use Rattle.spec_machine.specs.declared.call.Event.TheVariants.{Call as Calls}
@@ -24,7 +24,7 @@ abbrev pub last_of : Service → List Service → Service
 last_of old [] = old
 last_of old (service ∷ services) = last_of service services
 
--- The events were answered so by way of these services, one after each event.
+-- The events got these answers, through these services, one after each event.
 abbrev pub RunsThrough : Pack → Service → List Event → List Reply → List Service → Type 0
 RunsThrough pack old [] [] [] = Unit {0}
 RunsThrough pack old (event ∷ events) (reply ∷ replies) (after ∷ services) =
@@ -34,10 +34,10 @@ RunsThrough pack old [] (reply ∷ replies) services = ⊥
 RunsThrough pack old (event ∷ events) [] services = ⊥
 RunsThrough pack old (event ∷ events) (reply ∷ replies) [] = ⊥
 
--- From a disk d on the events were answered so, by way of these services, and `end` is the disk after them. At each
--- moment, that before the first event and that after each of them, all that a crash may leave stands for the files
--- after the events so far; from one moment to the next a crash left these, or those after one event more where its
--- answer is one that may change files. From a fault of the disk on it is asked for nothing.
+-- From a disk d the events got these answers, through these services, and `end` is the disk after them. At each moment,
+-- that before the first event and that after each of them, all that a crash may leave stands for the files after the
+-- events so far; from one moment to the next a crash left these, or those after one more event if its answer is one
+-- that may change files. After a fault of the disk it isn't called any more.
 abbrev pub RunsBy : {D : Type 0} → (D → DiskState) → Pack → D → Service → List Event → List Reply → List Service
     → D → Type 0
 RunsBy state pack d Broken events replies services end = (end ≡ d) × RunsThrough pack Broken events replies services
@@ -54,16 +54,16 @@ RunsBy state pack d (Serving s) (event ∷ events) (reply ∷ replies) [] end = 
 
 -- Reading holds still.
 
--- what an IN of a job answers, and what it leaves of the job: told by the job's own record alone
-abbrev pub read_by : machine.Job → ℕ → ℕ → Option machine.Channel → Reply × machine.Job
+-- what an IN of a job answers, and what it leaves of the job: a function of the job's own record alone
+abbrev pub read_by : machine.SpecJob → ℕ → ℕ → Option machine.Channel → Reply × machine.SpecJob
 read_by job ch a None = (NoChannel, job)
 read_by job ch a (Some c) = reads job ch c a
 
-abbrev pub read_of : machine.Job → ℕ → ℕ → Reply × machine.Job
+abbrev pub read_of : machine.SpecJob → ℕ → ℕ → Reply × machine.SpecJob
 read_of job ch a = read_by job ch a (channel_at job ch)
 
--- A LOOKUP among the events was done, by way of the service `looked`, and so was a later IN of that job on that
--- channel, by way of `left`, and none of the job's own events between them takes the side away.
+-- A LOOKUP among the events was done, with the service `looked` after it, and so was a later IN of that job on that
+-- channel, with the service `left` after it, and none of the job's own events between them takes the side away.
 pub record LooksUpAndReads
     (events before between behind : List Event) (replies first second third : List Reply)
     (services one two three : List Service) (looked left : Service)
@@ -84,11 +84,11 @@ pub record ReadsWhatWasFound (found read left : Service) (n ch e a : ℕ) : Type
   pub found_is : found ≡ Serving found_in
   pub read_is : read ≡ Serving read_in
   pub left_is : left ≡ Serving left_in
-  pub version : Version
+  pub version : SpecVersion
   pub names : FoundBy found_in n e version
   pub moves : MovesWordsOf read_in left_in n ch a version
 
--- So it is with each LOOKUP and IN of a run by way of these services, whatever other jobs did.
+-- This holds for each LOOKUP and IN of a run through these services, whatever other jobs did.
 abbrev pub FoundIsRead : Service → List Event → List Reply → List Service → Type 0
 FoundIsRead old events replies services =
     (before between behind : List Event) (first second third : List Reply) (one two three : List Service)
@@ -97,7 +97,7 @@ FoundIsRead old events replies services =
     left n ch e a early late
     → ReadsWhatWasFound (last_of old one) (last_of looked two) left n ch e a
 
--- An IN of a job on a channel among the events was done, by way of the service `left`.
+-- An IN of a job on a channel among the events was done, with the service `left` after it.
 pub record Reads (events before behind : List Event) (replies first second : List Reply)
     (services one two : List Service)
     (left : Service) (n ch a : ℕ) (moment : Moment) : Type 0 where
@@ -107,23 +107,23 @@ pub record Reads (events before behind : List Event) (replies first second : Lis
   pub in_order : (length first ≡ length before) × (length one ≡ length before)
 
 -- The words that it moved, from the service `read` to `left`, are those of the body that its channel reads: while its
--- output side is open what that has written, else the version that its input side holds.
+-- output side is open, what that side has written, else the version that its input side has pinned.
 pub record ReadsItsBody (read left : Service) (n ch a : ℕ) : Type 0 where
   pub read_in : State
   pub left_in : State
   pub read_is : read ≡ Serving read_in
   pub left_is : left ≡ Serving left_in
-  pub job : machine.Job
+  pub job : machine.SpecJob
   pub channel : machine.Channel
-  pub side : machine.Input
-  pub after : machine.Job
+  pub side : machine.SpecInput
+  pub after : machine.SpecJob
   pub job_is : job_at read_in n ≡ Some job
   pub channel_is : channel_at job ch ≡ Some channel
   pub side_is : channel.input ≡ Some side
   pub after_is : job_at left_in n ≡ Some after
   pub core_is : after.core ≡ core_filled job channel a (words_from (body_read side channel.output) side.next)
 
--- So it is with each IN of a run by way of these services.
+-- This holds for each IN of a run through these services.
 abbrev pub BodyIsRead : Service → List Event → List Reply → List Service → Type 0
 BodyIsRead old events replies services =
     (before behind : List Event) (first second : List Reply) (one two : List Service) (left : Service) (n ch a : ℕ)
@@ -131,8 +131,8 @@ BodyIsRead old events replies services =
     → Reads events before behind replies first second services one two left n ch a moment
     → ReadsItsBody (last_of old one) left n ch a
 
--- Reading holds still: who looks a file up reads its words, whatever others do; and who writes reads what he has
--- written.
+-- Reading holds still: a job that looks a file up reads its words, whatever others do; and a job that writes reads what
+-- it has written.
 abbrev pub HoldsStill : Service → List Event → List Reply → List Service → Type 0
 HoldsStill old events replies services = FoundIsRead old events replies services
     × BodyIsRead old events replies services

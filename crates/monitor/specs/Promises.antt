@@ -8,68 +8,68 @@ use Rattle.spec_machine.specs.declared.call.Call.{Call}
 use Rattle.spec_machine.specs.declared.call.Event.TheVariants.{Call as Calls}
 use Rattle.spec_machine.specs.declared.call.Reply.{Reply}
 use Rattle.spec_machine.specs.declared.call.Reply.TheVariants.{NoMemory, Device, Failed, Refused}
-use Rattle.volume.specs.Common.{VolumeCore, IsSoundCore}
+use Rattle.volume.specs.Common.{MemoryMap, IsSoundMemory}
 use Rattle.monitor.specs.Calls.{IsLight, KeepsCore}
 use Rattle.monitor.specs.Events.{CallCrashes, IsIdle, IsDecided}
 use Rattle.monitor.specs.Refusals.{IsRefused}
-use Rattle.monitor.specs.Serving.{IsTimely, Serves, AreKeyed, ArePlaced, AreReading}
+use Rattle.monitor.specs.Serves.{IsTimely, Serves, AreKeyed, ArePlaced, AreReading}
 use Rattle.monitor.specs.declared.job.Job.{Job}
 
 -- The job of number n among these is this one, and what they write and read is what the volume has.
-pub record IsAmong (core : VolumeCore) (jobs : List (Option Job)) (n : ℕ) (job : Job) : Type 0 where
+pub record IsAmong (map : MemoryMap) (jobs : List (Option Job)) (n : ℕ) (job : Job) : Type 0 where
   pub there : slot jobs n ≡ Some job
-  pub keyed : AreKeyed core.pending jobs
-  pub reading : AreReading core.live jobs
+  pub keyed : AreKeyed map.pending jobs
+  pub reading : AreReading map.live jobs
 
 -- What a call may rely on: the volume serves, and the job that calls is one of those that it knows.
-pub record IsCallReady (d : DiskState) (core : VolumeCore) (failed : Bool) (job : Job) : Type 0 where
-  pub sound : IsSoundCore d core failed
+pub record IsCallReady (d : DiskState) (map : MemoryMap) (failed : Bool) (job : Job) : Type 0 where
+  pub sound : IsSoundMemory d map failed
   pub alive : failed ≡ false
-  pub placed : ArePlaced core
+  pub placed : ArePlaced map
   pub jobs : List (Option Job)
   pub number : ℕ
-  pub among : IsAmong core jobs number job
+  pub among : IsAmong map jobs number job
 
--- What a call by the job of number n promises of the volume, whose disk, core and failing are these before it and after
+-- What a call by the job of number n promises of the volume, whose disk, memory and failure are these before and after
 -- it, and of the jobs.
-pub record IsServing {D : Type 0} (state : D → DiskState) (disk disk' : D) (core core' : VolumeCore) (failed' : Bool)
+pub record IsServing {D : Type 0} (state : D → DiskState) (disk disk' : D) (map map' : MemoryMap) (failed' : Bool)
     (jobs jobs' : List (Option Job)) (n : ℕ) (call : Call) (moment : Moment) (reply : Reply) : Type 0 where
-  -- Where the volume hasn't failed it knows what the jobs write and read.
-  pub keyed : failed' ≡ false → AreKeyed core'.pending jobs'
-  pub placed : failed' ≡ false → ArePlaced core'
-  pub reading : failed' ≡ false → AreReading core'.live jobs'
+  -- If the volume hasn't failed, it knows what the jobs write and read.
+  pub keyed : failed' ≡ false → AreKeyed map'.pending jobs'
+  pub placed : failed' ≡ false → ArePlaced map'
+  pub reading : failed' ≡ false → AreReading map'.live jobs'
   -- No other job is changed.
   pub others : (m : ℕ) → (m ≡ n → ⊥) → slot jobs' m ≡ slot jobs m
-  -- It is answered as the machine does, and leaves what the machine leaves; a crash leaves the files from before, or
-  -- those.
-  pub answered : (state disk').honest → (old : Service) → Serves (state disk) core false jobs old
-      → (new : Service) × Serves (state disk') core' failed' jobs' new
+  -- It answers as the machine does, and leaves what the machine leaves; a crash leaves the files from before, or those
+  -- that the machine leaves.
+  pub answered : (state disk').honest → (old : Service) → Serves (state disk) map false jobs old
+      → (new : Service) × Serves (state disk') map' failed' jobs' new
       × Answers (pack_of (state disk)) old (Calls n call moment) reply new
-  pub crash : CallCrashes (state disk) (state disk') core jobs n call moment
+  pub crash : CallCrashes (state disk) (state disk') map jobs n call moment
   -- Which answers, and which calls, leave the disk and the rest alone, on every disk.
   pub idle : IsIdle reply → disk' ≡ disk
   pub light : IsLight call (slot jobs n) → (reply ≡ NoMemory → ⊥) × (disk' ≡ disk)
-  pub kept : KeepsCore call → core' ≡ core
-  pub memory : reply ≡ NoMemory → (disk' ≡ disk) × (core' ≡ core) × (failed' ≡ false) × (jobs' ≡ jobs)
-  pub decided : IsDecided reply → (disk' ≡ disk) × (core' ≡ core) × (failed' ≡ false) × (jobs' ≡ jobs)
+  pub kept : KeepsCore call → map' ≡ map
+  pub memory : reply ≡ NoMemory → (disk' ≡ disk) × (map' ≡ map) × (failed' ≡ false) × (jobs' ≡ jobs)
+  pub decided : IsDecided reply → (disk' ≡ disk) × (map' ≡ map) × (failed' ≡ false) × (jobs' ≡ jobs)
   pub refused : (code : ℕ) → reply ≡ Refused code → IsRefused call n code jobs jobs'
-  -- It fails with the volume, and blames the device where that failed.
+  -- It fails with the volume, and blames the device if that failed.
   pub failed : IsTrue failed' ↔ ((reply ≡ Device) ⊎ (reply ≡ Failed))
   pub blamed : (state disk').honest → reply ≡ Failed → ⊥
   pub counted : reply ≡ Device → (state disk').failures ≡ one_more (state disk).failures
   pub served : (reply ≡ Device → ⊥) → (state disk').failures ≡ (state disk).failures
   pub same : SameDisk (state disk) (state disk')
 
--- The same said of the job alone, among whichever jobs it stands.
-abbrev pub ServesJob : {D : Type 0} → (D → DiskState) → (disk disk' : D) → (core core' : VolumeCore) → (failed' : Bool)
+-- The same for the job alone, whichever jobs it is among.
+abbrev pub ServesJob : {D : Type 0} → (D → DiskState) → (disk disk' : D) → (map map' : MemoryMap) → (failed' : Bool)
     → (job job' : Job) → Call → Moment → Reply → Type 0
-ServesJob state disk disk' core core' failed' job job' call moment reply =
-    (jobs : List (Option Job)) (n : ℕ) → IsAmong core jobs n job
-    → IsServing state disk disk' core core' failed' jobs (slice_set jobs n (Some job')) n call moment reply
+ServesJob state disk disk' map map' failed' job job' call moment reply =
+    (jobs : List (Option Job)) (n : ℕ) → IsAmong map jobs n job
+    → IsServing state disk disk' map map' failed' jobs (slice_set jobs n (Some job')) n call moment reply
 
 -- at any moment that the disk can hold
-abbrev pub ServesAlways : {D : Type 0} → (D → DiskState) → (disk disk' : D) → (core core' : VolumeCore)
+abbrev pub ServesAlways : {D : Type 0} → (D → DiskState) → (disk disk' : D) → (map map' : MemoryMap)
     → (failed' : Bool) → (job job' : Job) → Call → Reply → Type 0
-ServesAlways state disk disk' core core' failed' job job' call reply =
-    (moment : Moment) → IsTimely (state disk) moment → ServesJob state disk disk' core core' failed' job job' call
+ServesAlways state disk disk' map map' failed' job job' call reply =
+    (moment : Moment) → IsTimely (state disk) moment → ServesJob state disk disk' map map' failed' job job' call
     moment reply

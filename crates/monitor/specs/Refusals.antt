@@ -11,8 +11,8 @@ use Rattle.monitor.specs.declared.job.Job.{Job}
 abbrev pub with_code : Job → ℕ → ℕ → Job
 with_code job address code = record job { core = with_right job.core (address + 1) code }
 
--- what it leaves of the job that made the call: one that names a block of words has the code put there, and any other
--- leaves the job as it was
+-- what it leaves of the job that made the call: if the call names a block of words, the code is put there; otherwise
+-- the job is as it was
 abbrev pub refused_with : Call → Job → ℕ → Job
 refused_with (Open channel address) job code = job
 refused_with (Inbuf channel count) job code = job

@@ -1,4 +1,4 @@
--- What a call does to the job that makes it, as the machine's row has it.
+-- What a call does to the job that makes it, by the machine's row.
 use Rattle.std.specs.Prelude.{◌≡◌, ◌⊎◌, ℕ, ◌+◌, ◌==◌, ◌||◌, ◌&&◌, not, is_some, false, Bool, if◌then◌else◌, ◌++◌}
 use Rattle.std.specs.Prelude.{List, Option, None, Some}
 use Rattle.std.specs.List.{AllByRecursion}
@@ -15,9 +15,9 @@ use Rattle.volume.specs.Common.{pending_at, slot, is_creation}
 use Rattle.volume.specs.declared.live.LiveVersion.{LiveVersion}
 use Rattle.volume.specs.declared.pending.PendingVersion.{PendingVersion}
 use Rattle.monitor.specs.Readers.{readers_of}
-use Rattle.monitor.specs.Serving.{present, IsSide, HasReaders}
+use Rattle.monitor.specs.Serves.{present, IsSide, HasReaders}
 use Rattle.monitor.specs.Sides.{UnderKeys, sides_in, keys_of, readers_in, pins_of, job_of}
-use Rattle.monitor.specs.declared.channel.Channel.{Channel}
+use Rattle.monitor.specs.declared.channel.OpenChannel.{OpenChannel}
 use Rattle.monitor.specs.declared.output.Output.{Output}
 use Rattle.monitor.specs.declared.job.Job.{Job}
 use Rattle.spec_machine.specs.Jobs as machine
@@ -29,7 +29,7 @@ IsRow job job' call reply =
     → job_at s n ≡ Some (job_of under job)
     → call_of pack serial s n (job_of under job) call moment ≡ (reply, with_job s n (job_of under job'))
 
--- a version that was not there, or is new in its directory as it was
+-- a version that was not there, or that was there and is new in its directory exactly if it was before
 abbrev pub IsOldOrNew : Option PendingVersion → PendingVersion → Type 0
 IsOldOrNew was p = (was ≡ None) ⊎ ((q : PendingVersion) × (was ≡ Some q) × (is_creation p ≡ is_creation q))
 
@@ -41,7 +41,7 @@ pub record KeepsSides (pending pending' : List (Option PendingVersion)) (job job
   pub each : AllByRecursion (IsSide pending') (sides_in (Some job))
       → AllByRecursion (IsSide pending') (sides_in (Some job'))
 
--- Versions are held and let go with the input sides of a job, which stay as they should be.
+-- Versions are pinned and unpinned with the input sides of a job, which stay valid.
 pub record KeepsReading (live live' : List (Option LiveVersion)) (job job' : Job) : Type 0 where
   pub once : (key : ℕ) → readers_of (slot live' key) + times key (pins_of (readers_in (Some job)))
       ≡ readers_of (slot live key) + times key (pins_of (readers_in (Some job')))
@@ -54,7 +54,7 @@ abbrev pub improper_at : List ℕ → ℕ → Bool
 improper_at core a = not (device_at core a == disk) || not (is_mode (mode_at core a))
 
 -- the channel that is opened in a mode
-abbrev pub opened_at : Mode → List ℕ → ℕ → Channel
+abbrev pub opened_at : Mode → List ℕ → ℕ → OpenChannel
 opened_at mode core a = record {
   mode = mode;
   input_header = input_header_at core a;
@@ -64,8 +64,8 @@ opened_at mode core a = record {
   output = None;
 }
 
--- core, where each header that a mode with buffers asks for has a ring that isn't set up yet, the output's first
-abbrev pub rings_opened : List ℕ → Channel → List ℕ
+-- the core, in which each header that a mode with buffers asks for has a ring that isn't set up yet, the output's first
+abbrev pub rings_opened : List ℕ → OpenChannel → List ℕ
 rings_opened core c =
     if is_buffered (mode_number c.mode)
     then after_writes core (header_opened (mode_number c.mode) c.output_header
@@ -74,18 +74,18 @@ rings_opened core c =
 
 -- CLOSE.
 
--- a channel has an output side, and closes it for good
-abbrev pub publishes_at : Option Channel → ℕ → Bool
+-- a channel has an output side, and a CLOSE with these bits publishes it
+abbrev pub publishes_at : Option OpenChannel → ℕ → Bool
 publishes_at None bits = false
 publishes_at (Some c) bits = is_some c.output && not (keeps_output bits) && not (discards bits)
 
--- the same of a job's channel, where there is such a job
+-- the same for a job's channel, if there is such a job
 abbrev pub publishes_by : ℕ → ℕ → Option Job → Bool
 publishes_by number bits None = false
 publishes_by number bits (Some job) = publishes_at (machine.slot job.channels number) bits
 
 -- The job's open channel has this output side, which a CLOSE with these bits publishes.
-pub record ClosesSide (job : Job) (number bits : ℕ) (c : Channel) (o : Output) : Type 0 where
+pub record ClosesSide (job : Job) (number bits : ℕ) (c : OpenChannel) (o : Output) : Type 0 where
   pub there : machine.slot job.channels number ≡ Some c
   pub side : c.output ≡ Some o
   pub closes : keeps_output bits ≡ false

@@ -6,8 +6,8 @@ use Rattle.spec_machine.specs.Common.{may_change, State, Service, Serving, Broke
 use Rattle.spec_image.specs.Common.{File, Files, Pack}
 use Rattle.spec_machine.specs.declared.call.Reply.{Reply}
 use Rattle.spec_machine.specs.declared.call.Reply.TheVariants.{Device, Failed}
-use Rattle.volume.specs.Common.{VolumeCore, StandsLikeBefore}
-use Rattle.monitor.specs.Serving.{Serves}
+use Rattle.volume.specs.Common.{MemoryMap, StandsLikeBefore}
+use Rattle.monitor.specs.Serves.{Serves}
 use Rattle.monitor.specs.declared.job.Job.{Job}
 use Rattle.spec_machine.specs.declared.call.Event.{Event}
 
@@ -23,9 +23,9 @@ abbrev pub FailsOnce : List Reply → Type 0
 FailsOnce [] = Unit {0}
 FailsOnce (reply ∷ replies) = (reply ≡ Device → AllByRecursion (λ later. later ≡ Failed) replies) × FailsOnce replies
 
--- The files of the state that a start finds: those after some of the calls that were answered, none left out, or
--- those after these and the next one, which was running, where its answer is one that may change files; and no third.
--- An event that the disk failed is the last.
+-- The files of the state that a start finds: those after some of the events that were answered, with none before them
+-- left out, or those after these and the next event, which was running, if its answer is one that may change files;
+-- there is no third case. An event at which the disk failed is the last.
 abbrev pub IsAlong : Pack → Service → List Event → List Reply → State → Type 0
 IsAlong pack Broken events replies found = ⊥
 IsAlong pack (Serving s) [] [] found = found ≡ s
@@ -36,17 +36,17 @@ IsAlong pack (Serving s) (event ∷ events) (reply ∷ replies) found =
     ⊎ ((mid : Service) × Answers pack (Serving s) event reply mid × IsAlong pack mid events replies found)
 
 -- The monitor serves these files, and nobody is logged in.
-abbrev pub ServesFiles : DiskState → VolumeCore → Bool → List (Option Job) → Files File → Type 0
+abbrev pub ServesFiles : DiskState → MemoryMap → Bool → List (Option Job) → Files File → Type 0
 ServesFiles d map failed jobs files = (s : State) → IsStart files s → Serves d map failed jobs (Serving s)
 
 -- Starts that were stopped.
 
--- All that a crash may leave of the disk e was left by d at some moment since t: e goes on where d was stopped.
+-- All that a crash may leave of the disk e was left by d at some moment since t: e continues where d was stopped.
 pub record Resumes (d : DiskState) (t : ℕ) (e : DiskState) : Type 0 where
   pub size : e.size ≡ d.size
   pub left : (c : Contents) → MayLeave e c → d.left_since t c
 
--- What each start ensures of its disk, from its beginning to its end: a crash at any moment of it leaves what stands
+-- What each start ensures of its disk, from its beginning to its end: what a crash leaves at any moment of it stands
 -- for whatever something stood for that a crash could leave at its beginning.
 abbrev pub HasStarted : DiskState → DiskState → Type 0
 HasStarted begun ended = LeavesOnly begun ended (StandsLikeBefore begun)

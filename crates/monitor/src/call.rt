@@ -1,6 +1,7 @@
+//! The table of the calls, and how a call of a job is served.
 ghost use Rattle.std.specs.Prelude.{◌≡◌, ◌⊎◌, ◌<◌, ◌≤◌, ◌↔◌, ℕ, true, false, Some, IsTrue, slice_set};
 ghost use Rattle.blockdisk.specs.Common.{SameDisk, LeavesOnly, one_more};
-ghost use Rattle.spec_machine.specs.Common.{StandsForEither, State, slot, job_at, Job as MachineJob, Service};
+ghost use Rattle.spec_machine.specs.Common.{StandsForEither, State, slot, job_at, SpecJob, Service};
 ghost use Rattle.spec_machine.specs.Common.{Serving, Answers, last_date};
 ghost use Rattle.spec_image.specs.Common.{layout_number, pack_of};
 ghost use Rattle.spec_machine.specs.declared.call.Call.TheVariants.{In};
@@ -9,7 +10,7 @@ ghost use Rattle.spec_machine.specs.declared.call.Reply.TheVariants.{NoMemory, F
 ghost use Rattle.monitor.specs.Common.{IsLight, KeepsCore, IsIdle, IsDecided, read_of, IsCallReady, IsServing};
 ghost use Rattle.monitor.specs.Common.{ServesJob, IsRefused, IsTimely, Serves, AreKeyed, ArePlaced, AreReading};
 ghost use Rattle.monitor.specs.declared.job.Job.{Job as JobRecord};
-ghost use Rattle.volume.specs.Common.{IsSoundCore};
+ghost use Rattle.volume.specs.Common.{IsSoundMemory};
 
 use crate::close::serve_close;
 use crate::delete_dir::serve_delete_dir;
@@ -36,7 +37,7 @@ use std::alloc::Global;
 use volume::Volume;
 use words36::Moment;
 
-/// A call of a job that is logged in: the table of the calls. Each row is the file of its name.
+/// Serves a call of a job that is logged in. This is the table of the calls: each row is the file of its name.
 fn answer<D: Disk>(
     alloc: Global,
     volume: &mut Volume<D>,
@@ -44,9 +45,9 @@ fn answer<D: Disk>(
     call: &Call,
     moment: Moment,
 ) -> Reply
-    requires ready { IsCallReady (D.state volume.old.disk) volume.old.core volume.old.failed job.old }
+    requires ready { IsCallReady (D.state volume.old.disk) volume.old.map volume.old.failed job.old }
     requires timely { IsTimely (D.state volume.old.disk) moment }
-    ensures serving { ServesJob D.state volume.old.disk volume.new.disk volume.old.core volume.new.core
+    ensures serving { ServesJob D.state volume.old.disk volume.new.disk volume.old.map volume.new.map
         volume.new.failed job.old job.new call.now moment result }
     ensures layout { volume.new.layout ≡ volume.old.layout }
 {
@@ -71,7 +72,7 @@ fn answer<D: Disk>(
     }
 }
 
-/// A call of the job of a number, at a moment that the disk can hold: the job is served where it lies.
+/// Serves a call of the job of a number, at a moment that the disk can hold. The job stays in its slot meanwhile.
 fn serve<D: Disk>(
     alloc: Global,
     volume: &mut Volume<D>,
@@ -80,13 +81,13 @@ fn serve<D: Disk>(
     call: &Call,
     moment: Moment,
 ) -> Reply
-    requires sound { IsSoundCore (D.state volume.old.disk) volume.old.core volume.old.failed }
-    requires keyed { AreKeyed volume.old.core.pending jobs.old }
-    requires placed { ArePlaced volume.old.core }
-    requires reading { AreReading volume.old.core.live jobs.old }
+    requires sound { IsSoundMemory (D.state volume.old.disk) volume.old.map volume.old.failed }
+    requires keyed { AreKeyed volume.old.map.pending jobs.old }
+    requires placed { ArePlaced volume.old.map }
+    requires reading { AreReading volume.old.map.live jobs.old }
     requires alive { volume.old.failed ≡ false }
     requires timely { IsTimely (D.state volume.old.disk) moment }
-    ensures serving { IsServing D.state volume.old.disk volume.new.disk volume.old.core volume.new.core
+    ensures serving { IsServing D.state volume.old.disk volume.new.disk volume.old.map volume.new.map
         volume.new.failed jobs.old jobs.new number call.now moment result }
     ensures layout { volume.new.layout ≡ volume.old.layout }
 {
@@ -100,25 +101,25 @@ fn serve<D: Disk>(
 }
 
 impl<D: Disk> Monitor<D> {
-    /// A call of a job, at a moment.
+    /// Serves a call of a job, at a moment.
     ///
-    /// The answer is that of the call; `DateRange` for a date that the layout of the disk can't hold; `NoJob` where no
-    /// job of that number is logged in; `NoChannel` where the channel isn't open, or where OPEN names one above 15;
-    /// `AddressCheck` if core lacks an address that it needs; `NoMemory` if core can't grow. After each of these
-    /// everything is as before. `Device` if the device failed, and then `Failed` to every call. A later start finds the
-    /// files from before the call or those after it.
-    #[inline(never)] // words that are put and looked at don't pay for its place on the stack
+    /// The answer is that of the call; `DateRange` for a date that the layout of the disk can't hold; `NoJob` if no job
+    /// of that number is logged in; `NoChannel` if the channel isn't open, or if OPEN names one above 15;
+    /// `AddressCheck` if the job's core lacks an address that the call needs; `NoMemory` if memory can't grow. After
+    /// each of these everything is as before. `Device` if the device failed; every later call is answered `Failed`. A
+    /// later start finds the files from before the call or those after it.
+    #[inline(never)] // so that `deposit` and `examine` don't pay for its place on the stack
     pub fn call(&mut self, alloc: Global, job: u32, call: &Call, moment: Moment) -> Reply
         ensures answered { (D.state self.new.disk).honest → (old : Service)
             → Serves (D.state self.old.disk) self.old.map self.old.failed self.old.jobs old
             → (new : Service) × Serves (D.state self.new.disk) self.new.map self.new.failed self.new.jobs new
             × Answers (pack_of (D.state self.old.disk)) old (Calls job call.now moment) result new }
-        // Reading holds still: what an IN answers and leaves is told by its own job's record, which no call of another
-        // job changes.
+        // Reading holds still: what an IN answers and leaves follows from its own job's record, which no call of
+        // another job changes.
         ensures still { (D.state self.new.disk).honest → (channel address : ℕ) → call.now ≡ In channel address
             → moment.date ≤ last_date (layout_number self.old.layout) → (s : State)
             → Serves (D.state self.old.disk) self.old.map self.old.failed self.old.jobs (Serving s)
-            → (own : MachineJob) → job_at s job ≡ Some own → (result ≡ NoMemory → ⊥) → (result ≡ Device → ⊥)
+            → (own : SpecJob) → job_at s job ≡ Some own → (result ≡ NoMemory → ⊥) → (result ≡ Device → ⊥)
             → (after : State)
             × Serves (D.state self.new.disk) self.new.map self.new.failed self.new.jobs (Serving after)
             × (result ≡ (read_of own channel address).0) × (job_at after job ≡ Some (read_of own channel address).1) }
@@ -129,8 +130,8 @@ impl<D: Disk> Monitor<D> {
             × ((t : State) → after ≡ Serving t → (m : ℕ) → (m ≡ job → ⊥) → job_at t m ≡ job_at s m) }
         // No other job is changed.
         ensures others { (m : ℕ) → (m ≡ job → ⊥) → slot self.new.jobs m ≡ slot self.old.jobs m }
-        // At any moment of it a crash leaves the files from before, or those after it where its answer is one that may
-        // change files: `Done`, and `Device`.
+        // At any moment of it a crash leaves the files from before, or those after it if its answer is one that may
+        // change files: `Done` or `Device`.
         ensures crash { (D.state self.new.disk).honest → (s : State)
             → Serves (D.state self.old.disk) self.old.map self.old.failed self.old.jobs (Serving s)
             → LeavesOnly (D.state self.old.disk) (D.state self.new.disk)
@@ -144,7 +145,8 @@ impl<D: Disk> Monitor<D> {
         ensures memory { result ≡ NoMemory → self.new ≡ self.old }
         // On every disk an answer about the date, the job, the channel or addresses leaves everything as it was.
         ensures decided { IsDecided result → self.new ≡ self.old }
-        // It fails with the device, and is Failed from then on; else only a broken promise of the disk makes it so.
+        // It fails with the device, and answers Failed after that; otherwise only a broken promise of the disk makes it
+        // fail.
         ensures failed { IsTrue self.new.failed ↔ ((result ≡ Device) ⊎ (result ≡ Failed)) }
         ensures broken { self.old.failed ≡ true → (result ≡ Failed) × (self.new ≡ self.old) }
         ensures blamed { (D.state self.new.disk).honest → result ≡ Failed → self.old.failed ≡ true }
@@ -155,7 +157,7 @@ impl<D: Disk> Monitor<D> {
         // A date that the layout of the disk can't hold: on every disk.
         ensures late { self.old.failed ≡ false → last_date (layout_number self.old.layout) < moment.date
             → (result ≡ DateRange) × (self.new ≡ self.old) }
-        // Which calls leave what is known of the disk.
+        // Which calls leave what is known of the disk as it was.
         ensures kept { KeepsCore call.now → self.new.map ≡ self.old.map }
         ensures layout { self.new.layout ≡ self.old.layout }
     {

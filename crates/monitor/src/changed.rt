@@ -1,3 +1,4 @@
+//! The areas of its own core that a call of a job may change, found before the call.
 ghost use Rattle.std.specs.Prelude.{◌≡◌, ◌+◌, ◌++◌, ◌∷◌, ◌==◌, not, [], IfOk, OnOk, option_map};
 ghost use Rattle.std.specs.List.{AllByRecursion, filter};
 ghost use Rattle.spec_machine.specs.Common.{dump_list, areas_or_none, State, job_at, slot, mode_at, is_buffered};
@@ -7,28 +8,28 @@ ghost use Rattle.monitor.specs.Common.{IsInside, clipped, in_core, header_area, 
 ghost use Rattle.monitor.specs.Common.{areas_filled, areas_emptied, areas_closed, on_open, areas_of, areas_for};
 ghost use Rattle.monitor.specs.Common.{Serves, UnderKeys, channel_of, job_of};
 
-use crate::channel::Channel;
+use crate::channel::OpenChannel;
 use crate::job::{Job, Jobs};
 use crate::monitor::Monitor;
 use crate::open::{lies_outside, word_at};
 use blockdisk::{Disk, NoMemory};
 use spec_machine::Call;
 use std::alloc::{AllocError, Global};
-use usercore::{Area, Core, FIRST_FREE, HEADER_WORDS};
+use usercore::{Core, CoreArea, FIRST_FREE, HEADER_WORDS};
 
-/// Gives the part of an area that lies in core.
-fn clipped(core: &Core, area: Area) -> Area
+/// Returns the part of an area that lies in a core.
+fn clipped(core: &Core, area: CoreArea) -> CoreArea
     ensures { result ≡ clipped core.now area }
 {
     let words_left = core.length().saturating_sub(area.first);
-    Area {
+    CoreArea {
         first: area.first,
         count: area.count.min(words_left),
     }
 }
 
 /// Adds an area to others, unless it has no words.
-fn add_some(parts: &mut Vec<Area>, part: Area) -> Result<(), AllocError>
+fn add_some(parts: &mut Vec<CoreArea>, part: CoreArea) -> Result<(), AllocError>
     ensures { OnOk result
         (parts.new.items ≡ parts.old.items ++ filter (λ area. not (area.count == 0)) (part ∷ [])) }
 {
@@ -38,8 +39,8 @@ fn add_some(parts: &mut Vec<Area>, part: Area) -> Result<(), AllocError>
     Ok(())
 }
 
-/// Gives the parts of areas that lie in core, without those that have no words.
-fn in_core(alloc: Global, core: &Core, areas: &[Area]) -> Result<Vec<Area>, AllocError>
+/// Returns the parts of areas that lie in a core, without those that have no words.
+fn in_core(alloc: Global, core: &Core, areas: &[CoreArea]) -> Result<Vec<CoreArea>, AllocError>
     ensures { IfOk result (λ parts. parts.items ≡ in_core core.now areas.now) }
 {
     let mut parts = Vec::with_capacity(alloc, areas.len())?;
@@ -49,22 +50,22 @@ fn in_core(alloc: Global, core: &Core, areas: &[Area]) -> Result<Vec<Area>, Allo
     Ok(parts)
 }
 
-/// Gives the three words of a header, if it is one that is meant; address 0 is no header.
-fn header_area(is_meant: bool, header: u32) -> Area
+/// Returns the three words of a header, or no words if it isn't meant; address 0 is no header.
+fn header_area(is_meant: bool, header: u32) -> CoreArea
     ensures { result ≡ header_area is_meant header }
 {
     let first = header as usize;
     if is_meant && header != 0 {
-        Area {
+        CoreArea {
             first,
             count: HEADER_WORDS,
         }
     } else {
-        Area { first, count: 0 }
+        CoreArea { first, count: 0 }
     }
 }
 
-/// Tells whether the mode that the word at an address asks for has buffers.
+/// Returns whether the mode that the word at an address asks for has buffers.
 fn has_buffers(core: &Core, address: u32) -> bool
     ensures { result ≡ is_buffered (mode_at core.now address) }
 {
@@ -72,8 +73,8 @@ fn has_buffers(core: &Core, address: u32) -> bool
     mode <= 1 || mode == 0o10 || mode == 0o13 || mode == 0o14
 }
 
-/// OPEN: gives the headers of the rings that its three words name, in a mode with buffers.
-fn opened(alloc: Global, core: &Core, address: u32) -> Result<Vec<Area>, AllocError>
+/// Returns the areas of an OPEN: in a mode with buffers, the headers of the rings that its three words name.
+fn opened(alloc: Global, core: &Core, address: u32) -> Result<Vec<CoreArea>, AllocError>
     ensures { IfOk result (λ areas. areas.items ≡ in_core core.now (areas_opened core.now address)) }
 {
     if lies_outside(core, address, 3) || !has_buffers(core, address) {
@@ -85,14 +86,14 @@ fn opened(alloc: Global, core: &Core, address: u32) -> Result<Vec<Area>, AllocEr
     in_core(alloc, core, &[output, input])
 }
 
-/// Gives what the setup of a channel's ring may change, by its header and the number of buffers.
+/// Returns what setting up a channel's ring may change, by its header and the number of buffers.
 fn set_up(
     alloc: Global,
     core: &Core,
-    channel: &Channel,
+    channel: &OpenChannel,
     header: u32,
     buffers: u32,
-) -> Result<Vec<Area>, AllocError>
+) -> Result<Vec<CoreArea>, AllocError>
     ensures { IfOk result (λ areas. (under : UnderKeys) → areas.items
         ≡ in_core core.now (areas_set_up core.now (channel_of under channel.now) header buffers)) }
 {
@@ -102,13 +103,13 @@ fn set_up(
     in_core(alloc, core, &core.setup_areas(header, buffers))
 }
 
-/// INBUF: gives what the setup of the input's ring may change.
+/// Returns the areas of an INBUF: what setting up the input's ring may change.
 fn set_up_for_input(
     alloc: Global,
     core: &Core,
-    channel: Option<Channel>,
+    channel: Option<OpenChannel>,
     buffers: u32,
-) -> Result<Vec<Area>, AllocError>
+) -> Result<Vec<CoreArea>, AllocError>
     ensures { IfOk result (λ areas. (under : UnderKeys) → areas.items ≡ in_core core.now (on_open
         (option_map (channel_of under) channel) (λ c. areas_set_up core.now c c.input_header buffers))) }
 {
@@ -118,13 +119,13 @@ fn set_up_for_input(
     set_up(alloc, core, &open, open.input_header, buffers)
 }
 
-/// OUTBUF: gives what the setup of the output's ring may change.
+/// Returns the areas of an OUTBUF: what setting up the output's ring may change.
 fn set_up_for_output(
     alloc: Global,
     core: &Core,
-    channel: Option<Channel>,
+    channel: Option<OpenChannel>,
     buffers: u32,
-) -> Result<Vec<Area>, AllocError>
+) -> Result<Vec<CoreArea>, AllocError>
     ensures { IfOk result (λ areas. (under : UnderKeys) → areas.items ≡ in_core core.now (on_open
         (option_map (channel_of under) channel) (λ c. areas_set_up core.now c c.output_header buffers))) }
 {
@@ -134,27 +135,27 @@ fn set_up_for_output(
     set_up(alloc, core, &open, open.output_header, buffers)
 }
 
-/// Gives words in a row, from the one after an address on.
+/// Returns an area of `count` words in a row, from the one after an address.
 fn following(
     alloc: Global,
     core: &Core,
     address: u32,
     count: usize,
-) -> Result<Vec<Area>, AllocError>
+) -> Result<Vec<CoreArea>, AllocError>
     ensures { IfOk result (λ areas. areas.items ≡ in_core core.now (words_at (address + 1) count ∷ [])) }
 {
     let first = address as usize + 1;
-    in_core(alloc, core, &[Area { first, count }])
+    in_core(alloc, core, &[CoreArea { first, count }])
 }
 
-/// LOOKUP, ENTER and RENAME: gives words in a row, from the second of their four on.
+/// Returns the areas of a LOOKUP, ENTER or RENAME: words in a row, from the second of its four.
 fn told(
     alloc: Global,
     core: &Core,
-    channel: Option<Channel>,
+    channel: Option<OpenChannel>,
     address: u32,
     count: usize,
-) -> Result<Vec<Area>, AllocError>
+) -> Result<Vec<CoreArea>, AllocError>
     ensures { IfOk result (λ areas. (under : UnderKeys) → areas.items ≡ in_core core.now (on_open
         (option_map (channel_of under) channel) (λ c. words_at (address + 1) count ∷ []))) }
 {
@@ -164,8 +165,8 @@ fn told(
     following(alloc, core, address, count)
 }
 
-/// Gives what the command list at an address names.
-fn listed(alloc: Global, core: &Core, address: u32) -> Result<Vec<Area>, AllocError>
+/// Returns the areas that the command list at an address names.
+fn listed(alloc: Global, core: &Core, address: u32) -> Result<Vec<CoreArea>, AllocError>
     ensures { IfOk result (λ areas. areas.items ≡ in_core core.now (areas_or_none (dump_list core.now address))) }
 {
     match core.dump_list(address) {
@@ -174,13 +175,13 @@ fn listed(alloc: Global, core: &Core, address: u32) -> Result<Vec<Area>, AllocEr
     }
 }
 
-/// IN: gives what filling a buffer may change, or what the command list names.
+/// Returns the areas of an IN: what filling a buffer may change, or what the command list names.
 fn filled(
     alloc: Global,
     core: &Core,
-    channel: Option<Channel>,
+    channel: Option<OpenChannel>,
     address: u32,
-) -> Result<Vec<Area>, AllocError>
+) -> Result<Vec<CoreArea>, AllocError>
     ensures { IfOk result (λ areas. (under : UnderKeys) → areas.items ≡ in_core core.now (on_open
         (option_map (channel_of under) channel) (λ c. areas_filled core.now c address))) }
 {
@@ -199,8 +200,12 @@ fn filled(
     in_core(alloc, core, &core.in_areas(open.input_header))
 }
 
-/// OUT: gives what emptying a buffer may change. In dump mode it changes no word.
-fn emptied(alloc: Global, core: &Core, channel: Option<Channel>) -> Result<Vec<Area>, AllocError>
+/// Returns the areas of an OUT: what emptying a buffer may change. In dump mode it changes no word.
+fn emptied(
+    alloc: Global,
+    core: &Core,
+    channel: Option<OpenChannel>,
+) -> Result<Vec<CoreArea>, AllocError>
     ensures { IfOk result (λ areas. (under : UnderKeys) → areas.items ≡ in_core core.now (on_open
         (option_map (channel_of under) channel) (λ c. areas_emptied core.now c))) }
 {
@@ -213,13 +218,13 @@ fn emptied(alloc: Global, core: &Core, channel: Option<Channel>) -> Result<Vec<A
     in_core(alloc, core, &core.out_areas(open.output_header))
 }
 
-/// CLOSE and RELEAS: gives the headers of the sides that close.
+/// Returns the areas of a CLOSE or RELEAS: the headers of the sides that close.
 fn closed(
     alloc: Global,
     core: &Core,
-    channel: Option<Channel>,
+    channel: Option<OpenChannel>,
     bits: u32,
-) -> Result<Vec<Area>, AllocError>
+) -> Result<Vec<CoreArea>, AllocError>
     ensures { IfOk result (λ areas. (under : UnderKeys) → areas.items ≡ in_core core.now (on_open
         (option_map (channel_of under) channel) (λ c. areas_closed c bits))) }
 {
@@ -236,8 +241,8 @@ fn closed(
     in_core(alloc, core, &[output, input])
 }
 
-/// Gives the areas of its core that a call of a job may change: a line for each call.
-fn areas_of(alloc: Global, job: &Job, call: &Call) -> Result<Vec<Area>, AllocError>
+/// Returns the areas of its core that a call of a job may change: a line for each call.
+fn areas_of(alloc: Global, job: &Job, call: &Call) -> Result<Vec<CoreArea>, AllocError>
     ensures { IfOk result (λ areas. (under : UnderKeys) → areas.items ≡ areas_of (job_of under job.now) call.now) }
 {
     let core = &job.core;
@@ -262,15 +267,20 @@ fn areas_of(alloc: Global, job: &Job, call: &Call) -> Result<Vec<Area>, AllocErr
     }
 }
 
-/// Gives those for the job of a number: none if nobody is logged in.
-fn areas_for(alloc: Global, jobs: &Jobs, number: u32, call: &Call) -> Result<Vec<Area>, AllocError>
+/// Returns these areas for the job of a number: none if nobody is logged in.
+fn areas_for(
+    alloc: Global,
+    jobs: &Jobs,
+    number: u32,
+    call: &Call,
+) -> Result<Vec<CoreArea>, AllocError>
     ensures value { IfOk result (λ areas. (under : UnderKeys) → areas.items
         ≡ areas_for (option_map (job_of under) (slot jobs.now number)) call.now) }
     ensures inside { IfOk result (λ areas. AllByRecursion IsInside areas.items) }
 {
     match jobs.job(number) {
         Some(job) => {
-            let _words = job.core.length(); // which says that there are at most 400000
+            let _words = job.core.length(); // its contract states that there are at most 400000 (octal)
             areas_of(alloc, job, call)
         }
         None => Ok(Vec::new(alloc)),
@@ -278,18 +288,23 @@ fn areas_for(alloc: Global, jobs: &Jobs, number: u32, call: &Call) -> Result<Vec
 }
 
 impl<D: Disk> Monitor<D> {
-    /// Tells which areas of its own core a call of a job may change, by the call and the job before it: no other word
-    /// of any core changes. Each area has words, and all of them lie in the core; areas may overlap. There are none
-    /// for a job that isn't logged in, nor for a call on a channel that isn't open. The disk isn't asked.
+    /// Returns the areas of its own core that a call of a job may change, by the call and the job before it: no other
+    /// word of any core changes. Each area has words, and all of them are in the core; areas may overlap. There are
+    /// none for a job that isn't logged in, or for a call on a channel that isn't open. The disk isn't called.
     ///
     /// # Errors
     ///
-    /// `NoMemory` if the list finds no room.
-    pub fn changed_areas(&self, alloc: Global, job: u32, call: &Call) -> Result<Vec<Area>, NoMemory>
+    /// `NoMemory` if there is no memory for the list.
+    pub fn changed_areas(
+        &self,
+        alloc: Global,
+        job: u32,
+        call: &Call,
+    ) -> Result<Vec<CoreArea>, NoMemory>
         ensures served { (s : State)
             → Serves (D.state self.now.disk) self.now.map self.now.failed self.now.jobs (Serving s)
             → IfOk result (λ areas. areas.items ≡ areas_for (job_at s job) call.now) }
-        // On every disk they are told by the job's record, whatever is under its keys.
+        // On every disk they follow from the job's record, whatever is under its keys.
         ensures value { IfOk result (λ areas. (under : UnderKeys) → areas.items
             ≡ areas_for (option_map (job_of under) (slot self.now.jobs job)) call.now) }
         ensures inside { IfOk result (λ areas. AllByRecursion IsInside areas.items) }

@@ -1,3 +1,4 @@
+//! The call DeleteDir.
 ghost use Rattle.std.specs.Prelude.{◌≡◌};
 ghost use Rattle.spec_machine.specs.declared.call.Call.TheVariants.{DeleteDir};
 ghost use Rattle.monitor.specs.Common.{is_kept_from, IsCallReady, ServesAlways};
@@ -12,12 +13,12 @@ use spec_machine::Reply;
 use volume::{CallError, Volume};
 use words36::Ppn;
 
-/// DeleteDir: deletes an empty directory, whose it is by the first of the two words at an address. It is refused where
-/// there is no such directory, then to anybody but [1,2] and, where it has no quota, whose it is, then where it has a
+/// Serves DeleteDir: deletes an empty directory, whose owner is the first of the two words at an address. It is refused
+/// if there is no such directory, then to anybody except [1,2] and, if it has no quota, its owner, then if it has a
 /// file or one is being created in it. Its row is `removes`.
 pub fn serve_delete_dir<D: Disk>(volume: &mut Volume<D>, job: &mut Job, address: u32) -> Reply
-    requires ready { IsCallReady (D.state volume.old.disk) volume.old.core volume.old.failed job.old }
-    ensures serving { ServesAlways D.state volume.old.disk volume.new.disk volume.old.core volume.new.core
+    requires ready { IsCallReady (D.state volume.old.disk) volume.old.map volume.old.failed job.old }
+    ensures serving { ServesAlways D.state volume.old.disk volume.new.disk volume.old.map volume.new.map
         volume.new.failed job.old job.new (DeleteDir address) result }
     ensures layout { volume.new.layout ≡ volume.old.layout }
 {
@@ -41,9 +42,9 @@ pub fn serve_delete_dir<D: Disk>(volume: &mut Volume<D>, job: &mut Job, address:
     }
 }
 
-/// Whether a job may not delete a directory: [1,2] may, and the one whose directory it is where it has no quota.
+/// Returns whether a job may not delete a directory: [1,2] may, and so may the directory's owner if it has no quota.
 fn is_kept_from<D: Disk>(volume: &Volume<D>, ppn: Ppn, owner: Ppn) -> bool
-    ensures { result ≡ is_kept_from volume.now.core ppn owner }
+    ensures { result ≡ is_kept_from volume.now.map ppn owner }
 {
     !is_system(ppn) && (ppn != owner || volume.quota(owner) != 0)
 }

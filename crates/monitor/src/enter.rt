@@ -1,3 +1,4 @@
+//! The call ENTER for a new version, and the names, places and attributes in the words of calls.
 ghost use Rattle.std.specs.Prelude.{◌≡◌, ◌==◌, ◌&&◌, ◌+◌, ◌%◌, ◌<◌, ◌≤◌, ℕ, false, Bool, IfOk, MatchResult, Ok, Err};
 ghost use Rattle.std.specs.Prelude.{IfSome, IfNone, IfErr, None, Some, OnErr, IsErrOf, IsTrue, slice_index};
 ghost use Rattle.words36.specs.Common.{left, IsPpn};
@@ -7,8 +8,8 @@ ghost use Rattle.spec_machine.specs.Common.{directory_digit, file_digit, may_loo
 ghost use Rattle.spec_image.specs.Common.{File, Files, pack_of, get, file_at, attributes, place_of};
 ghost use Rattle.spec_machine.specs.declared.call.Reply.TheVariants.{Done, NoMemory, Failed, Device, Refused};
 ghost use Rattle.volume.specs.declared.error.CallError.TheVariants.{Failed as VolumeFailed, Device as VolumeDevice};
-ghost use Rattle.volume.specs.Common.{is_update, IsBegun, pending_at, is_creation, IsSoundCore, RestsAt, claims};
-ghost use Rattle.volume.specs.declared.pending.Kind.{Kind as VersionKind};
+ghost use Rattle.volume.specs.Common.{is_update, IsBegun, pending_at, is_creation, IsSoundMemory, RestsAt, claims};
+ghost use Rattle.volume.specs.declared.pending.PendingKind.{PendingKind};
 ghost use Rattle.volume.specs.declared.pending.PendingVersion.{PendingVersion};
 ghost use Rattle.monitor.specs.Common.{IsDecided, found_in, begun_as, allowed, kind_for, protection_for, file_begun};
 ghost use Rattle.monitor.specs.Common.{IsKnown, IsAnswer, IsPrimeAt, begin_answer_at, entered_kind, IsEntering};
@@ -16,11 +17,11 @@ ghost use Rattle.monitor.specs.Common.{IsEnterAnswer, KeepsReading, ArePlaced, I
 ghost use Rattle.monitor.specs.Common.{reader_of, with_code, IsCallReady, ServesJob};
 ghost use Rattle.spec_machine.specs.declared.call.Call.TheVariants.{Enter};
 
-use crate::channel::Channel;
+use crate::channel::OpenChannel;
 use crate::found::Found;
 use crate::job::Job;
 use crate::open::{lies_outside, word_at};
-use crate::output::{Kind, Output};
+use crate::output::{Output, OutputKind};
 use crate::status::{cleared, refuse};
 use crate::update::{reading_side, update};
 use blockdisk::Disk;
@@ -30,11 +31,11 @@ use spec_image::ErrorCode;
 use spec_machine::{Act, Reply};
 use std::alloc::Global;
 use usercore::Core;
-use volume::{CallError, Kind as VersionKind, Pending, Volume};
+use volume::{CallError, Pending, PendingKind, Volume};
 use words36::{FileName, Half, Moment, Ppn, Word};
 
-/// ENTER: opens an output side for the file that the four words at an address name, at a moment. Its rows are `update`
-/// on a channel that reads a file, and `enter`.
+/// Serves ENTER: opens an output side for the file that the four words at an address name, at a moment. Its rows are
+/// `update` on a channel that reads a file, and `enter`.
 pub fn serve_enter<D: Disk>(
     alloc: Global,
     volume: &mut Volume<D>,
@@ -43,9 +44,9 @@ pub fn serve_enter<D: Disk>(
     address: u32,
     moment: Moment,
 ) -> Reply
-    requires ready { IsCallReady (D.state volume.old.disk) volume.old.core volume.old.failed job.old }
+    requires ready { IsCallReady (D.state volume.old.disk) volume.old.map volume.old.failed job.old }
     requires timely { IsTimely (D.state volume.old.disk) moment }
-    ensures serving { ServesJob D.state volume.old.disk volume.new.disk volume.old.core volume.new.core
+    ensures serving { ServesJob D.state volume.old.disk volume.new.disk volume.old.map volume.new.map
         volume.new.failed job.old job.new (Enter channel address) moment result }
     ensures layout { volume.new.layout ≡ volume.old.layout }
 {
@@ -55,7 +56,7 @@ pub fn serve_enter<D: Disk>(
     }
 }
 
-/// What stands at a place of a volume.
+/// Returns what is at a place of a volume.
 pub fn find<D: Disk>(volume: &Volume<D>, ppn: Ppn, file: &FileName) -> Found
     ensures { (D.state volume.now.disk).honest → volume.now.failed ≡ false → (files : Files File)
         → RestsAt (D.state volume.now.disk) files
@@ -71,7 +72,7 @@ pub fn find<D: Disk>(volume: &Volume<D>, ppn: Ppn, file: &FileName) -> Found
     }
 }
 
-/// Whether a job may take the place of a file, by the protections of its directory and its own.
+/// Returns whether a job may take the place of a file, by the protections of its directory and its own.
 fn may_supersede(protection: u16, own: u16, who: Ppn, owner: Ppn) -> bool
     ensures { result ≡ (may_look (directory_digit protection who owner) && may_supersede (file_digit own who owner)) }
 {
@@ -79,13 +80,13 @@ fn may_supersede(protection: u16, own: u16, who: Ppn, owner: Ppn) -> bool
     dir_right(protection, who, owner, DirectoryAct::Look) && right(own, who, owner, Act::SUPERSEDE)
 }
 
-/// How a job begins to write that may do so, or why not.
+/// Returns how a job begins to write if it may do so, or why not.
 fn begin_as(
-    kind: VersionKind,
+    kind: PendingKind,
     may: bool,
     is_zero: bool,
     is_claimed: bool,
-) -> Result<VersionKind, ErrorCode>
+) -> Result<PendingKind, ErrorCode>
     ensures { result ≡ begun_as kind may is_zero is_claimed }
 {
     if is_zero {
@@ -100,40 +101,40 @@ fn begin_as(
     Ok(kind)
 }
 
-/// How a job may begin to write at a place, or why not.
+/// Returns how a job may begin to write at a place, or why not.
 fn allow(
     found: Found,
     who: Ppn,
     owner: Ppn,
     is_zero: bool,
     is_claimed: bool,
-) -> Result<VersionKind, ErrorCode>
+) -> Result<PendingKind, ErrorCode>
     ensures { result ≡ allowed found who owner is_zero is_claimed }
 {
     match found {
         Found::NoDirectory => Err(ErrorCode::NoDirectory),
         Found::Absent(protection) => {
             let may = dir_right(protection, who, owner, DirectoryAct::Create);
-            begin_as(VersionKind::Create, may, is_zero, is_claimed)
+            begin_as(PendingKind::Create, may, is_zero, is_claimed)
         }
         Found::Present(protection, own) => {
             let may = may_supersede(protection, own, who, owner);
-            begin_as(VersionKind::Supersede, may, is_zero, is_claimed)
+            begin_as(PendingKind::Supersede, may, is_zero, is_claimed)
         }
     }
 }
 
-/// How a version begins, by what stands at its place: in the place of the file, or as a new one.
-fn kind_for(found: Found) -> VersionKind
+/// Returns how a version begins, by what is at its place: in the place of the file, or as a new one.
+fn kind_for(found: Found) -> PendingKind
     ensures { result ≡ kind_for found }
 {
     match found {
-        Found::Present(_, _) => VersionKind::Supersede,
-        Found::NoDirectory | Found::Absent(_) => VersionKind::Create,
+        Found::Present(_, _) => PendingKind::Supersede,
+        Found::NoDirectory | Found::Absent(_) => PendingKind::Create,
     }
 }
 
-/// The protection of what is written: that which is asked for, or the old file's.
+/// Returns the protection of what is written: the old file's if there is one, else the one that is asked for.
 fn protection_for(found: Found, asked: u16) -> u16
     requires { asked < 512 }
     ensures value { result ≡ protection_for found asked }
@@ -145,7 +146,7 @@ fn protection_for(found: Found, asked: u16) -> u16
     }
 }
 
-/// The protection in bits 0 to 8 of a word, or another where they are 0.
+/// Returns the protection in bits 0 to 8 of a word, or `default` if they are 0.
 pub fn protection_or(word: Word, default: u16) -> u16
     requires { default < 512 }
     ensures value { result ≡ protection_or word default }
@@ -155,7 +156,7 @@ pub fn protection_or(word: Word, default: u16) -> u16
     if protection == 0 { default } else { protection }
 }
 
-/// The directory that the words at an address name, 0 for the job's own.
+/// Returns the directory that the words at an address name, 0 for the job's own.
 pub fn owner_at(job: &Job, address: u32) -> Option<Ppn>
     requires { address + 4 ≤ 0o400000 }
     ensures there { IfSome result (λ ppn. ppn ≡ own_if_zero (slice_index job.now.core (address + 3)) job.now.ppn) }
@@ -168,7 +169,7 @@ pub fn owner_at(job: &Job, address: u32) -> Option<Ppn>
     Ppn::from_word(word)
 }
 
-/// The name of a file that the words at an address name.
+/// Returns the name of a file that the words at an address name.
 pub fn name_at(core: &Core, address: u32) -> FileName
     requires { address + 4 ≤ 0o400000 }
     ensures { (result.name ≡ slice_index core.now address) × (result.ext ≡ left (slice_index core.now (address + 1))) }
@@ -179,18 +180,18 @@ pub fn name_at(core: &Core, address: u32) -> FileName
     }
 }
 
-/// How an output side began that writes a version without words.
-fn kind_of<D: Disk>(volume: &Volume<D>, pending: Pending) -> Kind
-    ensures { (p : PendingVersion) → pending_at volume.now.core.pending pending.key ≡ Some p
+/// Returns how an output side began that writes a version without words.
+fn kind_of<D: Disk>(volume: &Volume<D>, pending: Pending) -> OutputKind
+    ensures { (p : PendingVersion) → pending_at volume.now.map.pending pending.key ≡ Some p
         → result ≡ entered_kind (is_creation p) }
 {
     match volume.kind(pending) {
-        Some(VersionKind::Create) => Kind::Create,
-        _ => Kind::Supersede,
+        Some(PendingKind::Create) => OutputKind::Create,
+        _ => OutputKind::Supersede,
     }
 }
 
-/// Protection, mode, time and the low twelve bits of the date of a version in one word.
+/// Returns protection, mode, time and the low twelve bits of the date of a version in one word.
 fn attributes(prime: &Prime) -> Word
     ensures { result ≡ attributes (file_begun prime.now) }
 {
@@ -200,7 +201,7 @@ fn attributes(prime: &Prime) -> Word
     Word::from_bits(protection + mode + time + u64::from(prime.moment.date % 4096))
 }
 
-/// What the prime block says of the version that an ENTER of the words at an address writes in a mode.
+/// Returns what the prime block states of the version that an ENTER of the words at an address writes in a mode.
 fn prime_for(
     core: &Core,
     address: u32,
@@ -222,18 +223,18 @@ fn prime_for(
     let protection = protection_for(found, asked);
     match Prime::new(file, ppn, protection, mode, moment) {
         Some(prime) => prime,
-        None => unreachable!(), // it has three digits
+        None => unreachable!(), // the protection has three digits
     }
 }
 
-/// The same prime block once more.
+/// Returns a copy of a prime block.
 fn copy_of(prime: &Prime) -> Prime
     ensures { result ≡ prime.now }
 {
     *prime
 }
 
-/// What stands at a place where a job may begin to write, or why it may not.
+/// Returns what is at a place if a job may begin to write there, or why it may not.
 fn may_begin<D: Disk>(
     volume: &Volume<D>,
     who: Ppn,
@@ -241,15 +242,15 @@ fn may_begin<D: Disk>(
     file: &FileName,
 ) -> Result<Found, ErrorCode>
     ensures free { IfOk result (λ found. ((file.now.name == 0) ≡ false)
-        × (claims volume.now.core.pending (place_of owner file.now) ≡ false)) }
+        × (claims volume.now.map.pending (place_of owner file.now) ≡ false)) }
     ensures found { (D.state volume.now.disk).honest → volume.now.failed ≡ false → (files : Files File)
         → RestsAt (D.state volume.now.disk) files
         → MatchResult result
         (λ found. (found ≡ found_in (get files owner) file.now)
-        × ((kind : VersionKind) × (allowed found who owner (file.now.name
-        == 0) (claims volume.now.core.pending (place_of owner file.now)) ≡ Ok kind)))
+        × ((kind : PendingKind) × (allowed found who owner (file.now.name
+        == 0) (claims volume.now.map.pending (place_of owner file.now)) ≡ Ok kind)))
         (λ code. allowed (found_in (get files owner) file.now) who owner (file.now.name
-        == 0) (claims volume.now.core.pending (place_of owner file.now)) ≡ Err code) }
+        == 0) (claims volume.now.map.pending (place_of owner file.now)) ≡ Err code) }
 {
     let found = find(volume, owner, file);
     let claimed = volume.is_claimed(owner, file);
@@ -264,7 +265,7 @@ fn may_begin<D: Disk>(
 ///
 /// # Errors
 ///
-/// `Refused` as the machine refuses; `NoMemory` where core can't grow. All is as before then.
+/// `Refused` as the machine refuses; `NoMemory` if memory can't grow. Then everything is as before.
 fn begin_at<D: Disk>(
     alloc: Global,
     volume: &mut Volume<D>,
@@ -273,16 +274,16 @@ fn begin_at<D: Disk>(
     address: u32,
     moment: Moment,
 ) -> Result<(Pending, Prime), CallError>
-    requires sound { IsSoundCore (D.state volume.old.disk) volume.old.core volume.old.failed }
+    requires sound { IsSoundMemory (D.state volume.old.disk) volume.old.map volume.old.failed }
     requires there { address + 4 ≤ 0o400000 }
     requires timely { IsTimely (D.state volume.old.disk) moment }
     ensures untouched { (volume.new.disk ≡ volume.old.disk) × (volume.new.failed ≡ volume.old.failed) }
     ensures layout { volume.new.layout ≡ volume.old.layout }
-    ensures begun { IfOk result (λ begun. (kind : VersionKind) × (is_update kind ≡ false)
-        × IsBegun volume.old.core volume.new.core begun.0.key kind begun.1) }
+    ensures begun { IfOk result (λ begun. (kind : PendingKind) × (is_update kind ≡ false)
+        × IsBegun volume.old.map volume.new.map begun.0.key kind begun.1) }
     ensures free { IfOk result (λ begun. ((begun.1.file.name == 0) ≡ false)
-        × (claims volume.old.core.pending (place_of begun.1.ppn begun.1.file) ≡ false)) }
-    ensures same { OnErr result (volume.new.core ≡ volume.old.core) }
+        × (claims volume.old.map.pending (place_of begun.1.ppn begun.1.file) ≡ false)) }
+    ensures same { OnErr result (volume.new.map ≡ volume.old.map) }
     ensures only { (IsErrOf result VolumeFailed → IsTrue volume.old.failed) × (IsErrOf result VolumeDevice → ⊥) }
     ensures prime { IfOk result (λ begun. IsPrimeAt job.now mode address moment begun.1) }
     ensures protection { (D.state volume.new.disk).honest → volume.old.failed ≡ false → (files : Files File)
@@ -290,7 +291,7 @@ fn begin_at<D: Disk>(
         → IfOk result (λ begun. begun.1.protection ≡ protection_for (found_in (get files begun.1.ppn) begun.1.file)
         (protection_or (slice_index job.now.core (address + 2)) 0o057)) }
     ensures answered { (D.state volume.new.disk).honest → volume.old.failed ≡ false → (s : State)
-        → IsKnown (D.state volume.old.disk) volume.old.core s
+        → IsKnown (D.state volume.old.disk) volume.old.map s
         → (under : UnderKeys) → IsAnswer result (begin_answer_at (pack_of (D.state volume.old.disk)) s
         (job_of under job.now) (place_at (job_of under job.now) address)) }
 {
@@ -314,16 +315,16 @@ fn begin_at<D: Disk>(
     }
 }
 
-/// Gives the three high bits of a date, in the highest bits of half a word. They come from the date alone: if a layout
-/// has no place for them, no date that it holds sets one.
+/// Returns the three high bits of a date, in the highest bits of half a word. They come from the date alone: if a
+/// layout has no place for them, no date that it holds sets one.
 pub fn high_date(moment: Moment) -> Half
     ensures { result ≡ high_date 2 moment.date }
 {
     Half::from_bits(moment.date / 4096 << 15)
 }
 
-/// Puts the attributes of a version that is begun into the second and third of the words at an address: the high bits
-/// of its date behind the extension.
+/// Puts the attributes of a version that is begun into the second and third of the words at an address; the high bits
+/// of its date follow the extension.
 pub fn put_attributes(core: &mut Core, address: u32, prime: &Prime)
     requires { address + 4 ≤ 0o400000 }
     ensures { core.new ≡ with_attributes 2 core.old address (file_begun prime.now) }
@@ -336,9 +337,9 @@ pub fn put_attributes(core: &mut Core, address: u32, prime: &Prime)
     let _ = core.set_word(address + 2, attributes(prime));
 }
 
-/// ENTER: opens an output side for the file that the four words at an address name: a new one, or one that will
-/// take the place of the file of that name. Its attributes are put into the words, with its whole date. The channel
-/// reads nothing.
+/// Serves ENTER on a channel that reads nothing: opens an output side for the file that the four words at an address
+/// name, either a new one, or one that will take the place of the file of that name. Its attributes, with its whole
+/// date, are put into the words.
 fn enter<D: Disk>(
     alloc: Global,
     volume: &mut Volume<D>,
@@ -347,7 +348,7 @@ fn enter<D: Disk>(
     address: u32,
     moment: Moment,
 ) -> Reply
-    requires sound { IsSoundCore (D.state volume.old.disk) volume.old.core volume.old.failed }
+    requires sound { IsSoundMemory (D.state volume.old.disk) volume.old.map volume.old.failed }
     // The volume serves.
     requires timely { IsTimely (D.state volume.old.disk) moment }
     requires alive { volume.old.failed ≡ false }
@@ -357,18 +358,18 @@ fn enter<D: Disk>(
     ensures layout { volume.new.layout ≡ volume.old.layout }
     ensures only { (result ≡ Failed → ⊥) × (result ≡ Device → ⊥) }
     // What it leaves, by its answer.
-    ensures begun { result ≡ Done → (channel : Channel) × (key : ℕ) × (prime : Prime)
-        × IsEntering volume.old.core volume.new.core job.old job.new number address moment channel key prime
+    ensures begun { result ≡ Done → (channel : OpenChannel) × (key : ℕ) × (prime : Prime)
+        × IsEntering volume.old.map volume.new.map job.old job.new number address moment channel key prime
         × ((D.state volume.new.disk).honest → (files : Files File) → RestsAt (D.state volume.old.disk) files
         → prime.protection ≡ protection_for (found_in (get files prime.ppn) prime.file)
         (protection_or (slice_index job.old.core (address + 2)) 0o057)) }
-    ensures placed { ArePlaced volume.old.core → ArePlaced volume.new.core }
-    ensures kept { (result ≡ Done → ⊥) → (volume.new.core ≡ volume.old.core)
+    ensures placed { ArePlaced volume.old.map → ArePlaced volume.new.map }
+    ensures kept { (result ≡ Done → ⊥) → (volume.new.map ≡ volume.old.map)
         × (job.new ≡ record job.old { core = job.new.core }) }
     ensures memory { result ≡ NoMemory → job.new ≡ job.old }
-    ensures reads { KeepsReading volume.old.core.live volume.new.core.live job.old job.new }
+    ensures reads { KeepsReading volume.old.map.live volume.new.map.live job.old job.new }
     ensures row { (D.state volume.new.disk).honest → (s : State)
-        → IsKnown (D.state volume.old.disk) volume.old.core s
+        → IsKnown (D.state volume.old.disk) volume.old.map s
         → (under : UnderKeys) → IsEnterAnswer (pack_of (D.state volume.old.disk)) s (job_of under job.old)
         (job_of under job.new) (channel_at (job_of under job.old) number) address result }
     ensures refused { (code : ℕ) → result ≡ Refused code → job.new ≡ with_code job.old address code }
@@ -391,7 +392,7 @@ fn enter<D: Disk>(
                 next: 1,
             };
             put_attributes(&mut job.core, address, &prime);
-            let entered = Channel {
+            let entered = OpenChannel {
                 status: cleared(channel.status),
                 output: Some(output),
                 ..channel

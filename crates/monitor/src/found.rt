@@ -1,4 +1,6 @@
-/// What stands at a place of a volume.
+//! What may be found at a place of a volume.
+
+/// What is at a place of a volume.
 #[derive(Clone, Copy, Debug, PartialEq, Eq)]
 pub enum Found {
     /// There is no such directory.

@@ -1,3 +1,4 @@
+//! The call GETSTS.
 ghost use Rattle.std.specs.Prelude.{◌≡◌, ℕ};
 ghost use Rattle.spec_machine.specs.declared.call.Call.TheVariants.{Getsts};
 ghost use Rattle.spec_machine.specs.declared.call.Reply.TheVariants.{NoMemory, Failed, Device, Refused};
@@ -7,7 +8,7 @@ use crate::job::Job;
 use spec_machine::Reply;
 use words36::Word;
 
-/// GETSTS: what the last call of a channel has reported, and its mode.
+/// Serves GETSTS: returns what the last call of a channel reported, and its mode.
 pub fn getsts(job: &Job, number: u32) -> Reply
     ensures row { IsRow job.now job.now (Getsts number) result }
     ensures only { (result ≡ Failed → ⊥) × (result ≡ Device → ⊥) × (result ≡ NoMemory → ⊥) }

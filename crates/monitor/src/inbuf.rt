@@ -1,3 +1,4 @@
+//! The call INBUF.
 ghost use Rattle.std.specs.Prelude.{◌≡◌, ℕ, List, Option};
 ghost use Rattle.spec_machine.specs.declared.call.Call.TheVariants.{Inbuf};
 ghost use Rattle.spec_machine.specs.declared.call.Reply.TheVariants.{NoMemory, Failed, Device, Refused};
@@ -9,7 +10,7 @@ use crate::job::Job;
 use crate::ring::set_up_ring;
 use spec_machine::Reply;
 
-/// INBUF: sets up a ring of so many buffers, where 0 means 2, for what a channel reads.
+/// Serves INBUF: sets up a ring of `count` buffers, where 0 means 2, for what a channel reads.
 pub fn inbuf(job: &mut Job, number: u32, count: u32) -> Reply
     ensures row { IsRow job.old job.new (Inbuf number count) result }
     ensures keeps { (pending : List (Option PendingVersion)) → KeepsSides pending pending job.old job.new }

@@ -1,8 +1,9 @@
+//! The input side of a channel.
 use volume::Pin;
 use words36::{FileName, Ppn};
 
 /// The input side of a channel: the version that LOOKUP found, or the one that the channel updates or has published
-/// since, which the volume holds for it.
+/// since; the volume has it pinned for this side.
 #[derive(Clone, Copy, Debug, PartialEq, Eq)]
 pub struct Input {
     /// The version.

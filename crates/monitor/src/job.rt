@@ -1,3 +1,4 @@
+//! Jobs that are logged in: their cores and their channels.
 ghost use Rattle.std.specs.Prelude.{◌≡◌, ◌+◌, ◌≤◌, replicate, None, IfOk, Some, IfSome, IsTrue, IsFalse, length};
 ghost use Rattle.std.specs.Prelude.{slice_set};
 ghost use Rattle.spec_machine.specs.Common.{after_writes, placed, slot};
@@ -5,7 +6,7 @@ ghost use Rattle.spec_machine.specs.declared.call.Reply.TheVariants.{Done};
 ghost use Rattle.monitor.specs.Common.{deposit_of, no_jobs, reset_job};
 ghost use Rattle.monitor.specs.declared.job.Job.{Job as JobRecord};
 
-use crate::channel::Channel;
+use crate::channel::OpenChannel;
 use blockdisk::NoMemory;
 use spec_machine::Reply;
 use std::alloc::{AllocError, Global};
@@ -16,10 +17,10 @@ use words36::{Ppn, Word};
 /// The largest number of a job.
 pub const LARGEST_JOB: u32 = 64;
 
-/// How many slots there are for jobs: one for each number from 1 on, and one for 0 that stays empty.
+/// The number of slots for jobs: one for each number from 1, and one for 0 that stays empty.
 const SLOTS: usize = 65;
 
-/// How many channels a job has.
+/// The number of channels of a job.
 pub const CHANNELS: usize = 16;
 
 /// A job that is logged in.
@@ -30,19 +31,19 @@ pub struct Job {
     /// Its core.
     pub core: Core,
     /// Its channels, each open or closed.
-    pub channels: [Option<Channel>; CHANNELS],
+    pub channels: [Option<OpenChannel>; CHANNELS],
 }
 
 impl Job {
-    /// The open channel of a number.
-    pub fn channel(&self, number: u32) -> Option<Channel>
+    /// Returns the channel of a number, if it is open.
+    pub fn channel(&self, number: u32) -> Option<OpenChannel>
         ensures { result ≡ slot self.now.channels number }
     {
         *self.channels.get(number as usize)?
     }
 
     /// Opens a channel, or closes it; a number above 15 names none.
-    pub fn set_channel(&mut self, number: u32, channel: Option<Channel>)
+    pub fn set_channel(&mut self, number: u32, channel: Option<OpenChannel>)
         ensures { self.new ≡ record self.old { channels = slice_set self.old.channels number channel } }
     {
         if (number as usize) < CHANNELS {
@@ -50,7 +51,7 @@ impl Job {
         }
     }
 
-    /// Closes all channels, and the next ring of buffers goes where the first one does.
+    /// Closes all channels. The next ring of buffers will go where the first one does.
     pub fn reset(&mut self)
         ensures { self.new ≡ reset_job self.old }
     {
@@ -59,8 +60,8 @@ impl Job {
     }
 }
 
-/// Channels, all closed.
-pub fn all_closed() -> [Option<Channel>; CHANNELS]
+/// Returns the channels of a job, all closed.
+pub fn all_closed() -> [Option<OpenChannel>; CHANNELS]
     ensures { result ≡ replicate 16 None }
 {
     [None; CHANNELS]
@@ -83,7 +84,7 @@ impl Model for Jobs {
     ghost invariant = { λ j. length j.slots.items ≡ 65 };
 }
 
-/// A slot for each number, all empty.
+/// Returns a slot for each number, all empty.
 fn empty_slots(alloc: Global) -> Result<Vec<Option<Job>>, AllocError>
     ensures { IfOk result (λ slots. slots.items ≡ no_jobs) }
 {
@@ -95,11 +96,11 @@ fn empty_slots(alloc: Global) -> Result<Vec<Option<Job>>, AllocError>
 }
 
 impl Jobs {
-    /// No job.
+    /// Makes a table of jobs in which nobody is logged in.
     ///
     /// # Errors
     ///
-    /// `NoMemory` where the slots find no room.
+    /// `NoMemory` if there is no memory for the slots.
     pub fn new(alloc: Global) -> Result<Jobs, NoMemory>
         ensures { IfOk result (λ jobs. jobs ≡ no_jobs) }
     {
@@ -108,7 +109,7 @@ impl Jobs {
         })
     }
 
-    /// The job of a number.
+    /// Returns the job of a number.
     pub fn job(&self, number: u32) -> Option<&Job>
         ensures found { IfSome result (λ job. slot self.now number ≡ Some job.now) }
         ensures none { result ≡ None → slot self.now number ≡ None }
@@ -116,7 +117,7 @@ impl Jobs {
         self.slots.get(number as usize)?.as_ref()
     }
 
-    /// Puts a job into its slot; one of another number than 0 to 64 is lost.
+    /// Puts a job into its slot; a job with a number above 64 is lost.
     pub fn put(&mut self, number: u32, job: Job)
         ensures { self.new ≡ slice_set self.old number (Some job) }
     {
@@ -125,8 +126,8 @@ impl Jobs {
         }
     }
 
-    /// Resets a job: its channels are closed, and the next ring of buffers goes where its first one does. Answers
-    /// whether there is one of that number.
+    /// Resets a job: closes its channels, and the next ring of buffers will go where its first one does. Returns
+    /// whether there is a job of that number.
     pub fn reset(&mut self, number: u32) -> bool
         ensures found { IsTrue result → (job : JobRecord) × (slot self.old number ≡ Some job)
             × (self.new ≡ slice_set self.old number (Some (reset_job job))) }
@@ -144,10 +145,10 @@ impl Jobs {
         }
     }
 
-    /// Puts a word into the core of a job, where the job lies.
+    /// Puts a word into the core of a job, which stays in its slot meanwhile.
     ///
-    /// The answer is `Done`; `NoJob` where no job of that number is logged in; or `AddressCheck` where its core has
-    /// no such address. Where it isn't `Done` nothing is changed.
+    /// The answer is `Done`; `NoJob` if no job of that number is logged in; or `AddressCheck` if its core has no such
+    /// address. If it isn't `Done`, nothing is changed.
     pub fn deposit(&mut self, number: u32, address: u32, word: Word) -> Reply
         ensures answered { result ≡ deposit_of address (slot self.old number) }
         ensures done { result ≡ Done → (there : JobRecord) × (slot self.old number ≡ Some there)
@@ -167,8 +168,8 @@ impl Jobs {
         }
     }
 
-    /// Puts words into the core of a job from an address on, where the job lies. False where there is none of that
-    /// number, or not all of the words would lie in its core: nothing is changed.
+    /// Puts words into the core of a job from an address; the job stays in its slot meanwhile. Returns false, and
+    /// changes nothing, if there is no job of that number, or if not all of the words would lie in its core.
     pub fn deposit_all(&mut self, number: u32, first: u32, words: &[Word]) -> bool
         ensures done { IsTrue result → (there : JobRecord) × (slot self.old number ≡ Some there)
             × (first + length words.now ≤ length there.core) × (self.new ≡ slice_set self.old number

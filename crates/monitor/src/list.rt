@@ -1,3 +1,4 @@
+//! The list of a directory's files, and the owners of all directories.
 ghost use Rattle.std.specs.Prelude.{◌≡◌, ◌↔◌, ◌⊎◌, false, List, None, Result, IfOk, IfErr, IsErrOf, IsTrue};
 ghost use Rattle.spec_machine.specs.Common.{State, slot, Service, Serving, Lists};
 ghost use Rattle.spec_image.specs.Common.{keys};
@@ -15,7 +16,7 @@ use std::alloc::Global;
 use volume::CallError;
 use words36::Ppn;
 
-/// The answer to a call that the volume refused.
+/// Returns the answer to a call that the volume refused.
 pub fn reply_of(error: CallError) -> Reply
     ensures { result ≡ reply_of error }
 {
@@ -28,13 +29,13 @@ pub fn reply_of(error: CallError) -> Reply
 }
 
 impl<D: Disk> Monitor<D> {
-    /// The list of the files of a directory, by name and then by extension, as numbers.
+    /// Returns the list of the files of a directory, by name and then by extension, as numbers.
     ///
     /// # Errors
     ///
-    /// `NoJob` where no job of that number is logged in; `Refused(1)` where there is no such directory;
-    /// `Refused(2)` where its protection doesn't let the job look names up; `NoMemory` where the list finds no
-    /// room; `Failed` where the monitor has failed.
+    /// `NoJob` if no job of that number is logged in; `Refused(1)` if there is no such directory; `Refused(2)` if its
+    /// protection doesn't let the job look names up; `NoMemory` if there is no memory for the list; `Failed` if the
+    /// monitor has failed.
     pub fn list(&self, alloc: Global, job: u32, ppn: Ppn) -> Result<Vec<Entry>, Reply>
         ensures listed { (D.state self.now.disk).honest → (service : Service)
             → Serves (D.state self.now.disk) self.now.map self.now.failed self.now.jobs service
@@ -65,12 +66,12 @@ impl<D: Disk> Monitor<D> {
         }
     }
 
-    /// The owners of all directories, by their numbers. No job asks for them, and no protection keeps them from
-    /// anybody.
+    /// Returns the owners of all directories, by their numbers. No job is needed to ask for them, and no protection
+    /// hides them from anybody.
     ///
     /// # Errors
     ///
-    /// `NoMemory` where they find no room, `Failed` where the monitor has failed.
+    /// `NoMemory` if there is no memory for them, `Failed` if the monitor has failed.
     pub fn owners(&self, alloc: Global) -> Result<Vec<Ppn>, Reply>
         ensures value { (D.state self.now.disk).honest → (s : State)
             → Serves (D.state self.now.disk) self.now.map self.now.failed self.now.jobs (Serving s)

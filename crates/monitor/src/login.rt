@@ -1,3 +1,4 @@
+//! How a job logs in.
 ghost use Rattle.std.specs.Prelude.{◌≡◌, ◌⊎◌, ◌↔◌, ℕ, false, Some, slice_set, IsTrue};
 ghost use Rattle.spec_machine.specs.Common.{slot, Service, Answers, login_answer};
 ghost use Rattle.spec_image.specs.Common.{pack_of};
@@ -5,7 +6,7 @@ ghost use Rattle.spec_machine.specs.declared.call.Event.TheVariants.{Login};
 ghost use Rattle.spec_machine.specs.declared.call.Reply.TheVariants.{Done, Failed, NoMemory};
 ghost use Rattle.monitor.specs.Common.{OnlyDrops, Serves, AreKeyed, ArePlaced, AreReading, new_job};
 
-use crate::dropping::close_job;
+use crate::close_job::close_job;
 use crate::job::{Job, Jobs, LARGEST_JOB, all_closed};
 use crate::monitor::Monitor;
 use blockdisk::Disk;
@@ -25,21 +26,21 @@ fn log_in<D: Disk>(
     words: u32,
 ) -> Reply
     // The volume knows what the jobs write and read,
-    requires keyed { AreKeyed volume.old.core.pending jobs.old }
-    requires placed { ArePlaced volume.old.core }
-    requires reading { AreReading volume.old.core.live jobs.old }
-    // and goes on knowing it; what the job had is dropped and let go.
-    ensures keyed { AreKeyed volume.new.core.pending jobs.new }
-    ensures placed { ArePlaced volume.new.core }
-    ensures reading { AreReading volume.new.core.live jobs.new }
-    ensures leaves { OnlyDrops volume.old.core volume.new.core }
+    requires keyed { AreKeyed volume.old.map.pending jobs.old }
+    requires placed { ArePlaced volume.old.map }
+    requires reading { AreReading volume.old.map.live jobs.old }
+    // and still knows it afterwards; what the job wrote before is dropped, and what it read is unpinned.
+    ensures keyed { AreKeyed volume.new.map.pending jobs.new }
+    ensures placed { ArePlaced volume.new.map }
+    ensures reading { AreReading volume.new.map.live jobs.new }
+    ensures leaves { OnlyDrops volume.old.map volume.new.map }
     ensures untouched { (volume.new.disk ≡ volume.old.disk) × (volume.new.failed ≡ volume.old.failed) }
     ensures layout { volume.new.layout ≡ volume.old.layout }
-    // The answer, and the jobs by it.
+    // The answer, and the jobs that follow from it.
     ensures answered { (result ≡ login_answer number words)
         ⊎ ((result ≡ NoMemory) × (login_answer number words ≡ Done)) }
     ensures done { result ≡ Done → jobs.new ≡ slice_set jobs.old number (Some (new_job ppn words)) }
-    ensures kept { (result ≡ Done → ⊥) → (jobs.new ≡ jobs.old) × (volume.new.core ≡ volume.old.core) }
+    ensures kept { (result ≡ Done → ⊥) → (jobs.new ≡ jobs.old) × (volume.new.map ≡ volume.old.map) }
 {
     if number == 0 || number > LARGEST_JOB {
         return Reply::NoJob;
@@ -61,12 +62,11 @@ fn log_in<D: Disk>(
 }
 
 impl<D: Disk> Monitor<D> {
-    /// Logs job `job`, 1 to 64, in as `ppn`, with a core of so many words, 1000 to 400000 (octal), all zero but
-    /// for word 121 (octal), which holds 140 (octal). A job that was logged in under that number is reset
-    /// first.
+    /// Logs job `job`, 1 to 64, in as `ppn`, with a core of `words` words, 1000 to 400000 (octal), all zero except word
+    /// 121 (octal), which contains 140 (octal). A job that was logged in under that number is reset first.
     ///
-    /// The answer is `Done`; `NoJob` for another number; `AddressCheck` for another number of words; `NoMemory`
-    /// where the core finds no room; or `Failed`. Where it isn't `Done` nothing is changed.
+    /// The answer is `Done`; `NoJob` for another number; `AddressCheck` for another number of words; `NoMemory` if
+    /// there is no memory for the core; or `Failed`. If it isn't `Done`, nothing is changed.
     pub fn login(&mut self, alloc: Global, job: u32, ppn: Ppn, words: u32) -> Reply
         ensures answered { (old : Service)
             → Serves (D.state self.old.disk) self.old.map self.old.failed self.old.jobs old

@@ -1,3 +1,4 @@
+//! The call MakeDir.
 ghost use Rattle.std.specs.Prelude.{◌≡◌, ◌==◌};
 ghost use Rattle.spec_machine.specs.Common.{system};
 ghost use Rattle.spec_machine.specs.declared.call.Call.TheVariants.{MakeDir};
@@ -14,19 +15,19 @@ use std::alloc::Global;
 use volume::{CallError, Volume};
 use words36::Ppn;
 
-/// The protection of a directory for which none is asked.
+/// The protection of a directory if the words ask for none.
 const DIRECTORY_PROTECTION: u16 = 0o775;
 
-/// MakeDir: makes an empty directory, by the two words at an address: whose it is, and its protection in the nine
-/// high bits, 775 (octal) where they are 0. Its row is `make_dir`.
+/// Serves MakeDir: makes an empty directory, by the two words at an address: its owner, and its protection in the nine
+/// high bits, 775 (octal) if they are 0. Its row is `make_dir`.
 pub fn serve_make_dir<D: Disk>(
     alloc: Global,
     volume: &mut Volume<D>,
     job: &mut Job,
     address: u32,
 ) -> Reply
-    requires ready { IsCallReady (D.state volume.old.disk) volume.old.core volume.old.failed job.old }
-    ensures serving { ServesAlways D.state volume.old.disk volume.new.disk volume.old.core volume.new.core
+    requires ready { IsCallReady (D.state volume.old.disk) volume.old.map volume.old.failed job.old }
+    ensures serving { ServesAlways D.state volume.old.disk volume.new.disk volume.old.map volume.new.map
         volume.new.failed job.old job.new (MakeDir address) result }
     ensures layout { volume.new.layout ≡ volume.old.layout }
 {
@@ -49,7 +50,7 @@ pub fn serve_make_dir<D: Disk>(
     }
 }
 
-/// Whose directories anybody's are: [1,2].
+/// Returns whether a PPN is [1,2], which may make directories for anybody.
 pub fn is_system(ppn: Ppn) -> bool
     ensures { result ≡ (ppn == system) }
 {

@@ -1,3 +1,4 @@
+//! The call OPEN, and the words of a core that calls name.
 ghost use Rattle.std.specs.Prelude.{◌≡◌, ◌<◌, ◌≤◌, ◌+◌, ◌^◌, ℕ, true, false, List, Option, None, IfSome, slice_index};
 ghost use Rattle.spec_machine.specs.Common.{lies_outside, mode_at, output_header_at, input_header_at, misses_header};
 ghost use Rattle.spec_machine.specs.Common.{misses_headers, is_buffered};
@@ -9,7 +10,7 @@ ghost use Rattle.retrieval.specs.Common.{mode_number};
 ghost use Rattle.monitor.specs.Common.{IsDecided, IsRow, KeepsSides, KeepsReading, improper_at, opened_at};
 ghost use Rattle.monitor.specs.Common.{rings_opened};
 
-use crate::channel::Channel;
+use crate::channel::OpenChannel;
 use crate::job::{CHANNELS, Job};
 use retrieval::Mode;
 use spec_image::ErrorCode;
@@ -20,10 +21,10 @@ use words36::Word;
 /// DSK, in SIXBIT.
 const DISK: u64 = 0o446353000000;
 
-/// What OPEN reports of a device or a mode that there isn't.
+/// What OPEN reports if there is no such device or no such mode.
 const IMPROPER_MODE: u32 = 0o400000;
 
-/// Whether not all of so many words from an address on are there.
+/// Returns whether not all of `count` words from an address are in a core.
 pub fn lies_outside(core: &Core, address: u32, count: usize) -> bool
     requires { count < 2 ^ 32 }
     ensures value { result ≡ lies_outside core.now address count }
@@ -32,7 +33,7 @@ pub fn lies_outside(core: &Core, address: u32, count: usize) -> bool
     core.length() < address as usize + count
 }
 
-/// The word at an address, 0 outside the core.
+/// Returns the word at an address, 0 outside the core.
 pub fn word_at(core: &Core, address: u32) -> Word
     ensures value { result ≡ slice_index core.now address }
     ensures fits { result < 2 ^ 36 }
@@ -40,7 +41,7 @@ pub fn word_at(core: &Core, address: u32) -> Word
     core.word(address).unwrap_or(Word::ZERO)
 }
 
-/// The mode that the words at an address ask for.
+/// Returns the mode that the words at an address ask for.
 fn mode_at(core: &Core, address: u32) -> u32
     ensures value { result ≡ mode_at core.now address }
     ensures few { result < 16 }
@@ -48,14 +49,14 @@ fn mode_at(core: &Core, address: u32) -> u32
     (word_at(core, address).bits() % 16) as u32
 }
 
-/// Whether a mode has buffers.
+/// Returns whether a mode has buffers.
 fn is_buffered(mode: u32) -> bool
     ensures { result ≡ is_buffered mode }
 {
     mode <= 1 || mode == 0o10 || mode == 0o13 || mode == 0o14
 }
 
-/// The addresses of the headers of both rings that the words at an address name, the output's first.
+/// Returns the addresses of the headers of both rings that the words at an address name, the output's first.
 fn headers_at(core: &Core, address: u32) -> (u32, u32)
     requires { address + 3 ≤ 0o400000 }
     ensures { (result.0 ≡ output_header_at core.now address) × (result.1 ≡ input_header_at core.now address) }
@@ -64,14 +65,14 @@ fn headers_at(core: &Core, address: u32) -> (u32, u32)
     (headers.left().bits(), headers.right().bits())
 }
 
-/// Whether a header that is asked for isn't there.
+/// Returns whether a header that is asked for isn't in the core.
 fn misses_header(core: &Core, header: u32) -> bool
     ensures { result ≡ misses_header core.now header }
 {
     header != 0 && lies_outside(core, header, 3)
 }
 
-/// Whether a ring's header that the words at an address ask for isn't there.
+/// Returns whether a ring's header that the words at an address ask for isn't in the core.
 fn misses_headers(core: &Core, address: u32) -> bool
     requires { address + 3 ≤ 0o400000 }
     ensures { result ≡ misses_headers core.now address }
@@ -81,8 +82,8 @@ fn misses_headers(core: &Core, address: u32) -> bool
         && (misses_header(core, output) || misses_header(core, input))
 }
 
-/// The mode in which the words at an address open the disk; none where they name another device, or there is no such
-/// mode.
+/// Returns the mode in which the words at an address open the disk; none if they name another device, or there is no
+/// such mode.
 fn proper_mode(core: &Core, address: u32) -> Option<Mode>
     requires { address + 3 ≤ 0o400000 }
     ensures some { IfSome result (λ mode. (improper_at core.now address ≡ false)
@@ -95,13 +96,13 @@ fn proper_mode(core: &Core, address: u32) -> Option<Mode>
     Mode::from_number(u64::from(mode_at(core, address)))
 }
 
-/// The channel that the words at an address open in a mode.
-fn opened(core: &Core, address: u32, mode: Mode) -> Channel
+/// Returns the channel that the words at an address open in a mode.
+fn opened(core: &Core, address: u32, mode: Mode) -> OpenChannel
     requires { address + 3 ≤ 0o400000 }
     ensures { result ≡ opened_at mode core.now address }
 {
     let (output_header, input_header) = headers_at(core, address);
-    Channel {
+    OpenChannel {
         mode,
         input_header,
         output_header,
@@ -111,8 +112,8 @@ fn opened(core: &Core, address: u32, mode: Mode) -> Channel
     }
 }
 
-/// Gives the headers of the rings of a channel that is opened their first words.
-fn open_rings(core: &mut Core, channel: &Channel)
+/// Writes the first words of the headers of the rings of a channel that is opened.
+fn open_rings(core: &mut Core, channel: &OpenChannel)
     ensures { core.new ≡ rings_opened core.old channel.now }
 {
     if channel.is_buffered() {
@@ -120,8 +121,8 @@ fn open_rings(core: &mut Core, channel: &Channel)
     }
 }
 
-/// OPEN: opens a channel, 0 to 15, by the three words at an address: the mode in the low four bits, the device,
-/// and the addresses of the headers of the two rings, which a mode with buffers gives their first words.
+/// Serves OPEN: opens a channel, 0 to 15, by the three words at an address: the mode in the low four bits, the device,
+/// and the addresses of the headers of the two rings, whose first words are written in a mode with buffers.
 pub fn open(job: &mut Job, number: u32, address: u32) -> Reply
     ensures row { IsRow job.old job.new (Open number address) result }
     ensures keeps { (pending : List (Option PendingVersion)) → KeepsSides pending pending job.old job.new }

@@ -1,3 +1,4 @@
+//! The call OUT.
 ghost use Rattle.std.specs.Prelude.{◌≡◌, ◌⊎◌, ◌↔◌, ◌<◌, ◌≤◌, ◌+◌, ◌^◌, ℕ, false, true, IsTrue, All, IfOk, IfErr};
 ghost use Rattle.std.specs.Prelude.{IsErrOf, List, length, None, Some, not, ◌&&◌, ◌==◌};
 ghost use Rattle.std.specs.List.{AllByRecursion};
@@ -12,20 +13,20 @@ ghost use Rattle.monitor.specs.Common.{outgoing_at, moved, IsBarred, IsOther, Is
 ghost use Rattle.monitor.specs.Common.{present, IsSide, kind_of, sides_in, keys_of, IsCallReady, ServesAlways};
 ghost use Rattle.spec_machine.specs.declared.call.Call.TheVariants.{Out};
 
-use crate::channel::Channel;
+use crate::channel::OpenChannel;
 use crate::job::Job;
-use crate::output::{Kind, Output};
+use crate::output::{Output, OutputKind};
 use crate::status::{BLOCK_TOO_LARGE, cleared, stop};
 use blockdisk::Disk;
 use spec_image::ErrorCode;
 use spec_machine::Reply;
 use std::alloc::Global;
-use usercore::{Area, Core, CoreError, RingStep, word_count};
+use usercore::{Core, CoreArea, CoreError, RingStep, word_count};
 use volume::{CallError, Volume};
 use words36::{BLOCK_WORDS, Word};
 
-/// OUT: puts the words that the command list at an address names, or those of the ring's current buffer, at the block
-/// that a channel writes next, and moves on behind them. Its row is `out`.
+/// Serves OUT: puts the words that the command list at an address names, or those of the ring's current buffer, at the
+/// block that a channel writes next, and moves past them. Its row is `out`.
 pub fn serve_out<D: Disk>(
     alloc: Global,
     volume: &mut Volume<D>,
@@ -33,20 +34,20 @@ pub fn serve_out<D: Disk>(
     channel: u32,
     address: u32,
 ) -> Reply
-    requires ready { IsCallReady (D.state volume.old.disk) volume.old.core volume.old.failed job.old }
-    ensures serving { ServesAlways D.state volume.old.disk volume.new.disk volume.old.core volume.new.core
+    requires ready { IsCallReady (D.state volume.old.disk) volume.old.map volume.old.failed job.old }
+    ensures serving { ServesAlways D.state volume.old.disk volume.new.disk volume.old.map volume.new.map
         volume.new.failed job.old job.new (Out channel address) result }
     ensures layout { volume.new.layout ≡ volume.old.layout }
 {
     out(alloc, volume, job, channel, address)
 }
 
-/// The words of areas of a core, joined.
+/// Returns the words of areas of a core, joined.
 ///
 /// # Errors
 ///
-/// `NoMemory` where they find no room.
-fn gathered(alloc: Global, core: &Core, areas: &[Area]) -> Result<Vec<Word>, CoreError>
+/// `NoMemory` if there is no memory for them.
+fn gathered(alloc: Global, core: &Core, areas: &[CoreArea]) -> Result<Vec<Word>, CoreError>
     requires within { All (λ area. area.first + area.count ≤ length core.now) areas.now }
     requires few { word_count areas.now ≤ 0o400000 }
     ensures words { IfOk result (λ words. words.items ≡ joined core.now areas.now) }
@@ -58,16 +59,16 @@ fn gathered(alloc: Global, core: &Core, areas: &[Area]) -> Result<Vec<Word>, Cor
     Ok(words)
 }
 
-/// The words that an OUT of a channel puts: those of its ring's current buffer, or those that the command list at an
-/// address names, joined.
+/// Returns the words that an OUT of a channel puts: those of its ring's current buffer, or those that the command list
+/// at an address names, joined.
 ///
 /// # Errors
 ///
-/// `AddressCheck` where the ring or the list isn't as it should be; `NoMemory` where the words find no room.
+/// `AddressCheck` if the ring or the list isn't valid; `NoMemory` if there is no memory for the words.
 fn words_at(
     alloc: Global,
     core: &Core,
-    channel: &Channel,
+    channel: &OpenChannel,
     address: u32,
 ) -> Result<Vec<Word>, CoreError>
     ensures words { IfOk result (λ words. (left : List ℕ) × (outgoing_at core.now channel.now address
@@ -87,21 +88,21 @@ fn words_at(
     gathered(alloc, core, areas.as_slice())
 }
 
-/// Takes the buffer whose words were put away from the ring of a channel, and gives the next one to be filled. In dump
-/// mode there is none.
-fn leave_buffer(core: &mut Core, channel: &Channel)
+/// Moves the ring of a channel from the buffer whose words were put to the next one, which will be filled. In dump mode
+/// there is no ring.
+fn leave_buffer(core: &mut Core, channel: &OpenChannel)
     ensures left { (address : ℕ) (found : Outgoing) → outgoing_at core.old channel.now address ≡ Some found
         → core.new ≡ found.core }
     ensures length { length core.new ≡ length core.old }
 {
     if channel.is_buffered() {
-        // It can be done: the words were found in the same core.
+        // This can't fail: the words were found in the same core.
         let _ = core.ring_out(channel.output_header, channel.bytes());
     }
 }
 
-/// A channel once so many words are put at the next block of its output side.
-fn moved(channel: Channel, output: Output, count: usize) -> Channel
+/// Returns a channel after `count` words were put at the next block of its output side.
+fn moved(channel: OpenChannel, output: Output, count: usize) -> OpenChannel
     requires fits { output.next + blocks_of count < 2 ^ 32 }
     requires few { count ≤ 0o400000 }
     ensures { result ≡ moved channel output count }
@@ -111,37 +112,37 @@ fn moved(channel: Channel, output: Output, count: usize) -> Channel
         next: output.next + blocks,
         ..output
     };
-    Channel {
+    OpenChannel {
         status: cleared(channel.status),
         output: Some(output),
         ..channel
     }
 }
 
-/// Whether so many words would be put over blocks that an append began with.
+/// Returns whether `count` words would be put over blocks that an append began with.
 fn is_kept(output: Output, count: usize) -> bool
     ensures { result ≡ (not (count == 0) && is_before_end (kind_of output.kind) output.next) }
 {
     match output.kind {
-        Kind::Append(blocks) => count != 0 && output.next <= blocks,
-        Kind::Create | Kind::Supersede | Kind::Update => false,
+        OutputKind::Append(blocks) => count != 0 && output.next <= blocks,
+        OutputKind::Create | OutputKind::Supersede | OutputKind::Update => false,
     }
 }
 
-/// Whether so many words may not be put at an output side's next block, whatever room there is: they would be put over
-/// blocks that an append began with, or the version costs more with them, and by more than the quota of its directory
-/// leaves.
+/// Returns whether `count` words may not be put at an output side's next block, whatever room there is: they would be
+/// put over blocks that an append began with, or the version costs more with them, and by more than the quota of its
+/// directory leaves.
 pub fn is_barred<D: Disk>(volume: &Volume<D>, output: Output, count: usize) -> bool
     requires first { 0 < output.next }
-    ensures { (p : PendingVersion) → pending_at volume.now.core.pending output.pending.key ≡ Some p
-        → ((result ≡ true) ↔ IsBarred volume.now.core p output count) }
+    ensures { (p : PendingVersion) → pending_at volume.now.map.pending output.pending.key ≡ Some p
+        → ((result ≡ true) ↔ IsBarred volume.now.map p output count) }
 {
     is_kept(output, count) || !volume.quota_allows_put(output.pending, output.next, count)
 }
 
-/// OUT: puts the words that the command list at an address names, or those of the ring's current buffer, at the block
-/// that a channel writes next, and moves on behind them. Where they find no room, or would be put over what an append
-/// began with, it is stopped.
+/// Serves OUT: puts the words that the command list at an address names, or those of the ring's current buffer, at the
+/// block that a channel writes next, and moves past them. If they find no room, or exceed the quota, or would be
+/// put over what an append began with, it is stopped.
 fn out<D: Disk>(
     alloc: Global,
     volume: &mut Volume<D>,
@@ -152,16 +153,16 @@ fn out<D: Disk>(
     // The volume serves, and knows what the job writes.
     requires serves { volume.old.failed ≡ false }
     requires live { (key : ℕ) → times key (keys_of (sides_in (Some job.old)))
-        ≤ present (pending_at volume.old.core.pending key) }
-    requires sides { AllByRecursion (IsSide volume.old.core.pending) (sides_in (Some job.old)) }
+        ≤ present (pending_at volume.old.map.pending key) }
+    requires sides { AllByRecursion (IsSide volume.old.map.pending) (sides_in (Some job.old)) }
 
-    // The words are put, or not, by the answer; and what the job writes and reads is known.
-    ensures outcome { IsOut (D.state volume.old.disk) (D.state volume.new.disk) volume.old.core volume.new.core
-        ((volume.new.disk ≡ volume.old.disk) × (volume.new.core ≡ volume.old.core)) job.old job.new number
+    // The words are put, or not, as the answer tells; and what the job writes and reads stays known.
+    ensures outcome { IsOut (D.state volume.old.disk) (D.state volume.new.disk) volume.old.map volume.new.map
+        ((volume.new.disk ≡ volume.old.disk) × (volume.new.map ≡ volume.old.map)) job.old job.new number
         address result }
     ensures keeps { volume.new.failed ≡ false
-        → KeepsSides volume.old.core.pending volume.new.core.pending job.old job.new }
-    ensures reads { volume.new.failed ≡ false → KeepsReading volume.old.core.live volume.new.core.live job.old job.new }
+        → KeepsSides volume.old.map.pending volume.new.map.pending job.old job.new }
+    ensures reads { volume.new.failed ≡ false → KeepsReading volume.old.map.live volume.new.map.live job.old job.new }
     // A crash finds the files as they were.
     ensures quiet { (D.state volume.new.disk).honest → (f : Files File) → RestsAt (D.state volume.old.disk) f
         → LeavesOnly (D.state volume.old.disk) (D.state volume.new.disk)
@@ -170,16 +171,16 @@ fn out<D: Disk>(
         → RestsAt (D.state volume.new.disk) f }
     // No other version changes.
     ensures others { (key : ℕ) → IsOther (slot job.old.channels number) key
-        → pending_at volume.new.core.pending key ≡ pending_at volume.old.core.pending key }
-    ensures live { volume.new.core.live ≡ volume.old.core.live }
-    ensures known { volume.new.core.known ≡ record volume.old.core.known { table = volume.new.core.known.table } }
+        → pending_at volume.new.map.pending key ≡ pending_at volume.old.map.pending key }
+    ensures live { volume.new.map.live ≡ volume.old.map.live }
+    ensures known { volume.new.map.known ≡ record volume.old.map.known { table = volume.new.map.known.table } }
     ensures readers { (D.state volume.new.disk).honest
-        → KeepsRead (D.state volume.old.disk).contents (D.state volume.new.disk).contents volume.old.core }
+        → KeepsRead (D.state volume.old.disk).contents (D.state volume.new.disk).contents volume.old.map }
     ensures writers { (D.state volume.new.disk).honest → (key : ℕ) (p : PendingVersion)
-        → IsOther (slot job.old.channels number) key → pending_at volume.old.core.pending key ≡ Some p
+        → IsOther (slot job.old.channels number) key → pending_at volume.old.map.pending key ≡ Some p
         → (n : ℕ) → 0 < times n p.version.blocks → (D.state volume.new.disk).contents n
         ≡ (D.state volume.old.disk).contents n }
-    // It fails with the volume, and blames the device where that failed.
+    // It fails with the volume, and blames the device if that failed.
     ensures failed { IsTrue volume.new.failed ↔ ((result ≡ Device) ⊎ (result ≡ Failed)) }
     ensures counted { result ≡ Device → (D.state volume.new.disk).failures
         ≡ one_more (D.state volume.old.disk).failures }

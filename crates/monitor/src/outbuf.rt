@@ -1,3 +1,4 @@
+//! The call OUTBUF.
 ghost use Rattle.std.specs.Prelude.{◌≡◌, ℕ, List, Option};
 ghost use Rattle.spec_machine.specs.declared.call.Call.TheVariants.{Outbuf};
 ghost use Rattle.spec_machine.specs.declared.call.Reply.TheVariants.{NoMemory, Failed, Device, Refused};
@@ -9,7 +10,7 @@ use crate::job::Job;
 use crate::ring::set_up_ring;
 use spec_machine::Reply;
 
-/// OUTBUF: sets up a ring of so many buffers, where 0 means 2, for what a channel writes.
+/// Serves OUTBUF: sets up a ring of `count` buffers, where 0 means 2, for what a channel writes.
 pub fn outbuf(job: &mut Job, number: u32, count: u32) -> Reply
     ensures row { IsRow job.old job.new (Outbuf number count) result }
     ensures keeps { (pending : List (Option PendingVersion)) → KeepsSides pending pending job.old job.new }

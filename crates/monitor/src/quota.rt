@@ -1,3 +1,4 @@
+//! The call Quota.
 ghost use Rattle.std.specs.Prelude.{◌≡◌, ◌==◌};
 ghost use Rattle.spec_image.specs.Common.{layout_number};
 ghost use Rattle.spec_machine.specs.declared.call.Call.TheVariants.{Quota};
@@ -13,16 +14,16 @@ use spec_machine::Reply;
 use volume::{CallError, Layout, Volume};
 use words36::Ppn;
 
-/// Quota: gives a directory the quota that the left half of the second of the two words at an address has, whose it is
-/// by the first. It is refused in a layout without quotas, then where there is no such directory, then to anybody but
+/// Serves Quota: gives the directory whose owner is the first of the two words at an address the quota in the left half
+/// of the second. It is refused in a layout without quotas, then if there is no such directory, then to anybody except
 /// [1,2]. Its row is `limits`.
 pub fn serve_quota<D: Disk>(volume: &mut Volume<D>, job: &mut Job, address: u32) -> Reply
-    requires ready { IsCallReady (D.state volume.old.disk) volume.old.core volume.old.failed job.old }
-    ensures serving { ServesAlways D.state volume.old.disk volume.new.disk volume.old.core volume.new.core
+    requires ready { IsCallReady (D.state volume.old.disk) volume.old.map volume.old.failed job.old }
+    ensures serving { ServesAlways D.state volume.old.disk volume.new.disk volume.old.map volume.new.map
         volume.new.failed job.old job.new (Quota address) result }
     ensures layout { volume.new.layout ≡ volume.old.layout }
 {
-    let _layout = volume.layout(); // which says that it is the disk's
+    let _layout = volume.layout(); // its contract states that it is the disk's
     if lies_outside(&job.core, address, 2) {
         return Reply::AddressCheck;
     }
@@ -47,7 +48,7 @@ pub fn serve_quota<D: Disk>(volume: &mut Volume<D>, job: &mut Job, address: u32)
     }
 }
 
-/// Whether a volume's layout has no quotas.
+/// Returns whether a volume's layout has no quotas.
 fn has_no_quotas<D: Disk>(volume: &Volume<D>) -> bool
     ensures { result ≡ (layout_number volume.now.layout == 1) }
 {

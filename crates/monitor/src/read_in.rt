@@ -1,3 +1,4 @@
+//! How an IN moves words into core.
 ghost use Rattle.std.specs.Prelude.{◌≡◌, ◌⊎◌, ◌↔◌, ◌+◌, ◌<◌, ◌≤◌, ℕ, List, [], true, false, IsTrue, length, min};
 ghost use Rattle.std.specs.Prelude.{None, Some, IfOk, IfErr, OnErr};
 ghost use Rattle.spec_machine.specs.Common.{dump_list, word_count, after_writes, dealt, byte_size, in_ready};
@@ -9,7 +10,7 @@ ghost use Rattle.volume.specs.Common.{IsReadable, version_under};
 ghost use Rattle.monitor.specs.Common.{Asked, LeavesRead, asked_at, buffer_asked};
 ghost use Rattle.monitor.specs.declared.read_in.ReadIn.TheVariants.{Moved, AddressCheck, AtEnd};
 
-use crate::channel::Channel;
+use crate::channel::OpenChannel;
 use crate::status::cleared;
 use blockdisk::Disk;
 use spec_machine::IoStatus;
@@ -18,19 +19,19 @@ use usercore::{Core, CoreError, RingStep, word_count};
 use volume::{CallError, VersionHandle, Volume};
 use words36::Word;
 
-/// How many words of data a disk buffer has.
+/// The number of words of data of a disk buffer.
 const DATA_WORDS: usize = 0o200;
 
 /// How an IN ends.
 #[derive(Clone, Copy, Debug, PartialEq, Eq)]
 pub enum ReadIn {
-    /// So many words were moved: none where a command list names none.
+    /// This many words were moved: none if a command list names none.
     Moved(usize),
-    /// The command list isn't as it should be, or names words outside the core; or the ring isn't as it should be.
+    /// The command list isn't valid, or names words outside the core; or the ring isn't valid.
     AddressCheck,
-    /// The body has no words from that block on.
+    /// The body has no words from that block.
     AtEnd,
-    /// The words found no room: nothing was read.
+    /// There was no memory for the words: nothing was read.
     NoMemory,
     /// The device failed, and the volume with it.
     Device,
@@ -38,12 +39,13 @@ pub enum ReadIn {
     Failed,
 }
 
-/// How many words an IN of a channel asks for: as many as a buffer takes, or as the command list at an address names.
+/// Returns the number of words that an IN of a channel asks for: as many as a buffer takes, or as the command list at
+/// an address names.
 ///
 /// # Errors
 ///
-/// `AddressCheck` where the ring or the list isn't as it should be.
-fn count_asked(core: &Core, channel: &Channel, address: u32) -> Result<usize, CoreError>
+/// `AddressCheck` if the ring or the list isn't valid.
+fn count_asked(core: &Core, channel: &OpenChannel, address: u32) -> Result<usize, CoreError>
     ensures count { IfOk result (λ count. (k : Asked) × (asked_at core.now channel.now address ≡ Some k)
         × (k.count ≡ count) × ((count ≡ 0) ↔ (k.none ≡ true))) }
     ensures few { IfOk result (λ count. count ≤ 0o400000) }
@@ -62,7 +64,7 @@ fn count_asked(core: &Core, channel: &Channel, address: u32) -> Result<usize, Co
 }
 
 /// Fills the next buffer of a channel's input ring.
-fn fill_buffer(core: &mut Core, channel: &Channel, words: &[Word])
+fn fill_buffer(core: &mut Core, channel: &OpenChannel, words: &[Word])
     requires { (ready : List ℕ)
         × (in_ready core.old channel.now.input_header (byte_size (mode_number channel.now.mode)) ≡ Some ready) }
     ensures filled { (ready : List ℕ)
@@ -73,7 +75,7 @@ fn fill_buffer(core: &mut Core, channel: &Channel, words: &[Word])
     let status = IoStatus(cleared(channel.status));
     match core.ring_in(channel.input_header, channel.bytes(), status, words) {
         Ok(()) => {}
-        Err(_) => unreachable!(), // it was looked at before
+        Err(_) => unreachable!(), // it was checked before
     }
 }
 
@@ -95,8 +97,8 @@ fn fill_areas(core: &mut Core, address: u32, words: &[Word])
     }
 }
 
-/// Moves words into core where an IN of a channel asks for them, which core has.
-fn fill(core: &mut Core, channel: &Channel, address: u32, words: &[Word])
+/// Moves words to where an IN of a channel asks for them; its core has these places.
+fn fill(core: &mut Core, channel: &OpenChannel, address: u32, words: &[Word])
     requires { (k : Asked) × (asked_at core.old channel.now address ≡ Some k) }
     ensures filled { (k : Asked) → asked_at core.old channel.now address ≡ Some k → core.new ≡ k.filled words.now }
     ensures length { length core.new ≡ length core.old }
@@ -108,42 +110,42 @@ fn fill(core: &mut Core, channel: &Channel, address: u32, words: &[Word])
     }
 }
 
-/// Moves the words of a version's body from a block on into core: into the next buffer of a channel's input ring, or in
-/// dump mode into the areas that the command list at an address names. The ring or the list is looked at before anything
-/// is read, and a list that names no words asks neither for memory nor for the disk.
+/// Moves the words of a version's body, from a block, into core: into the next buffer of a channel's input ring, or in
+/// dump mode into the areas that the command list at an address names. The ring or the list is checked before anything
+/// is read, and a list that names no words needs neither memory nor the disk.
 pub fn read_in<D: Disk>(
     alloc: Global,
     volume: &mut Volume<D>,
     core: &mut Core,
-    channel: &Channel,
+    channel: &OpenChannel,
     handle: VersionHandle,
     block: u32,
     address: u32,
 ) -> ReadIn
     requires alive { volume.old.failed ≡ false }
-    requires live { IsReadable volume.old.core handle }
+    requires live { IsReadable volume.old.map handle }
     requires first { 0 < block }
-    // What core has decides on every disk.
+    // On every disk this depends on the contents of the core alone.
     ensures checked { result ≡ AddressCheck ↔ (asked_at core.old channel.now address ≡ None) }
     ensures named { result ≡ Moved 0 → (k : Asked) → asked_at core.old channel.now address ≡ Some k
         → k.none ≡ true }
     // The words are those of the version's body,
     ensures moved { (D.state volume.new.disk).honest → (v : VersionState)
-        → version_under volume.old.core handle ≡ Some v → (body : List ℕ) → length body ≡ v.words
+        → version_under volume.old.map handle ≡ Some v → (body : List ℕ) → length body ≡ v.words
         → HasBody (D.state volume.old.disk).contents v.blocks body → (k : Asked)
         → asked_at core.old channel.now address ≡ Some k
         → (n : ℕ) → result ≡ Moved n → core.new ≡ k.filled (words_from body block) }
     // and, on every disk, as many as are asked for and the body has.
-    ensures number { (v : VersionState) → version_under volume.old.core handle ≡ Some v → (body : List ℕ)
+    ensures number { (v : VersionState) → version_under volume.old.map handle ≡ Some v → (body : List ℕ)
         → length body ≡ v.words → (k : Asked) → asked_at core.old channel.now address ≡ Some k
         → (n : ℕ) → result ≡ Moved n → n ≡ min k.count (length (words_from body block)) }
     ensures few { (k : Asked) → asked_at core.old channel.now address ≡ Some k → (n : ℕ) → result ≡ Moved n
         → n ≤ k.count }
-    ensures at_end { (v : VersionState) → version_under volume.old.core handle ≡ Some v → (body : List ℕ)
+    ensures at_end { (v : VersionState) → version_under volume.old.map handle ≡ Some v → (body : List ℕ)
         → length body ≡ v.words → (k : Asked) → asked_at core.old channel.now address ≡ Some k
         → result ≡ AtEnd → (k.none ≡ false) × (words_from body block ≡ []) }
     // What it leaves, however it ends.
-    ensures left { LeavesRead (D.state volume.old.disk) (D.state volume.new.disk) volume.old.core volume.new.core
+    ensures left { LeavesRead (D.state volume.old.disk) (D.state volume.new.disk) volume.old.map volume.new.map
         core.old core.new (volume.new.disk ≡ volume.old.disk) volume.new.failed result }
     ensures layout { volume.new.layout ≡ volume.old.layout }
 {

@@ -1,10 +1,11 @@
+//! The call RENAME.
 ghost use Rattle.std.specs.Prelude.{◌≡◌, ◌+◌, ◌==◌, ◌<◌, ◌≤◌, ◌^◌, ℕ, false, None, Some, IfOk, MatchResult, List};
 ghost use Rattle.std.specs.Prelude.{Option, Result, OnOk, [], ◌∷◌, slice_index};
 ghost use Rattle.spec_image.specs.Common.{number_of, same_place, place_of};
-ghost use Rattle.spec_machine.specs.Common.{lies_outside, State, Job as MachineJob, slot, protection_at};
+ghost use Rattle.spec_machine.specs.Common.{lies_outside, State, SpecJob, slot, protection_at};
 ghost use Rattle.spec_machine.specs.declared.call.Call.TheVariants.{Rename};
 ghost use Rattle.spec_machine.specs.declared.call.Reply.TheVariants.{Done, NoMemory, Failed, Device, Refused};
-ghost use Rattle.volume.specs.Common.{claims, slot as version_at, IsSoundCore};
+ghost use Rattle.volume.specs.Common.{claims, slot as version_at, IsSoundMemory};
 ghost use Rattle.volume.specs.declared.live.LiveVersion.{LiveVersion};
 ghost use Rattle.volume.specs.declared.pending.PendingVersion.{PendingVersion};
 ghost use Rattle.monitor.specs.Common.{allowed_arrival, arrival_answer, may_become, allowed_change, asked_protection};
@@ -13,8 +14,8 @@ ghost use Rattle.monitor.specs.Common.{changed_job, Closes, IsDecided, found_in,
 ghost use Rattle.monitor.specs.Common.{readers_of, with_code, IsRow, KeepsSides, KeepsReading, UnderKeys, job_of};
 ghost use Rattle.monitor.specs.Common.{reader_of};
 
-use crate::channel::Channel;
-use crate::dropping::release_input;
+use crate::channel::OpenChannel;
+use crate::close_job::release_input;
 use crate::enter::{find, name_at, owner_at};
 use crate::found::Found;
 use crate::input::Input;
@@ -31,8 +32,9 @@ use usercore::Core;
 use volume::{CallError, Volume};
 use words36::{FileName, Ppn};
 
-/// RENAME: gives the file that a channel has looked up, as it is now, the place that the four words at an address
-/// name, and the protection that they have in bits 0 to 8; a zero name deletes it. The channel reads it no longer.
+/// Serves RENAME: gives the file that a channel has looked up, as it is now, the place that the four words at an
+/// address name, and the protection that they have in bits 0 to 8; a zero name deletes it. The channel no longer reads
+/// it.
 pub fn serve_rename<D: Disk>(
     alloc: Global,
     volume: &mut Volume<D>,
@@ -40,8 +42,8 @@ pub fn serve_rename<D: Disk>(
     channel: u32,
     address: u32,
 ) -> Reply
-    requires ready { IsCallReady (D.state volume.old.disk) volume.old.core volume.old.failed job.old }
-    ensures serving { ServesAlways D.state volume.old.disk volume.new.disk volume.old.core volume.new.core
+    requires ready { IsCallReady (D.state volume.old.disk) volume.old.map volume.old.failed job.old }
+    ensures serving { ServesAlways D.state volume.old.disk volume.new.disk volume.old.map volume.new.map
         volume.new.failed job.old job.new (Rename channel address) result }
     ensures layout { volume.new.layout ≡ volume.old.layout }
 {
@@ -51,7 +53,7 @@ pub fn serve_rename<D: Disk>(
     }
 }
 
-/// RENAME of a channel that reads nothing: it is out of order.
+/// Serves a RENAME of a channel that reads nothing: it is out of order.
 fn rename_nothing(job: &mut Job, number: u32, address: u32) -> Reply
     requires unread { reader_of (slot job.old.channels number) ≡ None }
     ensures row { IsRow job.old job.new (Rename number address) result }
@@ -70,21 +72,21 @@ fn rename_nothing(job: &mut Job, number: u32, address: u32) -> Reply
     refuse(&mut job.core, address, ErrorCode::Sequence)
 }
 
-/// RENAME of a channel that reads a file: it is deleted where the words at the address have a zero name, and moved
-/// else.
+/// Serves a RENAME of a channel that reads a file: deletes it if the words at the address have a zero name, and moves
+/// it otherwise.
 fn rename_input<D: Disk>(
     alloc: Global,
     volume: &mut Volume<D>,
     job: &mut Job,
     number: u32,
     address: u32,
-    channel: Channel,
+    channel: OpenChannel,
     input: Input,
 ) -> Reply
-    requires ready { IsCallReady (D.state volume.old.disk) volume.old.core volume.old.failed job.old }
+    requires ready { IsCallReady (D.state volume.old.disk) volume.old.map volume.old.failed job.old }
     requires there { slot job.old.channels number ≡ Some channel }
     requires side { channel.input ≡ Some input }
-    ensures serving { ServesAlways D.state volume.old.disk volume.new.disk volume.old.core volume.new.core
+    ensures serving { ServesAlways D.state volume.old.disk volume.new.disk volume.old.map volume.new.map
         volume.new.failed job.old job.new (Rename number address) result }
     ensures layout { volume.new.layout ≡ volume.old.layout }
 {
@@ -101,8 +103,8 @@ fn rename_input<D: Disk>(
     }
 }
 
-/// Whether a job may change the file at a place as it asks to, or why not. `protection` is the one that the file is to
-/// have; a file that is deleted gets none.
+/// Returns whether a job may change the file at a place as it asks to, or why not. `protection` is the new protection
+/// of the file; a file that is deleted gets none.
 fn allow_change(
     found: Found,
     who: Ppn,
@@ -136,7 +138,8 @@ fn allow_change(
     Ok(())
 }
 
-/// Whether a job may rename a file of this protection, or delete it, and give it another one where it is to have it.
+/// Returns whether a job may rename a file of this protection, or delete it, and give it the new protection, if there
+/// is one.
 fn may_become(own: u16, protection: Option<u16>, who: Ppn, owner: Ppn) -> bool
     ensures { result ≡ may_become own protection who owner }
 {
@@ -150,19 +153,19 @@ fn may_become(own: u16, protection: Option<u16>, who: Ppn, owner: Ppn) -> bool
     }
 }
 
-/// Whether a job may change what an input side reads, as it is at its place now, or why not.
+/// Returns whether a job may change what an input side reads, as it is at its place now, or why not.
 fn may_change<D: Disk>(
     volume: &Volume<D>,
     who: Ppn,
     input: &Input,
     protection: Option<u16>,
 ) -> Result<(), ErrorCode>
-    requires sound { IsSoundCore (D.state volume.now.disk) volume.now.core volume.now.failed }
-    ensures free { OnOk result (claims volume.now.core.pending (place_of input.now.ppn input.now.file) ≡ false) }
-    // It answers as the machine does to a RENAME, by any job with this number, that asks for this protection.
+    requires sound { IsSoundMemory (D.state volume.now.disk) volume.now.map volume.now.failed }
+    ensures free { OnOk result (claims volume.now.map.pending (place_of input.now.ppn input.now.file) ≡ false) }
+    // It answers as the machine does to a RENAME, by any job of this PPN, that asks for this protection.
     ensures answered { (D.state volume.now.disk).honest → volume.now.failed ≡ false → (s : State)
-        → IsKnown (D.state volume.now.disk) volume.now.core s
-        → (job : MachineJob) (e : ℕ) → job.ppn ≡ who → protection ≡ asked_protection job e
+        → IsKnown (D.state volume.now.disk) volume.now.map s
+        → (job : SpecJob) (e : ℕ) → job.ppn ≡ who → protection ≡ asked_protection job e
         → IsChangeAnswer result (change_answer s job e (place_of input.now.ppn input.now.file)) }
 {
     let found = find(volume, input.ppn, &input.file);
@@ -171,8 +174,8 @@ fn may_change<D: Disk>(
     allow_change(found, who, input.ppn, is_zero, protection, claimed)
 }
 
-/// Whether a job may give a file the place where this is found, or why not: `who` asks, in the directory of `owner`.
-/// That is another one than the file's where `is_other` is so, and the place is the file's own where `is_same` is.
+/// Returns whether a job may give a file the place where this is found, or why not: `who` asks, in the directory of
+/// `owner`. `is_other` states that this directory isn't the file's, and `is_same` that the place is the file's own.
 fn allow_arrival(
     found: Found,
     who: Ppn,
@@ -192,7 +195,7 @@ fn allow_arrival(
         return Err(ErrorCode::Protection);
     }
     if is_same {
-        return Ok(()); // it stays
+        return Ok(()); // the file stays where it is
     }
     if !is_free {
         return Err(ErrorCode::NameExists);
@@ -203,14 +206,14 @@ fn allow_arrival(
     Ok(())
 }
 
-/// Whether a place is the one that an input side reads.
+/// Returns whether a place is the one that an input side reads.
 fn is_place_of(input: &Input, ppn: Ppn, name: &FileName) -> bool
     ensures { result ≡ same_place (place_of ppn name.now) (place_of input.now.ppn input.now.file) }
 {
     ppn == input.ppn && name.name == input.file.name && name.ext == input.file.ext
 }
 
-/// Whether a job may give a file that it may change this place, or why not.
+/// Returns whether a job may give a file that it may change this place, or why not.
 fn may_come<D: Disk>(
     volume: &Volume<D>,
     who: Ppn,
@@ -219,11 +222,11 @@ fn may_come<D: Disk>(
     name: &FileName,
 ) -> Result<(), ErrorCode>
     ensures free { OnOk result (same_place (place_of ppn name.now) (place_of input.now.ppn input.now.file) ≡ false
-        → claims volume.now.core.pending (place_of ppn name.now) ≡ false) }
-    // It answers as the machine does to a RENAME, by any job with this number, that names this place.
+        → claims volume.now.map.pending (place_of ppn name.now) ≡ false) }
+    // It answers as the machine does to a RENAME, by any job of this PPN, that names this place.
     ensures answered { (D.state volume.now.disk).honest → volume.now.failed ≡ false → (s : State)
-        → IsKnown (D.state volume.now.disk) volume.now.core s
-        → (job : MachineJob) → job.ppn ≡ who
+        → IsKnown (D.state volume.now.disk) volume.now.map s
+        → (job : SpecJob) → job.ppn ≡ who
         → IsChangeAnswer result
         (arrival_answer s job (place_of input.now.ppn input.now.file) (place_of ppn name.now)) }
 {
@@ -233,23 +236,23 @@ fn may_come<D: Disk>(
     allow_arrival(found, who, ppn, ppn != input.ppn, same, claimed)
 }
 
-/// The input side of a channel closes, once what it reads has another place, or none.
+/// Closes the input side of a channel, after what it reads was given another place, or none.
 fn close_input<D: Disk>(
     volume: &mut Volume<D>,
     job: &mut Job,
     number: u32,
-    channel: Channel,
+    channel: OpenChannel,
     input: Input,
 )
-    requires held { 0 < readers_of (version_at volume.old.core.live input.pin.key) }
-    ensures closed { Closes volume.old.core volume.new.core [] (input.pin.key ∷ []) }
-    ensures pending { volume.new.core.pending ≡ volume.old.core.pending }
+    requires held { 0 < readers_of (version_at volume.old.map.live input.pin.key) }
+    ensures closed { Closes volume.old.map volume.new.map [] (input.pin.key ∷ []) }
+    ensures pending { volume.new.map.pending ≡ volume.old.map.pending }
     ensures untouched { (volume.new.disk ≡ volume.old.disk) × (volume.new.failed ≡ volume.old.failed) }
     ensures layout { volume.new.layout ≡ volume.old.layout }
     ensures job { job.new ≡ with_input_closed job.old number channel }
 {
     release_input(volume, Some(input));
-    let closed = Channel {
+    let closed = OpenChannel {
         status: cleared(channel.status),
         input: None,
         ..channel
@@ -257,22 +260,22 @@ fn close_input<D: Disk>(
     job.set_channel(number, Some(closed));
 }
 
-/// What a change of the map that the volume made, or didn't make, is answered with: where it is done the channel's
-/// input side closes.
+/// Returns the answer to a change of the map that the volume made, or didn't make; if it is made, the channel's input
+/// side closes.
 fn answer_change<D: Disk>(
     volume: &mut Volume<D>,
     job: &mut Job,
     number: u32,
     address: u32,
-    channel: Channel,
+    channel: OpenChannel,
     input: Input,
     changed: Result<(), CallError>,
 ) -> Reply
     requires inside { address < 0o400000 }
-    requires held { OnOk changed (0 < readers_of (version_at volume.old.core.live input.pin.key)) }
+    requires held { OnOk changed (0 < readers_of (version_at volume.old.map.live input.pin.key)) }
     ensures answered { result ≡ changed_reply changed }
     ensures job { job.new ≡ changed_job changed job.old number address channel }
-    ensures closed { CloseAfter changed volume.old.core volume.new.core input }
+    ensures closed { CloseAfter changed volume.old.map volume.new.map input }
     ensures untouched { (volume.new.disk ≡ volume.old.disk) × (volume.new.failed ≡ volume.old.failed) }
     ensures layout { volume.new.layout ≡ volume.old.layout }
 {
@@ -294,20 +297,20 @@ fn remove_file<D: Disk>(
     job: &mut Job,
     number: u32,
     address: u32,
-    channel: Channel,
+    channel: OpenChannel,
     input: Input,
 ) -> Reply
-    requires ready { IsCallReady (D.state volume.old.disk) volume.old.core volume.old.failed job.old }
+    requires ready { IsCallReady (D.state volume.old.disk) volume.old.map volume.old.failed job.old }
     requires there { slot job.old.channels number ≡ Some channel }
     requires side { channel.input ≡ Some input }
     requires free { channel.output ≡ None }
     requires inside { lies_outside job.old.core address 4 ≡ false }
     requires deletes { slice_index job.old.core address ≡ 0 }
-    ensures serving { ServesAlways D.state volume.old.disk volume.new.disk volume.old.core volume.new.core
+    ensures serving { ServesAlways D.state volume.old.disk volume.new.disk volume.old.map volume.new.map
         volume.new.failed job.old job.new (Rename number address) result }
     ensures layout { volume.new.layout ≡ volume.old.layout }
 {
-    let _length = job.core.length(); // which says how long a core may be
+    let _length = job.core.length(); // its contract states how long a core may be
     if let Err(code) = may_change(volume, job.ppn, &input, None) {
         return refuse(&mut job.core, address, code);
     }
@@ -315,28 +318,28 @@ fn remove_file<D: Disk>(
     answer_change(volume, job, number, address, channel, input, changed)
 }
 
-/// Gives what an input side has found, the file that has its place now, the place that the words at an address name,
-/// and their protection.
+/// Moves what an input side has found, the file that has its place now, to the place that the words at an address name,
+/// and gives it their protection.
 fn move_file<D: Disk>(
     alloc: Global,
     volume: &mut Volume<D>,
     job: &mut Job,
     number: u32,
     address: u32,
-    channel: Channel,
+    channel: OpenChannel,
     input: Input,
 ) -> Reply
-    requires ready { IsCallReady (D.state volume.old.disk) volume.old.core volume.old.failed job.old }
+    requires ready { IsCallReady (D.state volume.old.disk) volume.old.map volume.old.failed job.old }
     requires there { slot job.old.channels number ≡ Some channel }
     requires side { channel.input ≡ Some input }
     requires free { channel.output ≡ None }
     requires inside { lies_outside job.old.core address 4 ≡ false }
     requires named { slice_index job.old.core address ≡ 0 → ⊥ }
-    ensures serving { ServesAlways D.state volume.old.disk volume.new.disk volume.old.core volume.new.core
+    ensures serving { ServesAlways D.state volume.old.disk volume.new.disk volume.old.map volume.new.map
         volume.new.failed job.old job.new (Rename number address) result }
     ensures layout { volume.new.layout ≡ volume.old.layout }
 {
-    let _length = job.core.length(); // no address is behind it
+    let _length = job.core.length(); // no address is beyond it
     let protection = (word_at(&job.core, address + 2).bits() >> 27) as u16;
     if let Err(code) = may_change(volume, job.ppn, &input, Some(protection)) {
         return refuse(&mut job.core, address, code);

@@ -1,3 +1,4 @@
+//! The call RESET, and the reset of a job.
 ghost use Rattle.std.specs.Prelude.{◌≡◌, ◌↔◌, ℕ, false, Some, None, slice_set, IsTrue, IsFalse};
 ghost use Rattle.spec_machine.specs.Common.{slot, Service, Answers};
 ghost use Rattle.spec_image.specs.Common.{layout_number, pack_in, pack_of};
@@ -8,7 +9,7 @@ ghost use Rattle.monitor.specs.Common.{OnlyDrops, reset_answer, Serves, AreKeyed
 ghost use Rattle.monitor.specs.Common.{IsCallReady, ServesAlways};
 ghost use Rattle.monitor.specs.declared.job.Job.{Job as JobRecord};
 
-use crate::dropping::{close_channels, close_job};
+use crate::close_job::{close_channels, close_job};
 use crate::job::{Job, Jobs};
 use crate::monitor::Monitor;
 use blockdisk::Disk;
@@ -16,11 +17,11 @@ use spec_machine::Reply;
 use volume::Volume;
 use words36::Moment;
 
-/// RESET: closes all channels of a job, drops what it has written and lets go what it reads; and the next ring of
-/// buffers goes where the first one does.
+/// Serves RESET: closes all channels of a job, drops what it has written and unpins what it reads. The next ring of
+/// buffers will go where the first one does.
 pub fn serve_reset<D: Disk>(volume: &mut Volume<D>, job: &mut Job) -> Reply
-    requires ready { IsCallReady (D.state volume.old.disk) volume.old.core volume.old.failed job.old }
-    ensures serving { ServesAlways D.state volume.old.disk volume.new.disk volume.old.core volume.new.core
+    requires ready { IsCallReady (D.state volume.old.disk) volume.old.map volume.old.failed job.old }
+    ensures serving { ServesAlways D.state volume.old.disk volume.new.disk volume.old.map volume.new.map
         volume.new.failed job.old job.new Reset result }
     ensures layout { volume.new.layout ≡ volume.old.layout }
 {
@@ -29,21 +30,21 @@ pub fn serve_reset<D: Disk>(volume: &mut Volume<D>, job: &mut Job) -> Reply
     Reply::Done
 }
 
-/// Resets the job of a number. Answers whether there is one.
+/// Resets the job of a number. Returns whether there is one.
 pub fn reset<D: Disk>(volume: &mut Volume<D>, jobs: &mut Jobs, number: u32) -> bool
-    requires keyed { AreKeyed volume.old.core.pending jobs.old }
-    requires placed { ArePlaced volume.old.core }
-    requires reading { AreReading volume.old.core.live jobs.old }
-    ensures keyed { AreKeyed volume.new.core.pending jobs.new }
-    ensures placed { ArePlaced volume.new.core }
-    ensures reading { AreReading volume.new.core.live jobs.new }
-    ensures leaves { OnlyDrops volume.old.core volume.new.core }
+    requires keyed { AreKeyed volume.old.map.pending jobs.old }
+    requires placed { ArePlaced volume.old.map }
+    requires reading { AreReading volume.old.map.live jobs.old }
+    ensures keyed { AreKeyed volume.new.map.pending jobs.new }
+    ensures placed { ArePlaced volume.new.map }
+    ensures reading { AreReading volume.new.map.live jobs.new }
+    ensures leaves { OnlyDrops volume.old.map volume.new.map }
     ensures untouched { (volume.new.disk ≡ volume.old.disk) × (volume.new.failed ≡ volume.old.failed) }
     ensures layout { volume.new.layout ≡ volume.old.layout }
     ensures found { IsTrue result → (job : JobRecord) × (slot jobs.old number ≡ Some job)
         × (jobs.new ≡ slice_set jobs.old number (Some (reset_job job))) }
     ensures none { IsFalse result → (slot jobs.old number ≡ None) × (jobs.new ≡ jobs.old)
-        × (volume.new.core ≡ volume.old.core) }
+        × (volume.new.map ≡ volume.old.map) }
 {
     let Some(_there) = jobs.job(number) else {
         return false;
@@ -53,11 +54,11 @@ pub fn reset<D: Disk>(volume: &mut Volume<D>, jobs: &mut Jobs, number: u32) -> b
 }
 
 impl<D: Disk> Monitor<D> {
-    /// Resets a job, as the call RESET does: all its channels are closed, and the right half of word 121 (octal)
-    /// of its core becomes 140 (octal).
+    /// Resets a job, as the call RESET does: all its channels are closed, and the right half of word 121 (octal) of its
+    /// core becomes 140 (octal).
     ///
-    /// The answer is `Done`; `DateRange` for a date that the layout of the disk can't hold; `NoJob` where no job of
-    /// that number is logged in; or `Failed`. It wants no memory and touches no disk.
+    /// The answer is `Done`; `DateRange` for a date that the layout of the disk can't hold; `NoJob` if no job of that
+    /// number is logged in; or `Failed`. It needs no memory and doesn't touch the disk.
     pub fn reset(&mut self, job: u32, moment: Moment) -> Reply
         ensures answered { (D.state self.old.disk).honest → (old : Service)
             → Serves (D.state self.old.disk) self.old.map self.old.failed self.old.jobs old

@@ -1,3 +1,4 @@
+//! How a service starts over what a crash left.
 ghost use Rattle.std.specs.Prelude.{◌≡◌, ◌⊎◌, ℕ, List, IsTrue, IfOk, IfErr};
 ghost use Rattle.blockdisk.specs.Common.{Contents, MayLeave, LeavesOnly, Between, SameDisk, Still, one_more};
 ghost use Rattle.changeset.specs.Common.{IsRecovered};
@@ -14,18 +15,18 @@ use crate::monitor::Monitor;
 use blockdisk::Disk;
 use std::alloc::Global;
 
-/// Starts a service over what a crash left of a disk that served a list of events, or of a start after it that was
-/// stopped itself, and so on: any number of starts may have been stopped before this one.
+/// Starts a service over what a crash left of a disk that served a list of events, or of a start after such a crash
+/// that was stopped itself, and so on: any number of starts may have been stopped before this one.
 ///
 /// At whichever moment of the list the crash came, the files are those after some of the events that were answered,
-/// none of them left out, or those after these and the next one, which was running, where its answer is one that may
-/// change files; and no third. At whichever moments the starts before were stopped, they are the same. The layout is
-/// the one in which the list was served (`pack`).
+/// with none before them left out, or those after these and the next event, which was running, if its answer is one
+/// that may change files; there is no third case. At whichever moments the earlier starts were stopped, the files are
+/// the same. The layout is the one in which the list was served (`pack`).
 ///
 /// # Errors
 ///
-/// `NoMemory`, and `Device` where the device fails; the disk is handed back, and may be started again. Over a disk that
-/// no such crash left, the refusals of `Monitor::start`.
+/// `NoMemory`, and `Device` if the device fails; the disk is handed back, and may be started again. Over a disk that no
+/// such crash left, the refusals of `Monitor::start`.
 pub fn start_after_crash<D: Disk, E: Disk>(
     alloc: Global,
     stopped: &D,
@@ -58,8 +59,8 @@ pub fn start_after_crash<D: Disk, E: Disk>(
         ⊎ (IsTrue (may_change reply) × ServesFiles (E.state m.disk) m.map m.failed m.jobs
         (without_serials (step pack 0 s event).1.files))) }
 
-    // It may be stopped itself. Where all that a crash may leave at its beginning stands for the same files, whatever a
-    // crash leaves at any moment of it does.
+    // It may be stopped itself. If all that a crash may leave at its beginning stands for the same files, so does
+    // whatever a crash leaves at any moment of it.
     ensures again { (files : Files File)
         → ((c : Contents) → MayLeave (E.state left) c → Stands (E.state left).size c files)
         → IfOk result (λ m. (E.state m.disk).honest
@@ -72,7 +73,7 @@ pub fn start_after_crash<D: Disk, E: Disk>(
     ensures crash_refused { IfErr result (λ refused. (E.state refused.1).honest
         → HasStarted (E.state left) (E.state refused.1)) }
 
-    // What is refused, and what becomes of the disk, as of `Monitor::start`.
+    // What is refused, and what becomes of the disk, as for `Monitor::start`.
     ensures faults { IfErr result (λ refused. (E.state refused.1).honest
         → Refuses (E.state left).size (E.state refused.1).contents refused.0) }
     ensures kept { IfErr result (λ refused. (E.state refused.1).honest → (refused.0 ≡ Device → ⊥)

@@ -1,8 +1,9 @@
+//! How events are served: one, or a list of them.
 ghost use Rattle.std.specs.Prelude.{◌≡◌, ◌⊎◌, ◌↔◌, ◌<◌, ◌≤◌, ℕ, List, Some, length, map, slice_set, true, false};
 ghost use Rattle.std.specs.Prelude.{IsTrue, IfOk, IsErr};
 ghost use Rattle.std.specs.List.{AllByRecursion};
 ghost use Rattle.blockdisk.specs.Common.{SameDisk, LeavesOnly, one_more};
-ghost use Rattle.spec_machine.specs.Common.{StandsForEither, RunsOn, State, slot, job_at, Job as MachineJob, Service};
+ghost use Rattle.spec_machine.specs.Common.{StandsForEither, RunsOn, State, slot, job_at, SpecJob, Service};
 ghost use Rattle.spec_machine.specs.Common.{Serving, Answers, job_of, last_date};
 ghost use Rattle.spec_image.specs.Common.{layout_number, pack_of};
 ghost use Rattle.spec_machine.specs.declared.call.Reply.TheVariants.{Refused, Device, Failed, DateRange};
@@ -18,14 +19,14 @@ use spec_machine::{Event, Reply};
 use std::alloc::Global;
 
 impl<D: Disk> Monitor<D> {
-    /// Serves one event, and gives its reply: that of `login`, `deposit`, `examine` or `call`.
+    /// Serves one event, and returns its reply: that of `login`, `deposit`, `examine` or `call`.
     pub fn event(&mut self, alloc: Global, event: &Event) -> Reply
         ensures answered { (D.state self.new.disk).honest → (old : Service)
             → Serves (D.state self.old.disk) self.old.map self.old.failed self.old.jobs old
             → (new : Service) × Serves (D.state self.new.disk) self.new.map self.new.failed self.new.jobs new
             × Answers (pack_of (D.state self.old.disk)) old event.now result new }
-        // At any moment of it a crash leaves the files from before, or those after it where its answer is one that may
-        // change files: `Done`, and `Device`.
+        // At any moment of it a crash leaves the files from before, or those after it if its answer is one that may
+        // change files: `Done` or `Device`.
         ensures crash { (D.state self.new.disk).honest → (s : State)
             → Serves (D.state self.old.disk) self.old.map self.old.failed self.old.jobs (Serving s)
             → LeavesOnly (D.state self.old.disk) (D.state self.new.disk)
@@ -36,7 +37,7 @@ impl<D: Disk> Monitor<D> {
             → (after : Service) × Serves (D.state self.new.disk) self.new.map self.new.failed self.new.jobs after
             × Answers (pack_of (D.state self.old.disk)) (Serving s) event.now result after
             × ((t : State) → after ≡ Serving t → (m : ℕ) → (m ≡ job_of event.now → ⊥) → job_at t m ≡ job_at s m) }
-        // On every disk: no event of another job changes a job. An event that finds no memory, or whose answer is about
+        // On every disk: no event of another job changes a job. An event that lacks memory, or whose answer is about
         // the date, the job, the channel or addresses, leaves everything as it was.
         ensures others { (m : ℕ) → (m ≡ job_of event.now → ⊥) → slot self.new.jobs m ≡ slot self.old.jobs m }
         ensures memory { result ≡ replies.NoMemory → self.new ≡ self.old }
@@ -46,7 +47,8 @@ impl<D: Disk> Monitor<D> {
         ensures light { IsLightEvent event.now self.old.jobs → (result ≡ replies.NoMemory → ⊥)
             × (self.new.disk ≡ self.old.disk) }
         ensures apart_from_disk { IsNoCall event.now → self.new.disk ≡ self.old.disk }
-        // It fails with the device, and is Failed from then on; else only a broken promise of the disk makes it so.
+        // It fails with the device, and answers Failed after that; otherwise only a broken promise of the disk makes it
+        // fail.
         ensures failed { IsTrue self.new.failed ↔ ((result ≡ Device) ⊎ (result ≡ Failed)) }
         ensures broken { self.old.failed ≡ true → (result ≡ Failed) × (self.new ≡ self.old) }
         ensures blamed { (D.state self.new.disk).honest → result ≡ Failed → self.old.failed ≡ true }
@@ -54,11 +56,11 @@ impl<D: Disk> Monitor<D> {
             ≡ one_more (D.state self.old.disk).failures }
         ensures served { (result ≡ Device → ⊥) → (D.state self.new.disk).failures ≡ (D.state self.old.disk).failures }
         ensures same { SameDisk (D.state self.old.disk) (D.state self.new.disk) }
-        // And what `call` says of a call alone.
+        // And what `call` states of a call alone.
         ensures still { OfCall event.now (λ job call moment. (D.state self.new.disk).honest → (channel address : ℕ)
             → call ≡ In channel address → moment.date ≤ last_date (layout_number self.old.layout) → (s : State)
             → Serves (D.state self.old.disk) self.old.map self.old.failed self.old.jobs (Serving s)
-            → (own : MachineJob) → job_at s job ≡ Some own → (result ≡ replies.NoMemory → ⊥) → (result ≡ Device → ⊥)
+            → (own : SpecJob) → job_at s job ≡ Some own → (result ≡ replies.NoMemory → ⊥) → (result ≡ Device → ⊥)
             → (after : State)
             × Serves (D.state self.new.disk) self.new.map self.new.failed self.new.jobs (Serving after)
             × (result ≡ (read_of own channel address).0) × (job_at after job ≡ Some (read_of own channel address).1)) }
@@ -77,19 +79,19 @@ impl<D: Disk> Monitor<D> {
         }
     }
 
-    /// Serves a list of events, one after the other, and gives their replies in the same order.
+    /// Serves a list of events, one after the other, and returns their replies in the same order.
     ///
-    /// The replies, and what the monitor stands for after them, are a run of the file machine. At the moment after
-    /// each event all that a crash may leave stands for the files after the events so far; between two such moments it
-    /// leaves these, or those after one event more where its answer is one that may change files (`Done`, `Device`).
-    /// Who reads goes on in the file that its LOOKUP found. An event that meets a fault of the disk is answered
+    /// The replies, and what the monitor stands for after them, are a run of the file machine. At the moment after each
+    /// event all that a crash may leave stands for the files after the events so far; between two such moments a crash
+    /// leaves these, or those after one more event if its answer is one that may change files (`Done`, `Device`). Each
+    /// reader continues in the file that its LOOKUP found. An event that meets a fault of the disk is answered
     /// `Device`, and each event after it `Failed`.
     ///
     /// # Errors
     ///
-    /// `NoMemory` where the replies find no room: then no event was served.
+    /// `NoMemory` if there is no memory for the replies: then no event was served.
     pub fn serve(&mut self, alloc: Global, events: &[Event]) -> Result<Vec<Reply>, NoMemory>
-        // One run: by way of these services, one after each event, the replies are the machine's, moment by moment; and
+        // One run: through these services, one after each event, the replies are the machine's, moment by moment; and
         // the words that an IN moves are those of the file that its LOOKUP found, whatever other jobs do.
         ensures runs { IfOk result (λ replies. (D.state self.new.disk).honest → (s : State)
             → Serves (D.state self.old.disk) self.old.map self.old.failed self.old.jobs (Serving s)
@@ -105,7 +107,8 @@ impl<D: Disk> Monitor<D> {
         ensures broken { self.old.failed ≡ true
             → IfOk result (λ replies. AllByRecursion (λ reply. reply ≡ Failed) replies.items) × (self.new ≡ self.old) }
         ensures same { SameDisk (D.state self.old.disk) (D.state self.new.disk) }
-        // On every disk: Device is among the replies only where the failure count rose, by one; after it all is Failed.
+        // On every disk: Device is among the replies only if the failure count rose, by one; all replies after it are
+        // Failed.
         ensures served { IfOk result (λ replies. AllByRecursion (λ reply. reply ≡ Device → ⊥) replies.items
             → (D.state self.new.disk).failures ≡ (D.state self.old.disk).failures) }
         ensures counted { IfOk result (λ replies. TellsFault replies.items

@@ -1,9 +1,10 @@
+//! The status of a channel, and how calls are stopped or refused.
 ghost use Rattle.std.specs.Prelude.{◌≡◌, ◌+◌, ◌<◌, ◌^◌, Some, slice_set};
 ghost use Rattle.spec_machine.specs.Common.{cleared, with_right};
 ghost use Rattle.spec_image.specs.Common.{number_of};
 ghost use Rattle.spec_machine.specs.declared.call.Reply.TheVariants.{Stopped, Refused};
 
-use crate::channel::Channel;
+use crate::channel::OpenChannel;
 use crate::job::Job;
 use crate::open::word_at;
 use spec_image::ErrorCode;
@@ -11,10 +12,10 @@ use spec_machine::Reply;
 use usercore::Core;
 use words36::{Half, Word};
 
-/// What a channel reports of a block that a file can't have, or has no room for.
+/// What a channel reports if a file can't have a block, or has no room for it.
 pub const BLOCK_TOO_LARGE: u32 = 0o40000;
 
-/// A status without the five bits that calls report.
+/// Returns a status without the five bits that calls report.
 pub fn cleared(status: u32) -> u32
     ensures value { result ≡ cleared status }
     ensures few { result < 2 ^ 13 }
@@ -22,8 +23,8 @@ pub fn cleared(status: u32) -> u32
     status % 0o20000
 }
 
-/// Stops a call of a channel, which reports this bit.
-pub fn stop(job: &mut Job, number: u32, channel: Channel, bit: u32) -> Reply
+/// Stops a call of a channel, which then reports this bit.
+pub fn stop(job: &mut Job, number: u32, channel: OpenChannel, bit: u32) -> Reply
     requires { bit < 2 ^ 18 }
     ensures answered { result ≡ Stopped (cleared channel.status + bit) }
     ensures kept { job.new
@@ -33,11 +34,11 @@ pub fn stop(job: &mut Job, number: u32, channel: Channel, bit: u32) -> Reply
         } }
 {
     let status = cleared(channel.status) + bit;
-    job.set_channel(number, Some(Channel { status, ..channel }));
+    job.set_channel(number, Some(OpenChannel { status, ..channel }));
     Reply::Stopped(status)
 }
 
-/// Refuses a call that named a block of words: the code goes into the right half of the second of them.
+/// Refuses a call that named a block of words: puts the code into the right half of the second of them.
 pub fn refuse(core: &mut Core, address: u32, code: ErrorCode) -> Reply
     requires { address < 0o400000 }
     ensures answered { result ≡ Refused (number_of code) }

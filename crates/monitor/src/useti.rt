@@ -1,3 +1,4 @@
+//! The call USETI.
 ghost use Rattle.std.specs.Prelude.{◌≡◌, List, Option, ℕ};
 ghost use Rattle.spec_machine.specs.declared.call.Call.TheVariants.{Useti};
 ghost use Rattle.spec_machine.specs.declared.call.Reply.TheVariants.{NoMemory, Failed, Device, Refused};
@@ -5,21 +6,21 @@ ghost use Rattle.volume.specs.declared.live.LiveVersion.{LiveVersion};
 ghost use Rattle.volume.specs.declared.pending.PendingVersion.{PendingVersion};
 ghost use Rattle.monitor.specs.Common.{IsDecided, IsRow, KeepsSides, KeepsReading};
 
-use crate::channel::Channel;
+use crate::channel::OpenChannel;
 use crate::input::Input;
 use crate::job::Job;
 use crate::status::{BLOCK_TOO_LARGE, cleared, stop};
 use spec_image::ErrorCode;
 use spec_machine::Reply;
 
-/// The input side of a channel.
-fn input_side(channel: &Channel) -> Option<Input>
+/// Returns the input side of a channel.
+fn input_side(channel: &OpenChannel) -> Option<Input>
     ensures { result ≡ channel.now.input }
 {
     channel.input
 }
 
-/// USETI: names the block that a channel reads next, counted from 1.
+/// Serves USETI: names the block that a channel reads next, counted from 1.
 pub fn useti(job: &mut Job, number: u32, block: u32) -> Reply
     ensures row { IsRow job.old job.new (Useti number block) result }
     ensures keeps { (pending : List (Option PendingVersion)) → KeepsSides pending pending job.old job.new }
@@ -41,7 +42,7 @@ pub fn useti(job: &mut Job, number: u32, block: u32) -> Reply
         next: block,
         ..input
     };
-    let moved = Channel {
+    let moved = OpenChannel {
         status: cleared(channel.status),
         input: Some(input),
         ..channel

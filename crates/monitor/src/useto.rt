@@ -1,3 +1,4 @@
+//! The call USETO.
 ghost use Rattle.std.specs.Prelude.{◌≡◌, List, Option, ℕ};
 ghost use Rattle.spec_machine.specs.declared.call.Call.TheVariants.{Useto};
 ghost use Rattle.spec_machine.specs.declared.call.Reply.TheVariants.{NoMemory, Failed, Device, Refused};
@@ -5,14 +6,14 @@ ghost use Rattle.volume.specs.declared.live.LiveVersion.{LiveVersion};
 ghost use Rattle.volume.specs.declared.pending.PendingVersion.{PendingVersion};
 ghost use Rattle.monitor.specs.Common.{IsDecided, IsRow, KeepsSides, KeepsReading};
 
-use crate::channel::Channel;
+use crate::channel::OpenChannel;
 use crate::job::Job;
 use crate::output::Output;
 use crate::status::{BLOCK_TOO_LARGE, cleared, stop};
 use spec_image::ErrorCode;
 use spec_machine::Reply;
 
-/// USETO: names the block that a channel writes next, counted from 1.
+/// Serves USETO: names the block that a channel writes next, counted from 1.
 pub fn useto(job: &mut Job, number: u32, block: u32) -> Reply
     ensures row { IsRow job.old job.new (Useto number block) result }
     ensures keeps { (pending : List (Option PendingVersion)) → KeepsSides pending pending job.old job.new }
@@ -34,7 +35,7 @@ pub fn useto(job: &mut Job, number: u32, block: u32) -> Reply
         next: block,
         ..output
     };
-    let moved = Channel {
+    let moved = OpenChannel {
         status: cleared(channel.status),
         output: Some(output),
         ..channel

@@ -1,3 +1,4 @@
+//! Words of a job's core, which are deposited and examined.
 ghost use Rattle.std.specs.Prelude.{◌≡◌, ◌↔◌, ◌+◌, ◌<◌, ◌≤◌, ℕ, false, Some, IsSome, IfSome, IsFalse, IsTrue, length};
 ghost use Rattle.std.specs.Prelude.{slice_index, slice_set};
 ghost use Rattle.spec_machine.specs.Common.{after_writes, placed, slot, Service, Answers};
@@ -11,10 +12,10 @@ use crate::job::Jobs;
 use crate::monitor::Monitor;
 use blockdisk::Disk;
 use spec_machine::Reply;
-use usercore::Area;
+use usercore::CoreArea;
 use words36::Word;
 
-/// A word of the core of a job.
+/// Returns a word of the core of a job.
 fn examine(jobs: &Jobs, number: u32, address: u32) -> Reply
     ensures { result ≡ examine_of address (slot jobs.now number) }
 {
@@ -27,7 +28,7 @@ fn examine(jobs: &Jobs, number: u32, address: u32) -> Reply
     }
 }
 
-/// Words of the core of a job in a row.
+/// Returns words of the core of a job in a row.
 fn examine_all(jobs: &Jobs, number: u32, first: u32, count: usize) -> Option<&[Word]>
     ensures length { IfSome result (λ words. length words.now ≡ count) }
     ensures shown { IfSome result (λ words. (i : ℕ) → i < count
@@ -35,7 +36,7 @@ fn examine_all(jobs: &Jobs, number: u32, first: u32, count: usize) -> Option<&[W
     ensures there { (job : JobRecord) → slot jobs.now number ≡ Some job → first + count ≤ length job.core
         → IsSome result }
 {
-    let area = Area {
+    let area = CoreArea {
         first: first as usize,
         count,
     };
@@ -45,8 +46,8 @@ fn examine_all(jobs: &Jobs, number: u32, first: u32, count: usize) -> Option<&[W
 impl<D: Disk> Monitor<D> {
     /// Puts a word into a job's core, at an address.
     ///
-    /// The answer is `Done`; `NoJob` where no job of that number is logged in; `AddressCheck` where its core has
-    /// no such address; or `Failed`. Where it isn't `Done` nothing is changed.
+    /// The answer is `Done`; `NoJob` if no job of that number is logged in; `AddressCheck` if its core has no such
+    /// address; or `Failed`. If it isn't `Done`, nothing is changed.
     pub fn deposit(&mut self, job: u32, address: u32, word: Word) -> Reply
         ensures answered { (old : Service)
             → Serves (D.state self.old.disk) self.old.map self.old.failed self.old.jobs old
@@ -68,8 +69,8 @@ impl<D: Disk> Monitor<D> {
         self.jobs.deposit(job, address, word)
     }
 
-    /// Puts words into a job's core from an address on, as `deposit` would put one after the other: true where it would
-    /// answer `Done` each time, and else false, and nothing is changed.
+    /// Puts words into a job's core from an address, as `deposit` would put one after the other. Returns true if
+    /// `deposit` would answer `Done` each time; otherwise returns false and changes nothing.
     pub fn deposit_all(&mut self, job: u32, first: u32, words: &[Word]) -> bool
         ensures done { IsTrue result → DepositsBy (D.state self.old.disk) self.old.map self.old.failed job
             self.old.jobs first words.now self.new.jobs }
@@ -90,10 +91,10 @@ impl<D: Disk> Monitor<D> {
         self.jobs.deposit_all(job, first, words)
     }
 
-    /// The word of a job's core at an address: `Value`.
+    /// Returns the word of a job's core at an address: `Value`.
     ///
-    /// The answer is else `NoJob` where no job of that number is logged in; `AddressCheck` where its core has no
-    /// such address; or `Failed`.
+    /// Otherwise the answer is `NoJob` if no job of that number is logged in; `AddressCheck` if its core has no such
+    /// address; or `Failed`.
     pub fn examine(&self, job: u32, address: u32) -> Reply
         ensures answered { (old : Service)
             → Serves (D.state self.now.disk) self.now.map self.now.failed self.now.jobs old
@@ -108,7 +109,7 @@ impl<D: Disk> Monitor<D> {
         examine(&self.jobs, job, address)
     }
 
-    /// So many words of a job's core in a row, from an address on: each is the one that `examine` shows. None where
+    /// Returns `count` words of a job's core in a row, from an address: each is the one that `examine` shows. None if
     /// one of them isn't shown.
     pub fn examine_all(&self, job: u32, first: u32, count: usize) -> Option<&[Word]>
         ensures length { IfSome result (λ words. length words.now ≡ count) }

@@ -1,10 +1,10 @@
--- What holds of the digits 0 to 6, and of 7 and all above it, holds of every number.
+-- What holds for the digits 0 to 6, and for 7 and all above it, holds for every number.
 use Rattle.std.proofs.Common.{◌≡◌, ◌≤◌, ◌<◌, ◌-◌, ◌^◌, ◌==◌, ℕ, zero, suc, Bool, false, nat_le, bit_and, refl, sym}
 use Rattle.std.proofs.Common.{ap, ◌∙◌, arith}
 use Rattle.std.proofs.lemmas.Bool.Decides.{nat_tests}
 use Rattle.spec_machine.specs.Common.{acts_of, may_execute, may_read, may_append, may_update, may_supersede}
 use Rattle.spec_machine.specs.Common.{may_rename, may_protect}
-use Rattle.protect.specs.Allowing.{allows}
+use Rattle.protect.specs.AllowedActs.{allows}
 
 by_digits : (f g : ℕ → Bool) → f 0 ≡ g 0 → f 1 ≡ g 1 → f 2 ≡ g 2 → f 3 ≡ g 3 → f 4 ≡ g 4 → f 5 ≡ g 5 → f 6 ≡ g 6
     → ((d : ℕ) → 7 ≤ d → f d ≡ g d) → (d : ℕ) → f d ≡ g d

@@ -1,8 +1,9 @@
+//! The rights that protections give.
 ghost use Rattle.std.specs.Prelude.{◌≡◌, ◌==◌, ℕ};
 ghost use Rattle.words36.specs.Common.{left};
 ghost use Rattle.spec_machine.specs.Common.{system, digit, file_digit, directory_digit, may_execute, may_read};
 ghost use Rattle.spec_machine.specs.Common.{may_append, may_update, may_supersede, may_rename, may_protect};
-ghost use Rattle.protect.specs.Allowing.{allows, allows_in};
+ghost use Rattle.protect.specs.AllowedActs.{allows, allows_in};
 
 use bitflags::Flags;
 use spec_machine::Act;
@@ -17,14 +18,14 @@ pub enum DirectoryAct {
     Create,
 }
 
-/// Whether this is `[1,2]`, who may do everything.
+/// Returns whether this is `[1,2]`, who may do everything.
 fn is_system(who: Ppn) -> bool
     ensures { result ≡ (who == system) }
 {
     who.word().bits() == 0o1000002
 }
 
-/// The digit of a protection that counts for `who`, where the directory is `owner`'s.
+/// Returns the digit of a protection that counts for `who`, if the directory is `owner`'s.
 fn digit(protection: u16, who: Ppn, owner: Ppn) -> u16
     ensures { result ≡ digit protection who owner }
 {
@@ -37,9 +38,9 @@ fn digit(protection: u16, who: Ppn, owner: Ppn) -> u16
     }
 }
 
-/// Whether a file of this protection, in the directory of `owner`, lets `who` do all of these acts: three
-/// octal digits, by the TOPS-10 Monitor Calls Manual. That the owner's digit has the scale of the others
-/// is this project's profile.
+/// Returns whether a file of this protection, in the directory of `owner`, lets `who` do all of these acts: three octal
+/// digits, by the TOPS-10 Monitor Calls Manual. That the owner's digit has the scale of the others is this project's
+/// profile.
 pub fn right(protection: u16, who: Ppn, owner: Ppn, act: Act) -> bool
     ensures allowed { result ≡ allows (file_digit protection who owner) act.0 }
 {
@@ -51,8 +52,8 @@ pub fn right(protection: u16, who: Ppn, owner: Ppn, act: Act) -> bool
     Act::of_digit(u32::from(digit.min(7))).contains(act)
 }
 
-/// Whether a directory of this protection, that of `owner`, lets `who` do this: three octal digits, each a
-/// sum, by this project's profile.
+/// Returns whether a directory of this protection, that of `owner`, lets `who` do this: three octal digits, each a sum,
+/// by this project's profile.
 pub fn dir_right(protection: u16, who: Ppn, owner: Ppn, act: DirectoryAct) -> bool
     ensures allowed { result ≡ allows_in (directory_digit protection who owner) act }
 {
@@ -67,7 +68,8 @@ pub fn dir_right(protection: u16, who: Ppn, owner: Ppn, act: DirectoryAct) -> bo
     }
 }
 
-/// Each act is allowed by the digits up to its own, and so all that a digit allows the next lower one does.
+/// Proves that each act is allowed by the digits up to its own, so that the next lower digit allows all that a digit
+/// allows.
 pub fn acts_are_nested()
     ensures execute { (d : ℕ) → allows d 1 ≡ may_execute d }
     ensures read { (d : ℕ) → allows d 2 ≡ may_read d }

@@ -2,12 +2,12 @@
 use Rattle.std.proofs.Common.{◌≡◌, ℕ, zero, suc, Bool, true, false, ◌+◌, ◌≤◌, ◌==◌, if◌then◌else◌, List, [], ◌∷◌}
 use Rattle.std.proofs.Common.{◌++◌, length, flat_map, refl, sym, ◌∙◌, ap, arith}
 use Rattle.std.proofs.lemmas.Bool.{eqb-true, eqb-false, eq-eqb, ne_eqb}
-use Rattle.spec_image.specs.Common.{Run, run_blocks, count_up}
+use Rattle.spec_image.specs.Common.{SpecRun, run_blocks, count_up}
 use Rattle.retrieval.specs.Common.{in_front, longest_runs, behind}
 
 -- A block in front.
 
-blocks_in_front : (n : ℕ) (runs : List Run) → flat_map run_blocks (in_front n runs) ≡ n ∷ flat_map run_blocks runs
+blocks_in_front : (n : ℕ) (runs : List SpecRun) → flat_map run_blocks (in_front n runs) ≡ n ∷ flat_map run_blocks runs
 blocks_in_front n [] = refl
 blocks_in_front n (run ∷ runs) = by_case (suc n == run.1) refl
   where
@@ -17,12 +17,12 @@ blocks_in_front n (run ∷ runs) = by_case (suc n == run.1) refl
     by_case true is = ap (λ (k : ℕ). n ∷ (count_up run.0 k ++ flat_map run_blocks runs)) (eqb-true (suc n) run.1 is)
     by_case false is = refl
 
--- they stand for the list
+-- their blocks are the list
 pub blocks_of_longest : (ns : List ℕ) → flat_map run_blocks (longest_runs ns) ≡ ns
 blocks_of_longest [] = refl
 blocks_of_longest (n ∷ ns) = blocks_in_front n (longest_runs ns) ∙ ap (λ (l : List ℕ). n ∷ l) (blocks_of_longest ns)
 
-few_in_front : (n : ℕ) (runs : List Run) → length (in_front n runs) ≤ suc (length runs)
+few_in_front : (n : ℕ) (runs : List SpecRun) → length (in_front n runs) ≤ suc (length runs)
 few_in_front n [] = omega arith
 few_in_front n (run ∷ runs) = by_case (suc n == run.1)
   where
@@ -35,9 +35,9 @@ pub longest_few : (ns : List ℕ) → length (longest_runs ns) ≤ length ns
 longest_few [] = omega arith
 longest_few (n ∷ ns) = let a = few_in_front n (longest_runs ns) in let b = longest_few ns in omega arith
 
--- A run behind.
+-- A run at the end.
 
-front_behind : (n : ℕ) (runs : List Run) (run : Run) → in_front n (behind runs run) ≡ behind (in_front n runs) run
+front_behind : (n : ℕ) (runs : List SpecRun) (run : SpecRun) → in_front n (behind runs run) ≡ behind (in_front n runs) run
 front_behind n [] run =
     let e : suc n ≡ 1 + n = omega arith in
     let f : suc run.0 ≡ 1 + run.0 = omega arith in
@@ -45,7 +45,7 @@ front_behind n [] run =
 front_behind n (last ∷ []) run =
     by_case (last.0 + last.1 == run.1) refl (suc n == last.1) refl
   where
-    front : (b : Bool) → (suc n == last.1) ≡ b → (count : ℕ) (more : List Run)
+    front : (b : Bool) → (suc n == last.1) ≡ b → (count : ℕ) (more : List SpecRun)
         → in_front n ((count, last.1) ∷ more)
         ≡ (if b then (suc count, n) ∷ more else (1, n) ∷ (count, last.1) ∷ more)
     front b is count more = ap (λ (c : Bool). if c then (suc count, n) ∷ more else (1, n) ∷ (count, last.1) ∷ more) is
@@ -86,25 +86,25 @@ longest_behind [] count first = longest_run count first
 longest_behind (n ∷ ns) count first = ap (in_front n) (longest_behind ns count first)
     ∙ front_behind n (longest_runs ns) (suc count, first)
 
-pub behind_last : (runs : List Run) (last run : Run) → behind (runs ++ last ∷ []) run
+pub behind_last : (runs : List SpecRun) (last run : SpecRun) → behind (runs ++ last ∷ []) run
     ≡ runs ++ (if last.0 + last.1 == run.1 then (last.0 + run.0, last.1) ∷ [] else last ∷ run ∷ [])
 behind_last [] last run = refl
 behind_last (first ∷ []) last run = refl
-behind_last (first ∷ second ∷ runs) last run = ap (λ (l : List Run). first ∷ l) (behind_last (second ∷ runs) last run)
+behind_last (first ∷ second ∷ runs) last run = ap (λ (l : List SpecRun). first ∷ l) (behind_last (second ∷ runs) last run)
 
 -- No run adjoins the one before it.
 
-abbrev pub NoneAdjoins : List Run → Type 0
+abbrev pub NoneAdjoins : List SpecRun → Type 0
 NoneAdjoins [] = Unit {0}
 NoneAdjoins (run ∷ []) = Unit {0}
 NoneAdjoins (run ∷ next ∷ runs) = (run.0 + run.1 ≡ next.1 → ⊥) × NoneAdjoins (next ∷ runs)
 
-longer_first : (n : ℕ) (run : Run) (runs : List Run) → suc n ≡ run.1 → NoneAdjoins (run ∷ runs)
+longer_first : (n : ℕ) (run : SpecRun) (runs : List SpecRun) → suc n ≡ run.1 → NoneAdjoins (run ∷ runs)
     → NoneAdjoins ((suc run.0, n) ∷ runs)
 longer_first n run [] is apart = tt
 longer_first n run (next ∷ runs) is apart = (λ adjoins. apart.0 (omega arith), apart.1)
 
-none_in_front : (n : ℕ) (runs : List Run) → NoneAdjoins runs → NoneAdjoins (in_front n runs)
+none_in_front : (n : ℕ) (runs : List SpecRun) → NoneAdjoins runs → NoneAdjoins (in_front n runs)
 none_in_front n [] apart = tt
 none_in_front n (run ∷ runs) apart = by_case (suc n == run.1) refl
   where

@@ -1,13 +1,13 @@
--- A prime block beside what core has of its version.
+-- A prime block compared with its version in memory.
 use Rattle.std.proofs.Common.{◌≡◌, ℕ, ◌+◌, ◌*◌, ◌/◌, ◌%◌, ◌^◌, ◌<◌, ◌≤◌, List, sym, ◌∙◌, subst, arith}
 use Rattle.words36.specs.Common.{IsPpn}
-use Rattle.spec_image.specs.Common.{head_or_zero, Run, IsMode, prime_block, date_limit}
+use Rattle.spec_image.specs.Common.{head_or_zero, SpecRun, IsMode, prime_block, date_limit}
 use Rattle.spec_image.specs.Retrieval.{attributes}
 use Rattle.retrieval.specs.Common.{mode_number, IsPrimeOf, with_length, IsRewritten, SpellsPrime, VersionState}
 use Rattle.retrieval.specs.declared.prime.Prime.{Prime as PrimeValue}
 
 -- A prime block has one length and one first extension,
-pub one_length : (layout : ℕ) (words : List ℕ) (p q : PrimeValue) (n m : ℕ) (runs others : List Run)
+pub one_length : (layout : ℕ) (words : List ℕ) (p q : PrimeValue) (n m : ℕ) (runs others : List SpecRun)
     (next after : ℕ) → SpellsPrime layout words (with_length p n) runs next
     → SpellsPrime layout words (with_length q m) others after → (n ≡ m) × (next ≡ after)
 one_length layout words p q n m runs others next after a b =
@@ -26,7 +26,7 @@ one_date a b c d a' b' c' d' x y few few' highs lows =
     let low : x % 4096 ≡ y % 4096 = omega arith in (exts, omega arith)
 
 -- and if it says what another prime does, that one fits.
-pub says_same : (layout : ℕ) (words : List ℕ) (p q : PrimeValue) (n : ℕ) (runs : List Run) (next : ℕ)
+pub says_same : (layout : ℕ) (words : List ℕ) (p q : PrimeValue) (n : ℕ) (runs : List SpecRun) (next : ℕ)
     → IsMode (mode_number q.mode) → SpellsPrime layout words (with_length p n) runs next
     → words ≡ prime_block (with_length q n) runs next → SpellsPrime layout words (with_length q n) runs next
 says_same layout words p q n runs next mode a is =
@@ -55,7 +55,7 @@ says_same layout words p q n runs next mode a is =
     }
 
 -- So it is the prime block of a version if writing it anew for the prime changes nothing,
-pub is_prime : (layout : ℕ) (words anew : List ℕ) (p q : PrimeValue) (n : ℕ) (runs : List Run) (next : ℕ)
+pub is_prime : (layout : ℕ) (words anew : List ℕ) (p q : PrimeValue) (n : ℕ) (runs : List SpecRun) (next : ℕ)
     (v : VersionState) → IsMode (mode_number q.mode) → SpellsPrime layout words (with_length p n) runs next
     → IsRewritten words anew q
     → anew ≡ words → n ≡ v.words → next ≡ head_or_zero v.ribs → IsPrimeOf layout words q v

@@ -5,15 +5,15 @@ use Rattle.std.specs.Prelude.{slice_index}
 use Rattle.std.proofs.lemmas.Bool.Decides.{nat_tests}
 use Rattle.std.proofs.lemmas.List.{length-append, length-take, length-drop, get_or-take, get_or-drop}
 use Rattle.std.proofs.lemmas.List.{get_or-replicate, get_or_append_left, get_or-append_right}
-use Rattle.retrieval.specs.Common.{kept_word, IsNewBlock}
+use Rattle.retrieval.specs.Common.{unchanged_word, IsNewBlock}
 
--- no word stays in a block but one
+-- no word stays in a block except one
 pub other_block : (place : ℕ) (kept : List ℕ) (i k : ℕ) → (i ≡ place → ⊥) → k < 128
-    → kept_word place kept (i * 128 + k) ≡ 0
+    → unchanged_word place kept (i * 128 + k) ≡ 0
 other_block place kept i k other few = let e : (i * 128 + k) / 128 ≡ i = omega arith in grind (arith, nat_tests)
 
 pub same_block : (place : ℕ) (kept : List ℕ) (i k : ℕ) → i ≡ place → k < 128
-    → kept_word place kept (i * 128 + k) ≡ slice_index kept k
+    → unchanged_word place kept (i * 128 + k) ≡ slice_index kept k
 same_block place kept i k same few =
     let e : (i * 128 + k) / 128 ≡ place = omega arith in
     let f : (i * 128 + k) % 128 ≡ k = omega arith in
@@ -21,12 +21,12 @@ same_block place kept i k same few =
     grind (arith, nat_tests)
 
 pub no_words : (place : ℕ) (kept : List ℕ) (i : ℕ) → (i ≡ place → ⊥) → (k : ℕ) → k < 128
-    → slice_index (replicate 128 0) k ≡ kept_word place kept (i * 128 + k)
+    → slice_index (replicate 128 0) k ≡ unchanged_word place kept (i * 128 + k)
 no_words place kept i other k few = get_or-replicate 128 k 0 0 few ∙ sym (other_block place kept i k other few)
 
 pub new_of : (at : ℕ) (words : List ℕ) (place : ℕ) (kept : List ℕ) (i : ℕ) (block these new : List ℕ)
     → length block ≡ 128 → at ≤ i → (i - at) * 128 ≤ length words
-    → ((k : ℕ) → k < 128 → slice_index block k ≡ kept_word place kept (i * 128 + k))
+    → ((k : ℕ) → k < 128 → slice_index block k ≡ unchanged_word place kept (i * 128 + k))
     → these ≡ take (length words - (i - at) * 128) (drop ((i - at) * 128) words)
     → new ≡ take (min (length these) 128) these ++ drop (min (length these) 128) block
     → IsNewBlock at words place kept i new
@@ -61,7 +61,7 @@ new_of at words place kept i block these new long after fits stays these_are is 
         ∙ get_or-drop ((i - at) * 128) words k 0 ∙ ap (slice_index words) e
 
     kept_is : (k : ℕ) → k < 128 → (i * 128 + k < at * 128) ⊎ (at * 128 + length words ≤ i * 128 + k)
-        → slice_index new k ≡ kept_word place kept (i * 128 + k)
+        → slice_index new k ≡ unchanged_word place kept (i * 128 + k)
     kept_is k few (inl below) = absurd (omega arith)
     kept_is k few (inr past) =
         let c = count in

@@ -12,7 +12,7 @@ use Rattle.spec_image.specs.Common.{times, HasBody}
 use Rattle.spec_image.proofs.Common.{times_here, times_later, below_or_not}
 use Rattle.retrieval.specs.Common.{AreWhole}
 
--- what holds of each of a list holds at each index
+-- what holds for each of a list holds at each index
 pub all_at : (P : ℕ → Type 0) (xs : List ℕ) (i : ℕ) → AllByRecursion P xs → i < length xs → P (slice_index xs i)
 all_at P [] i all below = absurd (omega arith)
 all_at P (x ∷ xs) zero all below = all.0
@@ -28,7 +28,7 @@ times_at [] i below = absurd (omega arith)
 times_at (x ∷ xs) zero below = times_here x xs
 times_at (x ∷ xs) (suc i) below = times_later (slice_index xs i) x xs (times_at xs i (omega arith))
 
--- Block n holds the words of a body from place j on, as far as the body goes.
+-- Block n holds the words of a body from place j, as far as the body goes.
 pub record HoldsPart (contents : Contents) (n j : ℕ) (body : List ℕ) : Type 0 where
   pub words : List ℕ
   pub is : contents n ≡ Some words
@@ -117,7 +117,7 @@ module _ (contents : Contents) where
             ∙ get_or-take (length body) (joined each) (j * 128 + k) 0 inside ∙ joined_at each j k lengths below' few);
       }
 
-  -- And back: where each place holds its part, the blocks have the body.
+  -- And back: if each place holds its part, the blocks have the body.
   abbrev words_in : ℕ → List ℕ
   words_in n = elim (contents n) [ Some words ↦ words | None ↦ [] ]
 
@@ -185,9 +185,9 @@ module _ (contents : Contents) where
       (λ j below. subst (λ (o : Option (List ℕ)). IfSome o (λ words. length words ≡ 128)) (sym (parts j below).is)
       (parts j below).whole)
 
--- What reading gives.
+-- What reading returns.
 
--- a block of these that is damaged, after calls that kept the contents
+-- a block of these that is damaged, after calls that left the contents unchanged
 pub damaged_at : (old now : Contents) (blocks these : List ℕ) (k at : ℕ) → these ≡ blocks → at < length blocks
     → k ≡ slice_index these at → now (slice_index these at) ≡ None → ((n : ℕ) → now n ≡ old n)
     → (0 < times k blocks) × (old k ≡ None)
@@ -195,7 +195,7 @@ damaged_at old now blocks these k at same below is none kept =
     let e : k ≡ slice_index blocks at = is ∙ ap (λ (l : List ℕ). slice_index l at) same in
     (subst (λ (n : ℕ). 0 < times n blocks) (sym e) (times_at blocks at below), sym (kept k) ∙ ap now is ∙ none)
 
--- so many words of a body from place j on, of the block that was read there
+-- the first `here` words of the block that was read at place j of a body
 pub read_more : (contents : Contents) (blocks body : List ℕ) → AreWhole contents blocks → HasBody contents blocks body
     → (start j : ℕ) (done got : List ℕ) (here : ℕ) → here ≤ 128
     → start + length done ≡ j * 128 → j < length blocks → contents (slice_index blocks j) ≡ Some got → length got ≡ 128

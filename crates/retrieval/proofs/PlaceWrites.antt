@@ -10,9 +10,9 @@ use Rattle.blockdisk.specs.Common.{Contents, DiskState, HoldRun, IsInRun, Modifi
 use Rattle.blockdisk.specs.Common.{modifies_wider, writes_modifies}
 use Rattle.spec_image.specs.Common.{blocks_of, times}
 use Rattle.retrieval.specs.Common.{StandAlone, AtPlace, IsNewBlock, HoldsNew}
-use Rattle.retrieval.proofs.Holding.{alone_at}
+use Rattle.retrieval.proofs.HeldBlocks.{alone_at}
 
--- One place more whose block is the version's own.
+-- One more place whose block is the version's own.
 
 pub apart_none : (blocks : List ℕ) (first : ℕ) → StandAlone blocks first first
 apart_none blocks first j k from upto inside other same = omega (arith, from, upto)
@@ -110,7 +110,7 @@ module _ (at : ℕ) (words : List ℕ) (place : ℕ) (kept : List ℕ) where
         is_new = filled_new j (omega (arith, low, from)) (omega (arith, chunk, inside, fits, all));
       }
 
-  -- blocks behind others that stay written
+  -- blocks after others that stay written
   pub written_more : (contents new : Contents) (blocks : List ℕ) (first i count end : ℕ) → end ≤ length blocks
       → i ≤ end → StandAlone blocks first end → ((n : ℕ) → (AtPlace blocks i end n → ⊥) → new n ≡ contents n)
       → ((j : ℕ) → first ≤ j → j < i → HoldsNew contents at words place kept j (slice_index blocks j))

@@ -9,10 +9,10 @@ use Rattle.spec_image.specs.Common.{InSpace, times}
 use Rattle.changeset.specs.Common.{times_tail}
 use Rattle.alloctab.specs.Common.{TableState, IsFree, bit, holds, space}
 use Rattle.retrieval.specs.Common.{IsOwn, AddsClear, AddsFree, KeepsOwn, IsFixed}
-use Rattle.retrieval.proofs.Holding.{times_set}
+use Rattle.retrieval.proofs.HeldBlocks.{times_set}
 use Rattle.retrieval.proofs.Parts.{times_at}
 
--- What a table and a list keep while blocks are changed for others.
+-- What stays of a table and a list while blocks are replaced by others.
 module _ (t t' : TableState) (same : t' ≡ record t { held = t'.held }) where
   pub bits_same : (n : ℕ) → bit t' n ≡ bit t n
   bits_same n = ap (λ (u : TableState). bit u n) same
@@ -72,7 +72,7 @@ inside_set size [] i n all is = tt
 inside_set size (x ∷ xs) zero n all is = (is, all.1)
 inside_set size (x ∷ xs) (suc i) n all is = (all.0, inside_set size xs i n all.1 is)
 
--- one place with a block of the old list's own, which is free where it isn't one of the list
+-- one place with a block of the old list's own, which is free if it isn't in the list
 pub adds_set : (t : TableState) (old xs : List ℕ) (i n : ℕ) → AddsFree t old xs → i < length xs
     → times n (slice_set xs i n) ≡ 1 → IsOwn t old n → AddsFree t old (slice_set xs i n)
 adds_set t old xs i n so_far below once own m = ⊎_elim
@@ -94,7 +94,7 @@ adds_set t old xs i n so_far below once own m = ⊎_elim
 pub adds_clear : (t : TableState) (old new : List ℕ) → AddsFree t old new → AddsClear t old new
 adds_clear t old new adds n there = ⊎_elim (λ fewer. inl (omega arith)) (λ free. inr free.0.clear) (adds n)
 
--- A block that is held once and stands in a list once stands there once still, as blocks are taken for others.
+-- A block that is held once and is in a list once is still there once, as blocks are replaced by others.
 pub few_more : (xs ys : List ℕ) (i n : ℕ) → i < length ys → times n (slice_set ys i n) ≡ 1
     → ((m : ℕ) → times m xs ≤ 1 → times m ys ≤ 1) → (m : ℕ) → times m xs ≤ 1 → times m (slice_set ys i n) ≤ 1
 few_more xs ys i n below once few m one = ⊎_elim
@@ -103,7 +103,7 @@ few_more xs ys i n below once few m one = ⊎_elim
     omega arith)
     (cases_eq m n)
 
--- So it is never changed for another.
+-- So it is never replaced by another.
 pub stays_more : (t t' : TableState) (xs ys : List ℕ) (i n : ℕ) → t' ≡ record t { held = t'.held }
     → ((m : ℕ) → holds t' m + times m xs ≡ holds t m + times m ys) → ((m : ℕ) → times m xs ≤ holds t m)
     → ((m : ℕ) → times m xs ≤ 1 → times m ys ≤ 1) → length ys ≡ length xs → KeepsOwn t xs ys

@@ -5,7 +5,7 @@ use Rattle.std.specs.List.{AllByRecursion}
 use Rattle.std.proofs.lemmas.Bool.Decides.{nat_tests}
 use Rattle.std.proofs.lemmas.List.{map-append}
 use Rattle.blockdisk.specs.Common.{Contents, DiskState, MayLeave, Keeps, passes_start}
-use Rattle.spec_image.specs.Common.{times, blocks_of, Prime, Run, IsRun, run_blocks, Extension, all_runs}
+use Rattle.spec_image.specs.Common.{times, blocks_of, SpecPrime, SpecRun, IsRun, run_blocks, Extension, all_runs}
 use Rattle.spec_image.specs.Common.{extension_numbers, first_extension, extension_block, prime_block, AreExtensions}
 use Rattle.spec_image.specs.Common.{LeadsOn, IsPrimeRead, InSpace, RunsInSpace, IsBadVersion}
 use Rattle.spec_image.proofs.Common.{no_bad_version, some_same, some_none, flat-append, all_runs-append, all_append}
@@ -22,7 +22,7 @@ keeps_start s = record { contents = λ n. refl; is_open = λ n. refl; time = pas
 
 -- Walks.
 
-follows_more : (size : ℕ) (c : Contents) (first : ℕ) (es : List Extension) (n : ℕ) (words : List ℕ) (runs : List Run)
+follows_more : (size : ℕ) (c : Contents) (first : ℕ) (es : List Extension) (n : ℕ) (words : List ℕ) (runs : List SpecRun)
     (next : ℕ) → Follows size c first es n → InSpace size n → c n ≡ Some words
     → SpellsExtension words runs next → RunsInSpace size runs → (0 < next → length runs ≡ 126)
     → Follows size c first (es ++ (n, runs) ∷ []) next
@@ -63,7 +63,7 @@ leads size c first (e ∷ es) last walk = (
   leads size c walk.6 es last walk.9,
 )
 
-leads_more : (c : Contents) (first : ℕ) (es : List Extension) (n : ℕ) (runs : List Run) (next : ℕ)
+leads_more : (c : Contents) (first : ℕ) (es : List Extension) (n : ℕ) (runs : List SpecRun) (next : ℕ)
     → LeadsOn c first es n → 0 < n → AllByRecursion IsRun runs → c n ≡ Some (extension_block runs next)
     → LeadsOn c first (es ++ (n, runs) ∷ []) next
 leads_more c first [] n runs next walk some are is = (
@@ -126,7 +126,7 @@ none_zero size (suc n ∷ ns) all = zero_behind n ns ∙ none_zero size ns all.1
 
 -- What was read so far.
 
-read_of : (c : Contents) (layout at : ℕ) (words : List ℕ) (p : Prime) (runs : List Run) (next : ℕ) → c at ≡ Some words
+read_of : (c : Contents) (layout at : ℕ) (words : List ℕ) (p : SpecPrime) (runs : List SpecRun) (next : ℕ) → c at ≡ Some words
     → SpellsPrime layout words p runs next → IsPrimeRead c layout at p runs next
 read_of c layout at words p runs next is s = record {
   words = is ∙ ap Some s.words_are;
@@ -152,12 +152,12 @@ read_started size c layout at words prime v next is s = record {
   ribs_are = s.ribs_are;
 }
 
-blocks_more : (runs : List Run) (es : List Extension) (n : ℕ) (more : List Run)
+blocks_more : (runs : List SpecRun) (es : List Extension) (n : ℕ) (more : List SpecRun)
     → flat_map run_blocks (runs ++ all_runs (es ++ (n, more) ∷ [])) ≡ flat_map run_blocks (runs ++ all_runs es)
     ++ flat_map run_blocks more
 blocks_more runs es n more =
-    ap (λ (l : List Run). flat_map run_blocks (runs ++ l)) (all_runs-append es ((n, more) ∷ [])
-    ∙ ap (λ (l : List Run). all_runs es ++ l) (append-nil more))
+    ap (λ (l : List SpecRun). flat_map run_blocks (runs ++ l)) (all_runs-append es ((n, more) ∷ [])
+    ∙ ap (λ (l : List SpecRun). all_runs es ++ l) (append-nil more))
     ∙ ap (flat_map run_blocks) (sym (append_assoc runs (all_runs es) more))
     ∙ flat-append run_blocks (runs ++ all_runs es) more
 
@@ -187,7 +187,7 @@ module _ (size : ℕ) (c : Contents) (layout at : ℕ) (prime : PrimeValue) (v :
   walked : LeadsOn c r.first r.extensions n
   walked = leads size c r.first r.extensions n r.walk
 
-  walked_on : (words : List ℕ) (runs : List Run) (next : ℕ) → 0 < n → c n ≡ Some words → SpellsExtension words runs next
+  walked_on : (words : List ℕ) (runs : List SpecRun) (next : ℕ) → 0 < n → c n ≡ Some words → SpellsExtension words runs next
       → LeadsOn c r.first (r.extensions ++ (n, runs) ∷ []) next
   walked_on words runs next some is s = leads_more c r.first r.extensions n runs next walked some s.are_runs (is
       ∙ ap Some s.words_are)
@@ -197,7 +197,7 @@ module _ (size : ℕ) (c : Contents) (layout at : ℕ) (prime : PrimeValue) (v :
   damaged_extension some none = IsBadVersion.malformed_extension (with_length prime v.words) r.runs r.first
       r.extensions n r.read walked (r.next_inside some) (λ others after is some' few are. some_none (sym is ∙ none))
 
-  -- or isn't as it should be
+  -- or is invalid
   pub bad_extension : (words : List ℕ) → 0 < n → c n ≡ Some words → IsBadExtension size words
       → IsBadVersion size c layout at n
   bad_extension words some is (IsBadExtension.malformed wrong) =
@@ -215,7 +215,7 @@ module _ (size : ℕ) (c : Contents) (layout at : ℕ) (prime : PrimeValue) (v :
       IsBadVersion.extension_short (with_length prime v.words) r.runs r.first r.extensions n runs next r.read
       (walked_on words runs next some is s) more less
 
-  -- or has more blocks than the length asks for
+  -- or has more blocks than the length requires
   pub bad_overfilled : (words : List ℕ) → 0 < n → c n ≡ Some words → Overfills words v
       → IsBadVersion size c layout at at
   bad_overfilled words some is o =
@@ -269,7 +269,7 @@ pub damaged_prime : (size : ℕ) (c : Contents) (layout at : ℕ) → c at ≡ N
 damaged_prime size c layout at none =
     IsBadVersion.malformed_prime (λ p runs next read few. some_none (sym read.words ∙ none))
 
--- Or it isn't as it should be.
+-- Or it is invalid.
 pub bad_prime : (size : ℕ) (c : Contents) (layout at : ℕ) (words : List ℕ) → c at ≡ Some words
     → IsBadPrime size layout words → IsBadVersion size c layout at at
 bad_prime size c layout at words is (IsBadPrime.malformed wrong) = IsBadVersion.malformed_prime
@@ -292,10 +292,10 @@ bad_prime size c layout at words is (IsBadPrime.short p runs next s some less) =
     (read_of c layout at words p runs next is s) some less
 bad_prime size c layout at words is (IsBadPrime.too_many p runs next s more) = IsBadVersion.too_many p runs next next []
     (read_of c layout at words p runs next is s) refl
-    (let e = ap (λ (l : List Run). length (flat_map run_blocks l)) (append-nil runs) in omega arith)
+    (let e = ap (λ (l : List SpecRun). length (flat_map run_blocks l)) (append-nil runs) in omega arith)
 
--- An extension adds a block at least.
-pub blocks_grow : (runs : List Run) → 0 < length runs → AllByRecursion IsRun runs
+-- An extension adds at least one block.
+pub blocks_grow : (runs : List SpecRun) → 0 < length runs → AllByRecursion IsRun runs
     → 0 < length (flat_map run_blocks runs)
 blocks_grow [] some are = absurd (omega arith)
 blocks_grow ((zero, first) ∷ runs) some are = absurd (let e = are.0.0 in omega arith)
@@ -332,8 +332,8 @@ extended_ribs size words n next old new x here all =
     subst (λ (v : VersionState). AllByRecursion (InSpace size) v.ribs) (sym x.version_is)
     (all_append (InSpace size) old.ribs (n ∷ []) all (here, tt))
 
--- what is wrong with none of the blocks of a version that stands as it should
-pub none_wrong : (size : ℕ) (c : Contents) (layout at : ℕ) (p : Prime) (ribs blocks : List ℕ)
+-- what is wrong with none of the blocks of a valid version
+pub none_wrong : (size : ℕ) (c : Contents) (layout at : ℕ) (p : SpecPrime) (ribs blocks : List ℕ)
     → IsStandingVersion size c layout at p ribs blocks → (k : ℕ) → IsBadVersion size c layout at k → ⊥
 none_wrong size c layout at p ribs blocks w k bad = no_bad_version layout size c p at ribs blocks w.retrieved w.inside
     w.ppn_fits w.ext_fits k bad

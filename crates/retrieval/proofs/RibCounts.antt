@@ -1,4 +1,4 @@
--- How many extensions a version has: each but the last is full, so that no more are read than its blocks ask for.
+-- How many extensions a version has: each except the last is full, so that no more are read than its blocks need.
 use Rattle.std.proofs.Common.{ℕ, ◌+◌, ◌*◌, ◌<◌, ◌≤◌, List, [], ◌∷◌, length, flat_map, ap, ◌∙◌, arith, length-append}
 use Rattle.spec_image.specs.Common.{run_blocks}
 use Rattle.retrieval.specs.Common.{IsStarted, Extends, ribs_of, VersionState, rib_count}
@@ -6,7 +6,7 @@ use Rattle.retrieval.specs.declared.prime.Prime.{Prime}
 use Rattle.retrieval.proofs.LongestRuns.{longest_few}
 use Rattle.spec_image.proofs.Common.{runs-le}
 
--- The last of so many extensions has a block at least, and where another follows all are full.
+-- The last of `ribs` extensions has at least one block, and if another follows, all are full.
 pub record AreFilled (ribs blocks next : ℕ) : Type 0 where
   pub some : 112 + 126 * ribs ≤ blocks + 125
   pub full : 0 < next → 112 + 126 * ribs ≤ blocks
@@ -40,6 +40,6 @@ extended_filled size words n next old new more x filled =
 pub filled_few : (ribs blocks next : ℕ) → AreFilled ribs blocks next → ribs ≤ rib_count blocks
 filled_few ribs blocks next filled = let some = filled.some in omega arith
 
--- The longest runs ask for no more of them than the blocks would one by one.
+-- The longest runs need no more of them than the blocks would one by one.
 pub ribs_few : (blocks : List ℕ) → ribs_of blocks ≤ rib_count (length blocks)
 ribs_few blocks = let few = longest_few blocks in omega arith

@@ -8,41 +8,41 @@ use Rattle.std.proofs.lemmas.List.Folds.{length-flat_map-take}
 use Rattle.std.specs.Prelude.{leb, slice_index}
 use Rattle.std.specs.List.{take-map}
 use Rattle.std.specs.List.Sorted.{IsNonDecreasing, IsPartitionPoint}
-use Rattle.spec_image.specs.Common.{Run, run_blocks}
+use Rattle.spec_image.specs.Common.{SpecRun, run_blocks}
 use Rattle.retrieval.specs.Common.{pair_of, pairs_of, blocks_of_runs, IsAtOffset, AreKept, behind, longest_runs}
 use Rattle.retrieval.specs.Common.{ends_of}
 use Rattle.retrieval.specs.declared.run.Run.{Run as RunValue}
 use Rattle.retrieval.proofs.RunLists.{length-count_up}
-use Rattle.retrieval.proofs.KeptRuns.{found, length_more, pushed}
+use Rattle.retrieval.proofs.RunListLaws.{found, length_more, pushed}
 
-abbrev total : List Run → ℕ
+abbrev total : List SpecRun → ℕ
 total runs = length (flat_map run_blocks runs)
 
-total_cons : (run : Run) (runs : List Run) → total (run ∷ runs) ≡ run.0 + total runs
+total_cons : (run : SpecRun) (runs : List SpecRun) → total (run ∷ runs) ≡ run.0 + total runs
 total_cons run runs =
     let a = length-append (run_blocks run) (flat_map run_blocks runs) in
     let b = length-count_up run.0 run.1 in
     omega arith
 
-pub length-ends : (before : ℕ) (runs : List Run) → length (ends_of before runs) ≡ length runs
+pub length-ends : (before : ℕ) (runs : List SpecRun) → length (ends_of before runs) ≡ length runs
 length-ends before [] = refl
 length-ends before (run ∷ runs) = let e = length-ends (before + run.0) runs in omega arith
 
-end_at : (before : ℕ) (runs : List Run) (r d : ℕ) → r ≤ length runs
+end_at : (before : ℕ) (runs : List SpecRun) (r d : ℕ) → r ≤ length runs
     → get_or (before ∷ ends_of before runs) r d ≡ before + total (take r runs)
 end_at before runs zero d few = omega arith
 end_at before [] (suc r) d few = absurd (omega arith)
 end_at before (run ∷ runs) (suc r) d few =
     end_at (before + run.0) runs r d (omega arith) ∙ (let e = total_cons run (take r runs) in omega arith)
 
--- The ends rise, so that a place can be found among them by halves.
+-- The ends rise, so that a place can be found among them by binary search.
 
-end_above : (before : ℕ) (runs : List Run) (r d : ℕ) → r < length runs → before ≤ get_or (ends_of before runs) r d
+end_above : (before : ℕ) (runs : List SpecRun) (r d : ℕ) → r < length runs → before ≤ get_or (ends_of before runs) r d
 end_above before [] r d below = absurd (omega arith)
 end_above before (run ∷ runs) zero d below = omega arith
 end_above before (run ∷ runs) (suc r) d below = let e = end_above (before + run.0) runs r d (omega arith) in omega arith
 
-rising : (before : ℕ) (runs : List Run) (i j d : ℕ) → i ≤ j → j < length runs
+rising : (before : ℕ) (runs : List SpecRun) (i j d : ℕ) → i ≤ j → j < length runs
     → get_or (ends_of before runs) i d ≤ get_or (ends_of before runs) j d
 rising before [] i j d few below = absurd (omega arith)
 rising before (run ∷ runs) zero zero d few below = omega arith
@@ -54,7 +54,7 @@ pub ends_rise : (runs : List RunValue) (ends : List ℕ) → ends ≡ ends_of 0 
 ends_rise runs ends are = subst IsNonDecreasing (sym are) (λ i j d few below.
     rising 0 (pairs_of runs) i j d few (let e = length-ends 0 (pairs_of runs) in omega arith))
 
--- What the search by halves answers.
+-- What the binary search returns.
 
 pub point_above : (ends : List ℕ) (i at : ℕ)
     → IsPartitionPoint (λ end. leb end i ≡ true) (λ end. leb end i ≡ false) ends at
@@ -100,9 +100,9 @@ module _ (runs : List RunValue) (ends : List ℕ) (are : ends ≡ ends_of 0 (pai
       let b = end_of r run below is in
       found runs i r offset run below is (omega arith) (omega arith)
 
--- One run more, and a longer last one.
+-- One more run, and a longer last one.
 
-ends_push : (before : ℕ) (runs : List Run) (run : Run)
+ends_push : (before : ℕ) (runs : List SpecRun) (run : SpecRun)
     → ends_of before (runs ++ run ∷ []) ≡ ends_of before runs ++ (before + total (runs ++ run ∷ [])) ∷ []
 ends_push before [] run =
     let e = total_cons run [] in
@@ -114,12 +114,12 @@ ends_push before (first ∷ runs) run =
     ap (λ (l : List ℕ). (before + first.0) ∷ l) (ends_push (before + first.0) runs run)
     ∙ ap (λ (n : ℕ). (before + first.0) ∷ (ends_of (before + first.0) runs ++ n ∷ [])) f
 
-take_ends : (before : ℕ) (runs : List Run) (r : ℕ) → take r (ends_of before runs) ≡ ends_of before (take r runs)
+take_ends : (before : ℕ) (runs : List SpecRun) (r : ℕ) → take r (ends_of before runs) ≡ ends_of before (take r runs)
 take_ends before runs zero = refl
 take_ends before [] (suc r) = refl
 take_ends before (run ∷ runs) (suc r) = ap (λ (l : List ℕ). (before + run.0) ∷ l) (take_ends (before + run.0) runs r)
 
-total_behind : (runs : List Run) (run : Run) → total (behind runs run) ≡ total runs + run.0
+total_behind : (runs : List SpecRun) (run : SpecRun) → total (behind runs run) ≡ total runs + run.0
 total_behind [] run = let e = total_cons run [] in omega arith
 total_behind (last ∷ []) run = joined (last.0 + last.1 == run.1)
   where
@@ -155,7 +155,7 @@ few_more runs i run below is =
     let b = ap total (take-map pair_of i runs) in
     let c : get_or (pairs_of runs) i (pair_of run) ≡ pair_of run =
     get_or-map pair_of runs i run (pair_of run) below ∙ ap pair_of (sym is) in
-    let d = ap (λ (r : Run). length (run_blocks r)) c in
+    let d = ap (λ (r : SpecRun). length (run_blocks r)) c in
     let e = length-count_up (suc (run.last - run.first)) run.first in
     omega arith
 
@@ -196,7 +196,7 @@ module _ (runs : List RunValue) (ends : List ℕ) (are : ends ≡ ends_of 0 (pai
       ∙ take_all (count - 1 + 1) (slice_set runs (count - 1) joined)
       (let e = length-set runs (count - 1) joined in omega arith)))
 
--- One block more behind the last.
+-- One more block after the last.
 pub kept_more : {T E : Type 0} (answer : Result T E) (runs runs' : List RunValue) (ends ends' : List ℕ) (n : ℕ)
     → AreKept runs ends → OnOk answer (pairs_of runs' ≡ behind (pairs_of runs) (1, n))
     → OnOk answer (ends' ≡ ends_of 0 (pairs_of runs')) → OnErr answer (runs' ≡ runs) → OnErr answer (ends' ≡ ends)

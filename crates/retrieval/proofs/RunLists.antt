@@ -1,4 +1,4 @@
--- The blocks of runs, one more and one run more.
+-- The blocks of runs, with one more block and one more run.
 use Rattle.std.proofs.Common.{◌≡◌, ℕ, zero, suc, ◌+◌, ◌<◌, ◌≤◌, List, [], ◌∷◌, ◌++◌, length, get_or, take, drop}
 use Rattle.std.proofs.Common.{flat_map, refl, sym, ◌∙◌, ap, subst, arith, append_assoc, length-append, append-nil}
 use Rattle.std.specs.List.{AllByRecursion}
@@ -12,7 +12,7 @@ pub length-count_up : (count first : ℕ) → length (count_up count first) ≡ 
 length-count_up zero first = refl
 length-count_up (suc count) first = let e = length-count_up count (suc first) in omega arith
 
--- one block more of a run
+-- one more block of a run
 pub count_more : (count first : ℕ) → count_up (count + 1) first ≡ count_up count first ++ (first + count) ∷ []
 count_more zero first = let e : zero + 1 ≡ suc zero = omega arith in let f : first ≡ first + zero = omega arith in
     ap (λ (n : ℕ). count_up n first) e ∙ ap (λ (n : ℕ). n ∷ []) f
@@ -28,7 +28,7 @@ with_more v a b = λ i. record v { blocks = append_assoc v.blocks a b i }
 pub with_none : (v : VersionState) → v ≡ with_blocks v []
 with_none v = λ i. record v { blocks = sym (append-nil v.blocks) i }
 
--- Where the first and the last block of a run lie in the free space, all do.
+-- If the first and the last block of a run lie in the free space, all do.
 pub run_inside : (size count first : ℕ) → space_start size ≤ first → first + count ≤ size
     → AllByRecursion (InSpace size) (count_up count first)
 run_inside size zero first from below = tt
@@ -44,7 +44,7 @@ run_ends size (suc zero) first some all = (all.0.from, let b = all.0.below in om
 run_ends size (suc (suc count)) first some all =
     (all.0.from, let e = (run_ends size (suc count) (suc first) (omega arith) all.1).1 in omega arith)
 
--- one pointer more
+-- one more pointer
 
 module _ (words : List ℕ) (i word : ℕ) (below : i < length words) (is : word ≡ get_or words i word) where
   runs_one_more : runs_of (take (i + 1) words) ≡ runs_of (take i words) ++ run_of word ∷ []

@@ -1,4 +1,4 @@
--- Neighbouring blocks whose words are put behind others, and the words of a body that these are.
+-- Neighbouring blocks whose words are put after others, and the words of a body that these are.
 use Rattle.std.proofs.Common.{◌≡◌, ⊎_elim, ℕ, ◌+◌, ◌-◌, ◌*◌, ◌/◌, ◌%◌, ◌<◌, ◌≤◌, List, [], ◌++◌, Some, None, length}
 use Rattle.std.proofs.Common.{min, get_or, take, refl, sym, ap, ◌∙◌, arith}
 use Rattle.std.specs.Prelude.{slice_index}
@@ -11,7 +11,7 @@ use Rattle.spec_image.proofs.Common.{some_none}
 use Rattle.retrieval.specs.Common.{AreWhole, StandsAt}
 use Rattle.retrieval.proofs.Parts.{part_of}
 
--- One block more is put behind.
+-- One more block is put at the end.
 
 module _ (before done got : List ℕ) (blocks : List (List ℕ)) (place here wanted : ℕ)
     (long : length done ≡ min (length before + place * 128) wanted) (few : length before ≤ wanted)
@@ -119,7 +119,7 @@ none_damaged contents blocks base done first count wanted size new side stands b
         some_none (sym (stands (k - done) inside).is ∙ ap contents (sym (side (k - done) inside))
         ∙ ap (λ n. contents (slice_index blocks n)) place ∙ none)
 
--- The block of a run that is damaged stands among the blocks.
+-- The block of a run that is damaged is among the blocks.
 pub damaged_place : (blocks : List ℕ) (at first count k : ℕ)
     → ((j : ℕ) → j < count → slice_index blocks (at + j) ≡ first + j) → first ≤ k → k < first + count
     → (k ≡ slice_index blocks (at + (k - first))) × (k - first < count)

@@ -7,7 +7,7 @@ use Rattle.std.specs.List.{AllByRecursion}
 use Rattle.std.proofs.lemmas.List.{take-append-drop, take_all, length-map, length-take-le, length-replicate}
 use Rattle.std.proofs.Math.Seq.{take-append_seam, drop-append_seam}
 use Rattle.words36.specs.Common.{join}
-use Rattle.spec_image.specs.Common.{Prime, Run, IsRun, pointer, extension_word, extension_half}
+use Rattle.spec_image.specs.Common.{SpecPrime, SpecRun, IsRun, pointer, extension_word, extension_half}
 use Rattle.spec_image.specs.Retrieval.{attributes}
 use Rattle.retrieval.specs.Common.{run_of, runs_of, ArePointers, IsPrimeHead, IsExtensionHead, SpellsPrime}
 use Rattle.retrieval.specs.Common.{SpellsExtension}
@@ -23,7 +23,7 @@ pub pointers_back : (words : List ℕ) → map pointer (runs_of words) ≡ words
 pointers_back [] = refl
 pointers_back (word ∷ words) = λ i. pointer_back word i ∷ pointers_back words i
 
-pub runs_back : (runs : List Run) → AllByRecursion IsRun runs → runs_of (map pointer runs) ≡ runs
+pub runs_back : (runs : List SpecRun) → AllByRecursion IsRun runs → runs_of (map pointer runs) ≡ runs
 runs_back [] all = refl
 runs_back (run ∷ runs) all = let e = run_back run.0 run.1 all.0.2 in λ i. (e.0 i, e.1 i) ∷ runs_back runs all.1 i
 
@@ -43,7 +43,7 @@ module _ (words : List ℕ) (count : ℕ) (few : count ≤ length words) where
       ∙ ap (λ (n : ℕ). map pointer (runs_of (take count words)) ++ replicate (length words - n) 0) (sym count_is)
 
 -- the same, taken apart
-pub pointers_in : (runs : List Run) (n : ℕ) → AllByRecursion IsRun runs
+pub pointers_in : (runs : List SpecRun) (n : ℕ) → AllByRecursion IsRun runs
     → ArePointers (map pointer runs ++ replicate n 0) (length runs)
 pointers_in runs n all =
     let long : length (map pointer runs) ≡ length runs = length-map runs pointer in
@@ -57,11 +57,11 @@ pointers_in runs n all =
     + n = length-append (map pointer runs) (replicate n 0) ∙ (λ i. long i + length-replicate {A = ℕ} n 0 i) in
     let rest : n ≡ length (map pointer runs ++ replicate n 0) - length runs = omega arith in
     record {
-      runs = subst (λ (l : List Run). AllByRecursion IsRun l) (sym (ap runs_of front ∙ runs_back runs all)) all;
+      runs = subst (λ (l : List SpecRun). AllByRecursion IsRun l) (sym (ap runs_of front ∙ runs_back runs all)) all;
       zeros = back ∙ ap (λ (k : ℕ). replicate k 0) rest;
     }
 
--- The first eight words, the eight behind them and the rest.
+-- The first eight words, the eight after them and the rest.
 front_of_prime : (words : List ℕ) → 16 ≤ length words
     → words ≡ get_or words 0 0 ∷ get_or words 1 0 ∷ get_or words 2 0 ∷ get_or words 3 0 ∷ get_or words 4 0
     ∷ get_or words 5 0 ∷ get_or words 6 0 ∷ get_or words 7 0 ∷ (take 8 (drop 8 words) ++ drop 16 words)
@@ -73,7 +73,7 @@ front_of_extension : (words : List ℕ) → 2 ≤ length words → words ≡ get
 front_of_extension (a ∷ b ∷ rest) long = refl
 front_of_extension _ long = absurd (omega arith)
 
-pub prime_spelled : (layout : ℕ) (words : List ℕ) (p : Prime) (count next : ℕ) → length words ≡ 128
+pub prime_spelled : (layout : ℕ) (words : List ℕ) (p : SpecPrime) (count next : ℕ) → length words ≡ 128
     → IsPrimeHead layout words p count next → ArePointers (drop 16 words) count
     → SpellsPrime layout words p (runs_of (take count (drop 16 words))) next
 prime_spelled layout words p count next long h are =
@@ -107,7 +107,7 @@ prime_spelled layout words p count next long h are =
 low_small : (date : ℕ) → date % 2 ^ 12 < 4096
 low_small date = omega arith
 
-pub prime_parts : (layout : ℕ) (words : List ℕ) (p : Prime) (runs : List Run) (next : ℕ)
+pub prime_parts : (layout : ℕ) (words : List ℕ) (p : SpecPrime) (runs : List SpecRun) (next : ℕ)
     → SpellsPrime layout words p runs next
     → IsPrimeHead layout words p (length runs) next × ArePointers (drop 16 words) (length runs)
 prime_parts layout words p runs next s = (
@@ -157,7 +157,7 @@ extension_spelled words count next long h are =
       are_runs = are.runs;
     }
 
-pub extension_parts : (words : List ℕ) (runs : List Run) (next : ℕ) → SpellsExtension words runs next
+pub extension_parts : (words : List ℕ) (runs : List SpecRun) (next : ℕ) → SpellsExtension words runs next
     → IsExtensionHead words (length runs) next × ArePointers (drop 2 words) (length runs)
 extension_parts words runs next s = (
   record {
@@ -170,8 +170,8 @@ extension_parts words runs next s = (
       (pointers_in runs (126 - length runs) s.are_runs),
 )
 
--- the number of pointers is said once
-pub prime_count : (layout : ℕ) (words : List ℕ) (p q : Prime) (count count' next next' : ℕ)
+-- there is one number of pointers
+pub prime_count : (layout : ℕ) (words : List ℕ) (p q : SpecPrime) (count count' next next' : ℕ)
     → IsPrimeHead layout words p count next → IsPrimeHead layout words q count' next' → count' ≡ count
 prime_count layout words p q count count' next next' h k = sym k.count_is ∙ h.count_is
 
@@ -180,15 +180,15 @@ pub extension_count : (words : List ℕ) (count count' next next' : ℕ) → IsE
 extension_count words count count' next next' h k = let e : join extension_half count'
     ≡ join extension_half count = sym k.marked ∙ h.marked in omega arith
 
--- what stands in the place of a value that a question mark hands on
+-- what replaces a value that a question mark passes on
 pub none_when : {A : Type 0} (o : Option A) (P : Type 0) → o ≡ None → P → IfNone o P
 none_when o P is p = subst (λ (x : Option _). IfNone x P) (sym is) p
 
--- all words from one on, as a part of a slice gives them
+-- all words from one, as a part of a slice gives them
 pub words_from : (n : ℕ) (words : List ℕ) → take (length words - n) (drop n words) ≡ drop n words
 words_from n words = take_all (length words - n) (drop n words) (let e = length-drop n words in omega arith)
 
--- there is room for the pointers behind the first words
+-- there is room for the pointers after the first words
 pub words_counted : (n room : ℕ) (words : List ℕ) (count : ℕ) → length words ≡ n + room → count ≤ room
     → count ≤ length (drop n words)
 words_counted n room words count long few = let e = length-drop n words in omega arith

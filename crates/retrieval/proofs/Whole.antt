@@ -1,17 +1,17 @@
--- A version that was written stands as it should, and a prime block has one reading.
+-- A version that was written is valid, and a prime block has one reading.
 use Rattle.std.proofs.Common.{◌≡◌, ◌⊎◌, ⊎_elim, inl, inr, ℕ, zero, suc, ◌+◌, ◌^◌, ◌<◌, List, [], ◌∷◌, sym, ◌∙◌, subst}
 use Rattle.std.proofs.Common.{arith}
 use Rattle.std.specs.List.{AllByRecursion}
 use Rattle.std.proofs.lemmas.Bool.{cases_eq}
 use Rattle.words36.specs.Common.{IsPpn}
 use Rattle.blockdisk.specs.Common.{Contents}
-use Rattle.spec_image.specs.Common.{times, InSpace, Prime, first_extension, prime_block, IsRetrieved}
+use Rattle.spec_image.specs.Common.{times, InSpace, SpecPrime, first_extension, prime_block, IsRetrieved}
 use Rattle.spec_image.proofs.Common.{some_same, times-append, prime_ext_same, retrieved_same}
 use Rattle.changeset.specs.Common.{times_tail}
 use Rattle.retrieval.specs.Common.{with_length, VersionState, IsVersionAt, IsReadAs, IsStandingVersion}
 use Rattle.retrieval.specs.declared.prime.Prime.{Prime as PrimeValue}
 
--- what all have, each that stands in the list has
+-- what all have, each that is in the list has
 each_of : (P : ℕ → Type 0) (ns : List ℕ) → AllByRecursion P ns → (n : ℕ) → 0 < times n ns → P n
 each_of P [] all n there = absurd (omega arith)
 each_of P (m ∷ ns) all n there = ⊎_elim (λ is. subst P (sym is) all.0)
@@ -21,7 +21,7 @@ one_of : (a b : ℕ) → 0 < a + b → (0 < a) ⊎ (0 < b)
 one_of zero b some = inr (omega arith)
 one_of (suc a) b some = inl (omega arith)
 
-pub whole_version : (size : ℕ) (c : Contents) (layout : ℕ) (p : Prime) (at : ℕ) (ribs blocks : List ℕ)
+pub whole_version : (size : ℕ) (c : Contents) (layout : ℕ) (p : SpecPrime) (at : ℕ) (ribs blocks : List ℕ)
     → IsRetrieved layout c p at ribs blocks → ((n : ℕ) → 0 < times n (at ∷ ribs) → InSpace size n)
     → AllByRecursion (InSpace size) blocks
     → IsPpn p.place.ppn → p.place.name.ext < 2 ^ 18 → IsStandingVersion size c layout at p ribs blocks
@@ -33,8 +33,8 @@ whole_version size c layout p at ribs blocks is own inside ppn ext = record {
   ext_fits = ext;
 }
 
--- Whatever stands at the prime block is what was read there.
-pub read_as : (size : ℕ) (c : Contents) (layout at : ℕ) (prime : PrimeValue) (v : VersionState) (p : Prime)
+-- Whatever is at the prime block is what was read there.
+pub read_as : (size : ℕ) (c : Contents) (layout at : ℕ) (prime : PrimeValue) (v : VersionState) (p : SpecPrime)
     (ribs blocks : List ℕ) → IsVersionAt size c layout at prime v → IsRetrieved layout c p at ribs blocks
     → p.place.name.ext < 2 ^ 18 → IsReadAs p ribs blocks prime v
 read_as size c layout at prime v p ribs blocks read is ext =

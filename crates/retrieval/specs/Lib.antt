@@ -4,10 +4,10 @@ pub mod Versions
 pub mod Pointers
 pub mod Runs
 pub mod Heads
-pub mod Spelling
-pub mod Reading
-pub mod Writing
+pub mod RibWords
+pub mod VersionRead
+pub mod VersionWrite
 pub mod Bodies
-pub mod Placing
+pub mod WordPlaces
 pub mod PrimeWords
 pub mod Common

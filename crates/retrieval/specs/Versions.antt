@@ -1,4 +1,4 @@
--- A version in core.
+-- A version in memory.
 use Rattle.std.specs.Prelude.{ℕ, List, ◌++◌}
 
 -- where a version lies
@@ -10,6 +10,6 @@ pub record VersionState : Type 0 where
   -- the extensions of its prime block, in order
   pub ribs : List ℕ
 
--- with these blocks behind the others
+-- with these blocks after the others
 abbrev pub with_blocks : VersionState → List ℕ → VersionState
 with_blocks v more = record v { blocks = v.blocks ++ more }

@@ -1,3 +1,4 @@
+//! Lists of blocks, stored as runs.
 ghost use Rattle.std.specs.Prelude.{◌≡◌, ◌+◌, ◌-◌, ◌<◌, ◌≤◌, ◌^◌, ◌++◌, ◌∷◌, [], ℕ, IfSome, IfNone, OnOk, OnErr};
 ghost use Rattle.std.specs.Prelude.{IfOk, IsOk, nat_le, length, take, drop, slice_get, slice_index, slice_set};
 ghost use Rattle.std.specs.Prelude.{vec_len, vec_capacity};
@@ -10,8 +11,8 @@ use blockdisk::NoMemory;
 use std::alloc::Global;
 use std::marker::Model;
 
-/// Block numbers in order, kept as their longest runs of neighbours. Beside each run stands how many blocks there are
-/// up to its end, so that the run of a block is found by halves.
+/// Block numbers in order, stored as their longest runs of neighbours. With each run it stores how many blocks there
+/// are up to its end, so that the run of a block is found by binary search.
 #[derive(Drop)]
 pub(crate) struct BlockList {
     runs: Vec<Run>,
@@ -32,14 +33,14 @@ impl Model for BlockList {
     ghost invariant = { λ l. AreKept l.runs.items l.ends.items };
 }
 
-/// Where a block stands: the place of its run, and its offset in it.
+/// Where a block is: the place of its run, and its offset in it.
 #[derive(Clone, Copy)]
-struct Place {
+struct BlockPlace {
     run: usize,
     offset: u32,
 }
 
-/// How many blocks the first so many runs have, by their ends.
+/// Returns how many blocks the first `count` runs have, by their ends.
 fn blocks_before(ends: &[usize], count: usize) -> usize
     requires { count ≤ length ends.now }
     ensures { result ≡ slice_index (0 ∷ ends.now) count }
@@ -50,7 +51,7 @@ fn blocks_before(ends: &[usize], count: usize) -> usize
     }
 }
 
-/// How many of the runs end before the block at a place of the list.
+/// Returns how many of the runs end before the block at a place of the list.
 fn runs_before(ends: &[usize], i: usize) -> usize
     requires { IsNonDecreasing ends.now }
     ensures bound { result ≤ length ends.now }
@@ -64,8 +65,8 @@ fn runs_before(ends: &[usize], i: usize) -> usize
     )
 }
 
-/// Where the block at a place of the list stands, by halves.
-fn find(runs: &[Run], ends: &[usize], i: usize) -> Option<Place>
+/// Finds where the block at a place of the list is, if there is one, by binary search.
+fn find(runs: &[Run], ends: &[usize], i: usize) -> Option<BlockPlace>
     requires { ends.now ≡ ends_of 0 (pairs_of runs.now) }
     ensures some { IfSome result (λ place. IsAtOffset runs.now i place.run place.offset) }
     ensures none { IfNone result (length (blocks_of_runs runs.now) ≤ i) }
@@ -74,13 +75,13 @@ fn find(runs: &[Run], ends: &[usize], i: usize) -> Option<Place>
     if at == runs.len() {
         return None;
     }
-    Some(Place {
+    Some(BlockPlace {
         run: at,
         offset: runs[at].offset(i - blocks_before(ends, at)),
     })
 }
 
-/// The last of the first so many runs with another behind it, where that begins just behind the last.
+/// Returns the last of the first `count` runs joined with another run, if that begins just after it.
 fn joined_last(runs: &[Run], count: usize, run: Run) -> Option<Run>
     requires { count ≤ length runs.now }
     ensures some { IfSome result (λ _. 0 < count) }
@@ -99,7 +100,7 @@ fn joined_last(runs: &[Run], count: usize, run: Run) -> Option<Run>
     Some(last.joined(run))
 }
 
-/// Adds an end behind the last, in memory that was found before.
+/// Adds an end after the last, in memory that was allocated before.
 fn push_end(ends: &mut Vec<usize>, end: usize)
     requires { vec_len ends.old < vec_capacity ends.old }
     ensures items { ends.new.items ≡ ends.old.items ++ end ∷ [] }
@@ -112,7 +113,7 @@ fn push_end(ends: &mut Vec<usize>, end: usize)
     }
 }
 
-/// Adds a run of its own behind the last, and its end. Memory for both is found first.
+/// Adds a run of its own after the last, and its end. Memory for both is allocated first.
 fn add_run(runs: &mut Vec<Run>, ends: &mut Vec<usize>, run: Run, end: usize) -> Result<(), NoMemory>
     ensures runs { OnOk result (runs.new.items ≡ runs.old.items ++ run ∷ []) }
     ensures ends { OnOk result (ends.new.items ≡ ends.old.items ++ end ∷ []) }
@@ -133,7 +134,8 @@ fn add_run(runs: &mut Vec<Run>, ends: &mut Vec<usize>, run: Run, end: usize) -> 
     Ok(())
 }
 
-/// Adds a run behind the last, as a part of it where that ends just before. `end` is how many blocks there are then.
+/// Adds a run after the last, or makes the last longer if that ends just before. `end` is how many blocks there are
+/// then.
 fn push_run(
     runs: &mut Vec<Run>,
     ends: &mut Vec<usize>,
@@ -160,7 +162,7 @@ fn push_run(
     add_run(runs, ends, run, end)
 }
 
-/// Puts runs in at a place, those of a part, if any.
+/// Inserts the run of a part at a place, if there is one.
 fn insert_part(runs: &mut Vec<Run>, at: usize, part: Option<Run>)
     requires at { at ≤ vec_len runs.old }
     requires spare { 0 < vec_capacity runs.old - vec_len runs.old }
@@ -180,7 +182,7 @@ fn insert_part(runs: &mut Vec<Run>, at: usize, part: Option<Run>)
     }
 }
 
-/// Puts a run behind the first so many, as a part of the last of them where that ends just before. Answers how many
+/// Puts a run after the first `kept` runs, or makes the last of them longer if that ends just before. Returns how many
 /// runs these are then.
 fn join_next(runs: &mut Vec<Run>, kept: usize, run: Run) -> usize
     requires { kept < vec_len runs.old }
@@ -199,7 +201,7 @@ fn join_next(runs: &mut Vec<Run>, kept: usize, run: Run) -> usize
     kept + 1
 }
 
-/// Joins runs with those that begin just behind them.
+/// Joins runs with those that begin just after them.
 fn join_all(runs: &mut Vec<Run>)
     ensures are_longest { pairs_of runs.new.items ≡ longest_runs (blocks_of_runs runs.old.items) }
     ensures spare { vec_capacity runs.old - vec_len runs.old ≤ vec_capacity runs.new - vec_len runs.new }
@@ -213,9 +215,9 @@ fn join_all(runs: &mut Vec<Run>)
     runs.truncate(kept);
 }
 
-/// Puts another block at an offset in a run: the blocks before and behind it become runs of their own, as far as they
-/// don't join it or others.
-fn put_at(runs: &mut Vec<Run>, place: Place, n: u32)
+/// Puts another block at an offset in a run: the blocks before and after it become runs of their own, unless they
+/// join it or others.
+fn put_at(runs: &mut Vec<Run>, place: BlockPlace, n: u32)
     requires below { place.run < vec_len runs.old }
     requires inside { IfSome (slice_get runs.old.items place.run) (λ run. place.offset ≤ run.last - run.first) }
     requires spare { 2 ≤ vec_capacity runs.old - vec_len runs.old }
@@ -232,7 +234,7 @@ fn put_at(runs: &mut Vec<Run>, place: Place, n: u32)
     join_all(runs);
 }
 
-/// Makes the ends of runs anew, in memory that was found before.
+/// Makes the ends of runs anew, in memory that was allocated before.
 fn make_ends(ends: &mut Vec<usize>, runs: &[Run])
     requires room { length runs.now ≤ vec_capacity ends.old }
     requires few { length (blocks_of_runs runs.now) < 2 ^ 64 }
@@ -247,8 +249,8 @@ fn make_ends(ends: &mut Vec<usize>, runs: &[Run])
     }
 }
 
-/// Puts another block at an offset in a run, and makes the ends anew. There is memory for two runs more in both lists.
-fn put_block(runs: &mut Vec<Run>, ends: &mut Vec<usize>, place: Place, n: u32)
+/// Puts another block at an offset in a run, and makes the ends anew. There is memory for two more runs in both lists.
+fn put_block(runs: &mut Vec<Run>, ends: &mut Vec<usize>, place: BlockPlace, n: u32)
     requires below { place.run < vec_len runs.old }
     requires inside { IfSome (slice_get runs.old.items place.run) (λ run. place.offset ≤ run.last - run.first) }
     requires ends { ends.old.items ≡ ends_of 0 (pairs_of runs.old.items) }
@@ -267,7 +269,7 @@ fn put_block(runs: &mut Vec<Run>, ends: &mut Vec<usize>, place: Place, n: u32)
 }
 
 impl BlockList {
-    /// An empty list. It takes no memory yet.
+    /// Returns an empty list. It takes no memory yet.
     pub(crate) fn new(alloc: Global) -> Self
         ensures { result.blocks ≡ [] }
     {
@@ -277,14 +279,14 @@ impl BlockList {
         }
     }
 
-    /// How many blocks there are.
+    /// Returns how many blocks there are.
     pub(crate) fn len(&self) -> usize
         ensures { result ≡ length self.now.blocks }
     {
         blocks_before(&self.ends, self.ends.len())
     }
 
-    /// The longest runs of the blocks.
+    /// Returns the longest runs of the blocks.
     pub(crate) fn runs(&self) -> &[Run]
         ensures blocks { blocks_of_runs result.now ≡ self.now.blocks }
         ensures are_longest { pairs_of result.now ≡ longest_runs self.now.blocks }
@@ -292,7 +294,7 @@ impl BlockList {
         self.runs.as_slice()
     }
 
-    /// The block at a place, counted from 0, or `None` past the last.
+    /// Returns the block at a place, counted from 0, or `None` past the last.
     pub(crate) fn get(&self, i: usize) -> Option<u32>
         ensures { result ≡ slice_get self.now.blocks i }
     {
@@ -300,18 +302,18 @@ impl BlockList {
         Some(self.runs[place.run].at(place.offset))
     }
 
-    /// The block at a place.
+    /// Returns the block at a place.
     pub(crate) fn at(&self, i: usize) -> u32
         requires { i < length self.now.blocks }
         ensures { result ≡ slice_index self.now.blocks i }
     {
         match self.get(i) {
             Some(block) => block,
-            None => unreachable!(), // it is one of the list
+            None => unreachable!(), // it is in the list
         }
     }
 
-    /// The block at a place, with all neighbours that follow it in the list.
+    /// Returns the block at a place, with all neighbours that follow it in the list.
     pub(crate) fn run_at(&self, i: usize) -> Run
         requires { i < length self.now.blocks }
         ensures within { i + (result.last - result.first) < length self.now.blocks }
@@ -322,15 +324,15 @@ impl BlockList {
     {
         match find(&self.runs, &self.ends, i) {
             Some(place) => self.runs[place.run].rest(place.offset),
-            None => unreachable!(), // it is one of the list
+            None => unreachable!(), // it is in the list
         }
     }
 
-    /// Finds memory for so many runs more.
+    /// Reserves memory for `more` more runs.
     ///
     /// # Errors
     ///
-    /// `NoMemory` where there is none; nothing changes then.
+    /// `NoMemory` if there is none; nothing changes then.
     pub(crate) fn reserve(&mut self, more: usize) -> Result<(), NoMemory>
         ensures blocks { self.new.blocks ≡ self.old.blocks }
         ensures ok { OnOk result (more ≤ self.new.spare) }
@@ -344,11 +346,11 @@ impl BlockList {
         }
     }
 
-    /// Adds a block behind the last. A run that it makes longer takes no memory.
+    /// Adds a block after the last. It takes no memory if it makes a run longer.
     ///
     /// # Errors
     ///
-    /// `NoMemory` where there is no memory; nothing changes then.
+    /// `NoMemory` if there is no memory; nothing changes then.
     pub(crate) fn push(&mut self, n: u32) -> Result<(), NoMemory>
         ensures ok { OnOk result (self.new.blocks ≡ self.old.blocks ++ n ∷ []) }
         ensures err { OnErr result (self.new.blocks ≡ self.old.blocks) }
@@ -361,7 +363,7 @@ impl BlockList {
         push_run(&mut self.runs, &mut self.ends, Run::of(n), end)
     }
 
-    /// Puts another block at a place, in memory that was found before.
+    /// Puts another block at a place, in memory that was allocated before.
     pub(crate) fn set(&mut self, i: usize, n: u32)
         requires below { i < length self.old.blocks }
         requires spare { 2 ≤ self.old.spare }
@@ -371,15 +373,15 @@ impl BlockList {
         let _count = self.len(); // it is a usize, and no end is above it
         match find(&self.runs, &self.ends, i) {
             Some(place) => put_block(&mut self.runs, &mut self.ends, place, n),
-            None => unreachable!(), // it is one of the list
+            None => unreachable!(), // it is in the list
         }
     }
 
-    /// An equal list.
+    /// Returns an equal list.
     ///
     /// # Errors
     ///
-    /// `NoMemory` where there is no memory.
+    /// `NoMemory` if there is no memory.
     pub(crate) fn copy(&self) -> Result<BlockList, NoMemory>
         ensures { IfOk result (λ list. list.blocks ≡ self.now.blocks) }
     {

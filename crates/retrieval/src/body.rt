@@ -1,3 +1,4 @@
+//! The words of a body, read from its data blocks.
 ghost use Rattle.std.specs.Prelude.{◌≡◌, ◌+◌, ◌-◌, ◌*◌, ◌<◌, ◌≤◌, ◌^◌, ℕ, List, [], Some, None, IfOk, OnOk, IsErrOf};
 ghost use Rattle.std.specs.Prelude.{length, min, get_or, slice_index, take, vec_capacity};
 ghost use Rattle.std.specs.List.{AllByRecursion};
@@ -11,7 +12,7 @@ use blockdisk::{Disk, Fault};
 use std::alloc::Global;
 use words36::{BLOCK_WORDS, Block, Word};
 
-/// How many neighbouring data blocks are read by one call of the disk at most.
+/// The most neighbouring data blocks that one call of the disk reads.
 const RUN_BLOCKS: usize = 16;
 
 /// Reads a data block.
@@ -33,7 +34,7 @@ pub(crate) fn read_data<D: Disk>(disk: &mut D, n: u32) -> Result<Block, BodyErro
     }
 }
 
-/// Reads neighbouring data blocks, as many as there are places for.
+/// Reads neighbouring data blocks, one into each of these places.
 fn read_run<D: Disk>(disk: &mut D, first: u32, run: &mut [Block]) -> Result<(), BodyError>
     requires { first + length run.old ≤ (D.state disk.old).size }
     ensures words { (D.state disk.new).honest → OnOk result ((i : ℕ) → i < length run.new
@@ -53,7 +54,7 @@ fn read_run<D: Disk>(disk: &mut D, first: u32, run: &mut [Block]) -> Result<(), 
     }
 }
 
-/// The first so many words of a block.
+/// Returns the first `count` words of a block.
 fn first_words(block: &Block, count: usize) -> &[Word]
     requires { count ≤ 128 }
     ensures words { result.now ≡ take count block.now }
@@ -62,7 +63,7 @@ fn first_words(block: &Block, count: usize) -> &[Word]
     &block[..count]
 }
 
-/// Puts the words of blocks behind others, as far as so many are wanted in all. There is memory for them.
+/// Puts the words of blocks after others, up to `wanted` words in all. There is memory for them.
 fn push_blocks(blocks: &[Block], wanted: usize, words: &mut Vec<Word>)
     requires few { length words.old.items ≤ wanted }
     requires room { wanted ≤ vec_capacity words.old }
@@ -83,8 +84,8 @@ fn push_blocks(blocks: &[Block], wanted: usize, words: &mut Vec<Word>)
     }
 }
 
-/// Puts the words of neighbouring data blocks, which are read into these places, behind others, as far as so many are
-/// wanted in all. There is memory for them.
+/// Puts the words of neighbouring data blocks, which are read into these places, after others, up to `wanted` words in
+/// all. There is memory for them.
 fn get_blocks<D: Disk>(
     disk: &mut D,
     first: u32,
@@ -114,8 +115,8 @@ fn get_blocks<D: Disk>(
     Ok(())
 }
 
-/// Puts the words of so many neighbouring data blocks behind others, as far as so many are wanted in all. There is
-/// memory for them.
+/// Puts the words of `count` neighbouring data blocks after others, up to `wanted` words in all. There is memory for
+/// them.
 fn get_run<D: Disk>(
     disk: &mut D,
     first: u32,
@@ -142,14 +143,14 @@ fn get_run<D: Disk>(
     ensures served { (IsErrOf result Device → ⊥) → (D.state disk.new).failures ≡ (D.state disk.old).failures }
 {
     if count == 1 {
-        // most runs of small files: no places for more of them have to be made
+        // most runs of small files: places for more blocks aren't needed
         return get_blocks(disk, first, &mut [[Word::ZERO; BLOCK_WORDS]], wanted, words);
     }
     let mut run = [[Word::ZERO; BLOCK_WORDS]; RUN_BLOCKS];
     get_blocks(disk, first, &mut run[..count], wanted, words)
 }
 
-/// How many words a body of so many has from a block on, as far as so many are asked for.
+/// Returns how many words a body of `words` words has from block `block`, up to `count`.
 fn words_there(words: u32, block: u32, count: u32) -> u32
     requires { 0 < block }
     ensures { result ≡ min count (words - block_start block) }
@@ -159,13 +160,13 @@ fn words_there(words: u32, block: u32, count: u32) -> u32
     u64::from(count).min(there) as u32
 }
 
-/// The words of a body from block `block` on, counted from 1, at most `count` of them; fewer where the
+/// Returns the words of a body from block `block`, counted from 1, at most `count` of them; fewer if the
 /// body ends before.
 ///
 /// # Errors
 ///
-/// `NoMemory` where the words find no room, with nothing read; `BadData` with a block that is damaged;
-/// `Device` where the device failed.
+/// `NoMemory` if there is no memory for the words, with nothing read; `BadData` with a block that is damaged;
+/// `Device` if the device failed.
 pub fn get_words<D: Disk>(
     alloc: Global,
     disk: &mut D,
@@ -180,14 +181,14 @@ pub fn get_words<D: Disk>(
     ensures words { (D.state disk.new).honest → (body : List ℕ) → length body ≡ version.now.words
         → HasBody (D.state disk.old).contents version.now.blocks body
         → IfOk result (λ words. words.items ≡ take count (words_from body block)) }
-    // A damaged block is never answered as words.
+    // A damaged block is never returned as words.
     ensures whole { (D.state disk.new).honest → IfOk result (λ words. (i : ℕ) → i * 128 < length words.items
         → (D.state disk.old).contents (slice_index version.now.blocks (block - 1 + i)) ≡ None → ⊥) }
     ensures few { IfOk result (λ words. length words.items ≡ min count (version.now.words - block_start block)) }
     ensures damaged { (D.state disk.new).honest → (k : ℕ) → IsErrOf result (BadData k)
         → (0 < times k version.now.blocks) × ((D.state disk.old).contents k ≡ None) }
     ensures memory { IsErrOf result NoMemory → disk.new ≡ disk.old }
-    // Where there are no words the disk isn't asked.
+    // If there are no words, the disk isn't called.
     ensures none { IfOk result (λ words. length words.items ≡ 0 → disk.new ≡ disk.old) }
 
     // On every disk.

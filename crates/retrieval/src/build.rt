@@ -1,3 +1,4 @@
+//! The words of a prime block and of its pointers.
 ghost use Rattle.std.specs.Prelude.{◌≡◌, ◌-◌, ◌<◌, ◌≤◌, ◌^◌, ◌++◌, map, length, take, drop, replicate};
 ghost use Rattle.std.specs.List.{AllByRecursion};
 ghost use Rattle.spec_image.specs.Common.{head_or_zero, IsRun, pointer, prime_block, most_blocks};
@@ -9,7 +10,7 @@ use crate::{Prime, Version};
 use spec_image::layout::{PRIME_HEAD, PRIME_POINTERS};
 use words36::{BLOCK_WORDS, Block, Half, Word};
 
-/// The pointer to a run: how many blocks, and the first of them.
+/// Returns the pointer to a run: how many blocks, and the first of them.
 pub fn pointer_to(run: Run) -> Word
     requires { IsRun (pair_of run) }
     ensures { result ≡ pointer (pair_of run) }
@@ -20,7 +21,7 @@ pub fn pointer_to(run: Run) -> Word
     )
 }
 
-/// Puts pointers to runs behind the first words of a prime block.
+/// Puts pointers to runs after the first words of a prime block.
 fn put_pointers(words: &mut Block, runs: &[Run])
     requires few { length runs.now ≤ 112 }
     requires fit { AllByRecursion IsRun (pairs_of runs.now) }
@@ -33,7 +34,7 @@ fn put_pointers(words: &mut Block, runs: &[Run])
     }
 }
 
-/// A prime block with so many pointers, which are not put in yet.
+/// Returns a prime block for `count` pointers, which are not put in yet.
 fn without_pointers(prime: &Prime, version: &Version, count: usize) -> Block
     requires { count ≤ 112 }
     ensures { result ≡ prime_front (with_length prime.now version.now.words) count (head_or_zero version.now.ribs)
@@ -51,8 +52,8 @@ fn without_pointers(prime: &Prime, version: &Version, count: usize) -> Block
     words
 }
 
-/// The words of the prime block of a version: a pointer to each of the longest runs of its data blocks, as far as there
-/// is room, and the first of the ribs, or 0.
+/// Returns the words of the prime block of a version: a pointer to each of the longest runs of its data blocks, as far
+/// as there is room, and the first of the ribs, or 0.
 pub fn prime_block(prime: &Prime, version: &Version) -> Block
     requires fit { AllByRecursion (λ n. n < 2 ^ 18) version.now.blocks }
     requires few { length version.now.blocks ≤ most_blocks }
@@ -67,8 +68,8 @@ pub fn prime_block(prime: &Prime, version: &Version) -> Block
     words
 }
 
-/// The words of a prime block for another prime: what this one says is written anew, its length and where its data lie
-/// stay.
+/// Returns the words of a prime block, rewritten for another prime: what that one says is new, the length and where the
+/// data lie stay.
 pub fn prime_block_for(words: &Block, prime: &Prime) -> Block
     ensures { IsRewritten words.now result prime.now }
 {
@@ -80,7 +81,7 @@ pub fn prime_block_for(words: &Block, prime: &Prime) -> Block
     anew
 }
 
-/// The first of the ribs, or 0 where there is none.
+/// Returns the first of the ribs, or 0 if there is none.
 pub fn first_of(ribs: &[u32]) -> u32
     ensures { result ≡ head_or_zero ribs.now }
 {

@@ -1,3 +1,4 @@
+//! Why a version isn't read, or the words of a body aren't read or written.
 ghost use Rattle.std.specs.Prelude.{◌≡◌};
 
 use blockdisk::NoMemory;
@@ -7,7 +8,7 @@ use thiserror::Error;
 /// Why a version wasn't read.
 #[derive(Clone, Copy, Debug, PartialEq, Eq, Error)]
 pub enum RetrievalError {
-    /// This block, the prime block or an extension, is damaged or not as it should be.
+    /// This block, the prime block or an extension, is damaged or invalid.
     #[error("bad retrieval block {0}")]
     BadRetrieval(u32),
     /// The device failed.

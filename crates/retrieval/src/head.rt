@@ -1,6 +1,7 @@
+//! The first words of prime blocks and extensions.
 ghost use Rattle.std.specs.Prelude.{◌≡◌, ◌+◌, ◌*◌, ◌/◌, ◌%◌, ◌<◌, ◌≤◌, ◌^◌, ℕ, IfSome, IfNone};
 ghost use Rattle.words36.specs.Common.{IsPpn};
-ghost use Rattle.spec_image.specs.Common.{layout_number, Prime as PrimeRecord, extension_word, date_limit};
+ghost use Rattle.spec_image.specs.Common.{layout_number, SpecPrime, extension_word, date_limit};
 ghost use Rattle.spec_image.specs.Retrieval.{attributes};
 ghost use Rattle.retrieval.specs.Common.{mode_number, with_length, IsAttributes, IsPrimeHead, IsExtensionHead};
 
@@ -28,8 +29,8 @@ struct Attributes {
     ghost low_fits: { low < 4096 },
 }
 
-/// What the attributes in a prime block are: protection in bits 0 to 8, mode in 9 to 12, time in 13 to
-/// 23, the low twelve bits of the date in 24 to 35.
+/// Returns the attributes in a prime block, if they are valid: protection in bits 0 to 8, mode in 9 to 12, time in
+/// 13 to 23, the low twelve bits of the date in 24 to 35.
 fn attributes_of(word: Word) -> Option<Attributes>
     ensures some { IfSome result
         (λ a. IsAttributes word a.protection (mode_number a.mode) a.minute a.low) }
@@ -49,8 +50,9 @@ fn attributes_of(word: Word) -> Option<Attributes>
     })
 }
 
-/// The date whose three high bits are bits 18 to 20 of a prime block's word 2, of which this is the right half, and
-/// whose low twelve bits stand with the attributes. `None` if the half has another bit, or the layout no such date.
+/// Returns the date whose three high bits are bits 18 to 20 of a prime block's word 2, of which `half` is the right
+/// half, and whose low twelve bits are with the attributes. `None` if the half has another bit, or the layout has no
+/// such date.
 fn date_in(half: Half, low: u32, layout: Layout) -> Option<u32>
     requires { low < 4096 }
     ensures high { IfSome result (λ date. half ≡ date / 2 ^ 12 * 2 ^ 15) }
@@ -86,11 +88,11 @@ pub struct PrimeHead {
     pub ghost count_fits: { count ≤ 112 },
 }
 
-/// Gives the first words of a prime block, if they are right in this layout: layout 1 has no date above 4095.
+/// Returns the first words of a prime block, if they are valid in this layout: layout 1 has no date above 4095.
 pub fn prime_head(block: &Block, layout: Layout) -> Option<PrimeHead>
     ensures some { IfSome result (λ h. IsPrimeHead (layout_number layout) block.now (with_length h.prime h.length)
         h.count h.next) }
-    ensures none { IfNone result ((p : PrimeRecord) (count next : ℕ)
+    ensures none { IfNone result ((p : SpecPrime) (count next : ℕ)
         → IsPrimeHead (layout_number layout) block.now p count next → ⊥) }
 {
     let words = &block[..];
@@ -133,7 +135,7 @@ pub struct ExtensionHead {
     pub ghost some: { 0 < count },
 }
 
-/// The first words of an extension, where they are right.
+/// Returns the first words of an extension, if they are valid.
 pub fn extension_head(block: &Block) -> Option<ExtensionHead>
     ensures some { IfSome result (λ h. IsExtensionHead block.now h.count h.next) }
     ensures none { IfNone result ((count next : ℕ) → IsExtensionHead block.now count next → ⊥) }
@@ -149,8 +151,8 @@ pub fn extension_head(block: &Block) -> Option<ExtensionHead>
     })
 }
 
-/// Gives the extension of a file as a prime block has it, with the three high bits of its date in bits 18 to 20, which
-/// are zero for the dates of layout 1.
+/// Returns the extension of a file as a prime block has it, with the three high bits of its date in bits 18 to 20,
+/// which are zero for the dates of layout 1.
 pub fn extension_word(prime: &Prime) -> Word
     ensures { (words : ℕ) → result ≡ extension_word (with_length prime.now words) }
 {
@@ -158,8 +160,8 @@ pub fn extension_word(prime: &Prime) -> Word
     Word::from_halves(prime.file.ext, Half::from_bits(high << 15))
 }
 
-/// Gives the attributes of a file as a prime block has them: protection in bits 0 to 8, mode in 9 to 12, time in 13 to
-/// 23, the low twelve bits of the date in 24 to 35.
+/// Returns the attributes of a file as a prime block has them: protection in bits 0 to 8, mode in 9 to 12, time in 13
+/// to 23, the low twelve bits of the date in 24 to 35.
 pub fn attributes_word(prime: &Prime) -> Word
     ensures { (words : ℕ) → result ≡ attributes (with_length prime.now words) }
 {

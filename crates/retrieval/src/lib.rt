@@ -1,39 +1,39 @@
 //! Versions of files on the disk: what their prime blocks say, and where their data lie. What the layer
-//! keeps:
+//! promises:
 //!
-//! 1. On an honest disk `read_version` answers a version that stands there in the layout it is read in, all of whose
-//!    data blocks and extensions lie in the free space; or it names a retrieval block that is not as it should be,
-//!    and that never if a version stands there as it should. What it answers is what the contents have there. In
-//!    layout 1 a prime block with a date above 4095 is not as it should be. (`ok`, `bad`, `whole`, `reads`)
-//! 2. On every disk, honest or not, it returns, and the blocks that it answers lie in the free space, as
-//!    many as the length asks for; a block that it names is the prime block or lies there too.
+//! 1. On an honest disk `read_version` returns a version that is there in the layout it is read in, all of whose
+//!    data blocks and extensions lie in the free space; or it names an invalid retrieval block, but never if a valid
+//!    version is there. What it returns is what the contents have there. In layout 1 a prime block with a date above
+//!    4095 is invalid. (`ok`, `bad`, `whole`, `reads`)
+//! 2. On every disk, honest or not, it returns, and the blocks in its result lie in the free space, as many as the
+//!    length requires; a block that it names is the prime block or lies there too.
 //!    (`blocks_inside`, `ribs_inside`, `counted`, `few`, `named`)
-//! 3. It writes nothing, and answers `Device` exactly with one more failure of the disk. (`keeps`,
+//! 3. It writes nothing, and returns `Device` exactly with one more failure of the disk. (`keeps`,
 //!    `failed`, `served`)
 //! 4. `prime_block` spells the prime block of a version, a pointer to each of the longest runs of its data blocks.
-//!    `prime_block_for` writes one that was read for another name, and leaves its pointers as they are. `is_prime_of`
-//!    says whether a block is the prime block of a version in core, its pointers aside.
+//!    `prime_block_for` rewrites one that was read for another name, and leaves its pointers unchanged. `is_prime_of`
+//!    returns whether a block is the prime block of a version in memory, except for its pointers.
 //! 5. A `Prime` has a protection below 1000 (octal) and a date of fifteen bits, of which layout 1 has twelve; its words
 //!    are the same in all layouts that have the date. A `Mode` is one of the six data modes of files.
-//! 6. `write_version` writes no block but the prime block and the ribs that it took from the table, all
-//!    different, in the free space and free before; at Ok the version stands there in each layout that has its date,
+//! 6. `write_version` writes no block except the prime block and the ribs that it took from the table, all
+//!    different, in the free space and free before; at Ok the version is there in each layout that has its date,
 //!    and it is read back if its data blocks lie in the free space. The prime block and the ribs have the longest runs
 //!    of these.
 //!    (`written`, `read_back`, `prime_is`, `ribs_are`, `taken`, `own`, `apart`, `modified`)
-//! 7. `get_words` answers the words of a body that stand there from a block on, as many as are asked for
-//!    and are there, or names a data block that is damaged; such a block is never answered as words.
+//! 7. `get_words` returns the words of a body from a block, as many as are requested and are there, or names a
+//!    data block that is damaged; it never returns such a block as words.
 //!    (`words`, `whole`, `few`, `damaged`)
-//! 8. After `put_words` the blocks hold the body with the words put, zeros before them where it ended
-//!    before; none is written that another version reaches, and the table holds one for the other. A damaged block
-//!    is refused if words of it stay, and no other is; it is never taken for words.
+//! 8. After `put_words` the blocks hold the body with the words put, and with zeros before them if it ended
+//!    earlier; no block that another version reaches is written, and the table holds the new blocks in place of the
+//!    old ones. A damaged block is refused if words of it stay, and no other is; it is never taken for words.
 //!    (`body`, `length`, `counted`, `modified`, `held`, `whole`, `edge`)
-//! 9. Memory is taken for the lists of runs and of ribs and for the words that are read, and a `Version` whose
-//!    growth is refused stays as it was. `take_retrieval_blocks` and `write_retrieval_blocks` do what
-//!    `write_version` does in a list that was found before, of as many places as `rib_count` says or more.
-//! 10. A `Version` shows a list of blocks and keeps the longest runs of it (`AreKept`), so that a body in one run
-//!    takes as little memory as one of a block. The end of each run in the list stands beside it, so that a block is
-//!    found by halves.
-//!    `run_at` answers a run that the next block of the list does not continue. (`longest`)
+//! 9. Memory is allocated for the lists of runs and of ribs and for the words that are read, and a `Version` whose
+//!    growth is refused is unchanged. `take_retrieval_blocks` and `write_retrieval_blocks` do what `write_version`
+//!    does, in a list that was allocated before, with `rib_count` places or more.
+//! 10. A `Version` shows a list of blocks and stores the longest runs of it (`AreKept`), so that a body in one run
+//!    takes as little memory as one of a block. It also stores the end of each run in the list, so that a block is
+//!    found by binary search.
+//!    `run_at` returns a run that the next block of the list does not continue. (`longest`)
 #![tactic(auto)]
 
 mod block_list;
@@ -41,7 +41,6 @@ mod body;
 mod build;
 mod error;
 mod head;
-mod kept;
 mod mode;
 mod parse;
 mod place;
@@ -53,6 +52,7 @@ mod run;
 mod run_parts;
 mod runs;
 mod space;
+mod unchanged;
 mod version;
 mod write;
 

@@ -1,3 +1,4 @@
+//! The data modes of files.
 ghost use Rattle.std.specs.Prelude.{◌≡◌, ◌↔◌, IsSome, IfSome};
 ghost use Rattle.spec_image.specs.Common.{IsMode};
 ghost use Rattle.retrieval.specs.Common.{mode_number};
@@ -20,7 +21,7 @@ pub enum Mode {
 }
 
 impl Mode {
-    /// The mode with this number, or `None` where there is none.
+    /// Returns the mode with this number, or `None` if there is none.
     pub fn from_number(number: u64) -> Option<Mode>
         ensures value { IfSome result (λ mode. mode_number mode ≡ number) }
         ensures fits { IsSome result ↔ IsMode number }
@@ -36,7 +37,7 @@ impl Mode {
         }
     }
 
-    /// The number of the mode, below 20 (octal).
+    /// Returns the number of the mode, below 20 (octal).
     pub fn number(self) -> u64
         ensures value { result ≡ mode_number self }
         ensures mode { IsMode result }

@@ -1,3 +1,4 @@
+//! The blocks of a body that are written: only blocks that no other version reaches.
 ghost use Rattle.std.specs.Prelude.{◌≡◌, ◌⊎◌, ◌+◌, ◌-◌, ◌*◌, ◌<◌, ◌≤◌, ℕ, length, slice_index, slice_set, IfOk, OnOk};
 ghost use Rattle.std.specs.Prelude.{IsErrOf};
 ghost use Rattle.std.specs.List.{AllByRecursion};
@@ -9,15 +10,15 @@ ghost use Rattle.retrieval.specs.Common.{IsOwn, AddsFree, KeepsOwn, StandAlone, 
 ghost use Rattle.retrieval.specs.Common.{IsFixed};
 
 use crate::block_list::BlockList;
-use crate::kept::{Kept, new_block};
+use crate::unchanged::{UnchangedWords, new_block};
 use alloctab::Table;
 use blockdisk::{Disk, Fault};
 use words36::{BLOCK_WORDS, Word};
 
-/// Makes the block at a place the version's own: the one that is there, or a free one in its place, which
-/// no other version reaches. Answers it.
+/// Makes the block at a place the version's own, which no other version reaches: the one that is there, or a
+/// free one in its place. Returns it.
 pub(crate) fn own_place(table: &mut Table, blocks: &mut BlockList, i: usize) -> u32
-    // The place is one of the version, whose blocks are held, and one more may be taken.
+    // The place is in the version, whose blocks are held, and one more may be taken.
     requires below { i < length blocks.old.blocks }
     requires spare { 2 ≤ blocks.old.spare }
     requires inside { AllByRecursion (InSpace table.old.size) blocks.old.blocks }
@@ -32,7 +33,7 @@ pub(crate) fn own_place(table: &mut Table, blocks: &mut BlockList, i: usize) -> 
     ensures inside { InSpace table.old.size result }
     ensures alone { times result blocks.new.blocks ≡ 1 }
     ensures own { IsOwn table.new blocks.new.blocks result }
-    // The table: another block is held in the place of one that was not its own.
+    // The table: another block is held in place of one that was not its own.
     ensures stays { bit table.old (slice_index blocks.old.blocks i) ≡ 0
         → holds table.old (slice_index blocks.old.blocks i) ≡ 1 → result ≡ slice_index blocks.old.blocks i }
 
@@ -41,7 +42,7 @@ pub(crate) fn own_place(table: &mut Table, blocks: &mut BlockList, i: usize) -> 
         ≡ holds table.old n + times n blocks.new.blocks }
     ensures used { uses table.new ≡ uses table.old }
 {
-    let _booked = table.booked(); // which says that the table is sound
+    let _booked = table.booked(); // which states that the table is sound
     let shared = blocks.at(i);
     if table.is_held_alone(shared) {
         return shared;
@@ -52,7 +53,7 @@ pub(crate) fn own_place(table: &mut Table, blocks: &mut BlockList, i: usize) -> 
     n
 }
 
-/// Makes the blocks from one place on before another the version's own, as `own_place` does one.
+/// Makes the blocks from place `first` to before place `end` the version's own, as `own_place` does for one.
 fn own_places(table: &mut Table, blocks: &mut BlockList, first: usize, end: usize)
     requires order { first ≤ end }
     requires fits { end ≤ length blocks.old.blocks }
@@ -83,7 +84,7 @@ fn own_places(table: &mut Table, blocks: &mut BlockList, first: usize, end: usiz
     }
 }
 
-/// How many blocks from place i on are filled by so many words that are put from place `at` on.
+/// Returns how many blocks from place `i` are filled by `count` words that are put from place `at`.
 fn filled_from(at: usize, count: usize, i: usize) -> usize
     ensures from { 0 < result → at ≤ i }
     ensures within { 0 < result → (i - at + result) * 128 ≤ count }
@@ -94,16 +95,16 @@ fn filled_from(at: usize, count: usize, i: usize) -> usize
     (count / BLOCK_WORDS).saturating_sub(i - at)
 }
 
-/// Writes blocks of a version from place i on, of which at least one is left: a run of those that the words fill, or
-/// one block. Answers how many.
+/// Writes blocks of a version from place `i`, of which at least one is left: a run of those that the words fill, or
+/// one block. Returns how many.
 ///
 /// # Errors
 ///
-/// `Device` where the device failed; some of the places that are left may be written then.
+/// `Device` if the device failed; some of the places that are left may then be written.
 fn write_some<D: Disk>(
     disk: &mut D,
     blocks: &BlockList,
-    kept: &Kept,
+    kept: &UnchangedWords,
     at: usize,
     words: &[Word],
     i: usize,
@@ -138,16 +139,16 @@ fn write_some<D: Disk>(
     Ok(count)
 }
 
-/// Writes the blocks of a version from place `first` on, each of which is its own, with words put from place `at` on
-/// over those that stay, and zeros before where none do.
+/// Writes the blocks of a version from place `first`, each of which is its own, with words put from place `at` over
+/// those that stay, and with zeros before them where none stays.
 ///
 /// # Errors
 ///
-/// `Device` where the device failed; some of the places are written then.
+/// `Device` if the device failed; some of the places are then written.
 fn write_all<D: Disk>(
     disk: &mut D,
     blocks: &BlockList,
-    kept: &Kept,
+    kept: &UnchangedWords,
     first: usize,
     at: usize,
     words: &[Word],
@@ -177,18 +178,18 @@ fn write_all<D: Disk>(
     Ok(())
 }
 
-/// Writes the blocks of a version from place `first` on, with words put from place `at` on over those that
-/// stay, and zeros before where none do. Each block that another version reaches is left, and a free one
-/// stands in its place.
+/// Writes the blocks of a version from place `first`, with words put from place `at` over those that stay, and
+/// with zeros before them where none stays. Each block that another version reaches is left, and a free one takes
+/// its place.
 ///
 /// # Errors
 ///
-/// `Device` where the device failed; some of the places are written then.
+/// `Device` if the device failed; some of the places are then written.
 pub(crate) fn write_places<D: Disk>(
     disk: &mut D,
     table: &mut Table,
     blocks: &mut BlockList,
-    kept: &Kept,
+    kept: &UnchangedWords,
     first: usize,
     at: usize,
     words: &[Word],
@@ -214,7 +215,7 @@ pub(crate) fn write_places<D: Disk>(
     ensures long { length blocks.new.blocks ≡ length blocks.old.blocks }
     ensures inside { AllByRecursion (InSpace (D.state disk.old).size) blocks.new.blocks }
     ensures adds { AddsFree table.old blocks.old.blocks blocks.new.blocks }
-    // The table, whatever is answered.
+    // The table, whatever the result.
     ensures table { table.new ≡ record table.old { held = table.new.held } }
     ensures held { (n : ℕ) → holds table.new n + times n blocks.old.blocks
         ≡ holds table.old n + times n blocks.new.blocks }

@@ -1,3 +1,4 @@
+//! The tests for the pointers of a retrieval block.
 ghost use Rattle.std.specs.Prelude.{◌≡◌, ◌≤◌, ◌↔◌, IsTrue, length};
 ghost use Rattle.std.specs.List.{AllByRecursion};
 ghost use Rattle.spec_image.specs.Common.{IsRun};
@@ -6,7 +7,7 @@ ghost use Rattle.retrieval.specs.Common.{run_of, runs_of, ArePointers};
 use spec_image::layout::are_zeros;
 use words36::Word;
 
-/// Whether a word is a pointer: its left half, the count, isn't zero.
+/// Returns whether a word is a pointer: its left half, the count, isn't zero.
 fn is_pointer(word: Word) -> bool
     ensures { IsTrue result ↔ IsRun (run_of word) }
 {
@@ -15,7 +16,7 @@ fn is_pointer(word: Word) -> bool
     count != 0
 }
 
-/// Whether each of the words is a pointer.
+/// Returns whether each of the words is a pointer.
 fn are_runs(words: &[Word]) -> bool
     ensures { IsTrue result ↔ AllByRecursion IsRun (runs_of words.now) }
 {
@@ -27,7 +28,7 @@ fn are_runs(words: &[Word]) -> bool
     true
 }
 
-/// Whether so many of the words are pointers, and those behind them zero.
+/// Returns whether the first `count` words are pointers, and those after them zero.
 pub fn are_pointers(words: &[Word], count: usize) -> bool
     requires { count ≤ length words.now }
     ensures { IsTrue result ↔ ArePointers words.now count }

@@ -1,9 +1,10 @@
+//! What a prime block says of its file.
 ghost use Rattle.std.specs.Prelude.{◌≡◌, ◌<◌, ◌↔◌, IsSome, IfSome};
 
 use crate::Mode;
 use words36::{FileName, Moment, Ppn};
 
-/// What a prime retrieval block says of its file, beside the length and where the data lie.
+/// What a prime retrieval block says of its file, besides the length and where the data lie.
 #[derive(Clone, Copy, Debug, PartialEq, Eq)]
 pub struct Prime {
     /// The name and extension.
@@ -14,13 +15,13 @@ pub struct Prime {
     pub protection: u16,
     /// The mode it was written in.
     pub mode: Mode,
-    /// When it was written: a date of fifteen bits, 0 to 32767. Layout 1 has the dates below 4096 alone.
+    /// When it was written: a date of fifteen bits, 0 to 32767. Layout 1 has only the dates below 4096.
     pub moment: Moment,
     pub ghost protection_fits: { protection < 512 },
 }
 
 impl Prime {
-    /// Gives what a prime block says, or `None` for a protection above 777 (octal).
+    /// Returns what a prime block says, or `None` for a protection above 777 (octal).
     pub fn new(
         file: FileName,
         ppn: Ppn,

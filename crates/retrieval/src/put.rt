@@ -1,3 +1,4 @@
+//! Words that are put into a body.
 ghost use Rattle.std.specs.Prelude.{◌≡◌, ◌+◌, ◌-◌, ◌*◌, ◌/◌, ◌<◌, ◌≤◌, ◌^◌, ℕ, List, None, IfOk, OnOk, OnErr};
 ghost use Rattle.std.specs.Prelude.{IsErrOf, length, min};
 ghost use Rattle.std.specs.List.{AllByRecursion};
@@ -9,19 +10,19 @@ ghost use Rattle.retrieval.specs.Common.{AreWhole, IsOwn, AddsFree, KeepsOwn, Is
 ghost use Rattle.retrieval.specs.declared.error.BodyError.TheVariants.{BadData, Device, NoMemory};
 
 use crate::block_list::BlockList;
-use crate::kept::{Kept, read_kept};
 use crate::place::write_places;
+use crate::unchanged::{UnchangedWords, read_unchanged};
 use crate::{BodyError, Version};
 use alloctab::Table;
 use blockdisk::Disk;
 use words36::{BLOCK_WORDS, Word};
 
-/// Finds memory for so many runs more of the list of a body's blocks, and reads the words that stay where so many words
-/// are put from block `at` of the body, of `total` words, on.
+/// Reserves memory for `more` more runs in the list of a body's blocks, and reads the words that stay when `count`
+/// words are put from block `at` of the body, of `total` words.
 ///
 /// # Errors
 ///
-/// As of `put_words`, and the list is as before then.
+/// Those of `put_words`; the list is then unchanged.
 fn prepare<D: Disk>(
     disk: &mut D,
     blocks: &mut BlockList,
@@ -29,13 +30,13 @@ fn prepare<D: Disk>(
     at: usize,
     count: usize,
     more: usize,
-) -> Result<Kept, BodyError>
-    // What the caller sees to.
+) -> Result<UnchangedWords, BodyError>
+    // What the caller ensures.
     requires inside { AllByRecursion (InSpace (D.state disk.old).size) blocks.old.blocks }
     requires counted { length blocks.old.blocks ≡ blocks_of total }
     requires fits { at * 128 + count ≤ 2097152 }
 
-    // What is kept of the words that stay.
+    // What is read of the words that stay.
     ensures same_blocks { blocks.new.blocks ≡ blocks.old.blocks }
     ensures spare { OnOk result (more ≤ blocks.new.spare) }
     ensures kept { (D.state disk.new).honest → (body : List ℕ) → length body ≡ total
@@ -56,10 +57,10 @@ fn prepare<D: Disk>(
     ensures served { (IsErrOf result Device → ⊥) → (D.state disk.new).failures ≡ (D.state disk.old).failures }
 {
     blocks.reserve(more)?;
-    read_kept(disk, blocks, total, at, count)
+    read_unchanged(disk, blocks, total, at, count)
 }
 
-/// Adds free blocks behind those of a list, in memory that was found before.
+/// Adds free blocks after those of a list, in memory that was allocated before.
 fn take_more(blocks: &mut BlockList, table: &mut Table, more: usize)
     requires sound { IsTable table.old }
     requires fixed { IsFixed table.old }
@@ -79,12 +80,12 @@ fn take_more(blocks: &mut BlockList, table: &mut Table, more: usize)
     }
 }
 
-/// Puts words at block `block` of a body of `old` words, counted from 1, of which at least one: as `put_words` does, in
-/// the list of its blocks.
+/// Puts words, at least one, at block `block` of a body of `old` words, counted from 1: as `put_words` does, in the
+/// list of its blocks.
 ///
 /// # Errors
 ///
-/// As of `put_words`.
+/// Those of `put_words`.
 fn put_into<D: Disk>(
     disk: &mut D,
     table: &mut Table,
@@ -93,7 +94,7 @@ fn put_into<D: Disk>(
     block: u32,
     words: &[Word],
 ) -> Result<(), BodyError>
-    // What the caller sees to.
+    // What the caller ensures.
     requires size { table.old.size ≡ (D.state disk.old).size }
     requires fixed { IsFixed table.old }
     requires inside { AllByRecursion (InSpace (D.state disk.old).size) blocks.old.blocks }
@@ -115,7 +116,7 @@ fn put_into<D: Disk>(
         → IsEdgeBlock blocks.old.blocks old (block - 1) (length words.now) n
         → (D.state disk.old).contents n ≡ None → ⊥) }
 
-    // Whatever the answer.
+    // Whatever the result.
     ensures inside { AllByRecursion (InSpace (D.state disk.old).size) blocks.new.blocks }
     ensures adds { AddsFree table.old blocks.old.blocks blocks.new.blocks }
     ensures few { length blocks.new.blocks ≤ blocks_of (length_after old block (length words.now)) }
@@ -140,12 +141,12 @@ fn put_into<D: Disk>(
     ensures failed { IsErrOf result Device → (D.state disk.new).failures ≡ one_more (D.state disk.old).failures }
     ensures served { (IsErrOf result Device → ⊥) → (D.state disk.new).failures ≡ (D.state disk.old).failures }
 {
-    let _booked = table.booked(); // which says that the table is sound
+    let _booked = table.booked(); // which states that the table is sound
     let at = (block - 1) as usize;
     let first = at.min(old as usize / BLOCK_WORDS);
     let end = at + words.len().div_ceil(BLOCK_WORDS);
     let more = end.saturating_sub(blocks.len());
-    // Memory first, so that a refused growth leaves everything alone: a block that changes may part a run.
+    // Memory first, so that a refused growth leaves everything unchanged: a block that changes may split a run.
     let runs = more + 2 * (end - first);
     let kept = prepare(disk, blocks, old as usize, at, words.len(), runs)?;
     take_more(blocks, table, more);
@@ -155,14 +156,14 @@ fn put_into<D: Disk>(
     }
 }
 
-/// Puts words at block `block` of a body, counted from 1: over what stands there, and behind zeros where
-/// the body ends before. Only blocks are written that no other version reaches; a free block takes the
-/// place of each other one that changes.
+/// Puts words at block `block` of a body, counted from 1: over the words there, and after zeros if the body
+/// ends before. Only blocks that no other version reaches are written; a free block takes the place of each
+/// other block that changes.
 ///
 /// # Errors
 ///
-/// `NoMemory` where the list of blocks finds no room, with nothing done; `BadData` with a block that is
-/// damaged, where words of it stay; `Device` where the device failed, with some of the words put.
+/// `NoMemory` if there is no memory for the list of blocks, with nothing done; `BadData` with a damaged block,
+/// words of which stay; `Device` if the device failed, with some of the words put.
 pub fn put_words<D: Disk>(
     disk: &mut D,
     table: &mut Table,
@@ -170,7 +171,7 @@ pub fn put_words<D: Disk>(
     block: u32,
     words: &[Word],
 ) -> Result<(), BodyError>
-    // What the caller sees to.
+    // What the caller ensures.
     requires volume { IsVolumeSize (D.state disk.old).size }
     requires size { table.old.size ≡ (D.state disk.old).size }
     requires fixed { IsFixed table.old }
@@ -194,7 +195,7 @@ pub fn put_words<D: Disk>(
         → IsEdgeBlock version.old.blocks version.old.words (block - 1) (length words.now) n
         → (D.state disk.old).contents n ≡ None → ⊥) }
 
-    // Whatever the answer.
+    // Whatever the result.
     ensures ribs { version.new.ribs ≡ version.old.ribs }
     ensures inside { AllByRecursion (InSpace (D.state disk.old).size) version.new.blocks }
     ensures adds { AddsFree table.old version.old.blocks version.new.blocks }

@@ -1,8 +1,9 @@
+//! A version, read from its prime block and its extensions.
 ghost use Rattle.std.specs.Prelude.{◌≡◌, ◌*◌, ◌<◌, ◌≤◌, ◌^◌, ◌⊎◌, ℕ, List, IsTrue, Some, None, IfSome, IfNone, IfOk};
 ghost use Rattle.std.specs.Prelude.{OnOk, IsErrOf, length};
 ghost use Rattle.std.specs.List.{AllByRecursion};
 ghost use Rattle.blockdisk.specs.Common.{Keeps, SameDisk, one_more};
-ghost use Rattle.spec_image.specs.Common.{blocks_of, layout_number, IsVolumeSize, Prime as PrimeRecord, IsRetrieved};
+ghost use Rattle.spec_image.specs.Common.{blocks_of, layout_number, IsVolumeSize, SpecPrime, IsRetrieved};
 ghost use Rattle.spec_image.specs.Common.{most_blocks, InSpace, IsBadVersion};
 ghost use Rattle.retrieval.specs.Common.{IsBadPrime, IsBadExtension, Overfills, IsStarted, Extends, IsVersionAt};
 ghost use Rattle.retrieval.specs.Common.{IsReadAs, IsStandingVersion, rib_count};
@@ -38,7 +39,7 @@ fn read_block<D: Disk>(disk: &mut D, n: u32) -> Result<Block, RetrievalError>
     }
 }
 
-/// How many blocks so many words take.
+/// Returns how many blocks `words` words take.
 fn blocks_of(words: u32) -> u32
     requires { words ≤ 2097152 }
     ensures value { result ≡ blocks_of words }
@@ -47,7 +48,7 @@ fn blocks_of(words: u32) -> u32
     words.div_ceil(BLOCK_WORDS as u32)
 }
 
-/// The version as its prime block has it, with the first extension, or 0.
+/// Returns the version as its prime block has it, with the first extension, or 0.
 fn start_version(
     alloc: Global,
     block: &Block,
@@ -81,7 +82,7 @@ fn start_version(
     }
 }
 
-/// Adds the extension `n` to the version at a prime block; gives the next, or 0.
+/// Adds the extension `n` to the version at a prime block; returns the next, or 0.
 fn extend_version(
     block: &Block,
     n: u32,
@@ -116,39 +117,39 @@ fn extend_version(
     Ok(next)
 }
 
-/// Reads a version of an image of a layout: its prime block and the extensions of that. The data blocks aren't read.
+/// Reads a version from an image of a layout: its prime block and its extensions. The data blocks aren't read.
 ///
 /// # Errors
 ///
-/// `BadRetrieval` with the prime block or an extension that is damaged or not as it should be in this layout: a
-/// number outside the free space is never read, and the block that names it is refused; a prime block with a date
-/// that the layout has no room for is refused before its extensions are read. `Device` if the device failed;
-/// `NoMemory` if the lists of blocks find no room.
+/// `BadRetrieval` with the prime block or an extension that is damaged or invalid in this layout: a number outside
+/// the free space is never read, and the block that names it is refused; a prime block with a date that the layout
+/// has no room for is refused before its extensions are read. `Device` if the device failed; `NoMemory` if there is
+/// no memory for the lists of blocks.
 pub fn read_version<D: Disk>(
     alloc: Global,
     disk: &mut D,
     at: u32,
     layout: Layout,
 ) -> Result<(Prime, Version), RetrievalError>
-    // What the caller sees to.
+    // What the caller ensures.
     requires volume { IsVolumeSize (D.state disk.old).size }
     requires inside { at < (D.state disk.old).size }
-    // What was read, or what stands at a prime block that is refused.
+    // What was read, or what is at a prime block that is refused.
     ensures ok { (D.state disk.new).honest
         → IfOk result (λ read. IsVersionAt (D.state disk.old).size (D.state disk.old).contents (layout_number layout) at
         read.0 read.1) }
     ensures bad { (D.state disk.new).honest → (k : ℕ) → IsErrOf result (BadRetrieval k)
         → IsBadVersion (D.state disk.old).size (D.state disk.old).contents (layout_number layout) at k }
 
-    // Whatever the disk answers, a block that is named is the prime block or lies in the free space.
+    // Whatever the disk returns, a block that is named is the prime block or lies in the free space.
     ensures named { (k : ℕ) → IsErrOf result (BadRetrieval k) → (k ≡ at) ⊎ InSpace (D.state disk.old).size k }
-    ensures whole { (D.state disk.new).honest → (p : PrimeRecord) (ribs blocks : List ℕ)
+    ensures whole { (D.state disk.new).honest → (p : SpecPrime) (ribs blocks : List ℕ)
         → IsStandingVersion (D.state disk.old).size (D.state disk.old).contents (layout_number layout) at p ribs blocks
         → (k : ℕ) → IsErrOf result (BadRetrieval k) → ⊥ }
-    ensures reads { (D.state disk.new).honest → (p : PrimeRecord) (ribs blocks : List ℕ)
+    ensures reads { (D.state disk.new).honest → (p : SpecPrime) (ribs blocks : List ℕ)
         → IsRetrieved (layout_number layout) (D.state disk.old).contents p at ribs blocks → p.place.name.ext < 2 ^ 18
         → IfOk result (λ read. IsReadAs p ribs blocks read.0 read.1) }
-    // It is as a version has to be.
+    // It is a valid version.
     ensures blocks_inside { IfOk result (λ read. AllByRecursion (InSpace (D.state disk.old).size) read.1.blocks) }
     ensures ribs_inside { IfOk result (λ read. AllByRecursion (InSpace (D.state disk.old).size) read.1.ribs) }
     ensures counted { IfOk result (λ read. length read.1.blocks ≡ blocks_of read.1.words) }

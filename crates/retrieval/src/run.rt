@@ -1,3 +1,4 @@
+//! A run of blocks.
 ghost use Rattle.std.specs.Prelude.{◌≤◌};
 
 /// Neighbouring blocks of a disk, at least one.

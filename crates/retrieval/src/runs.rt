@@ -1,3 +1,4 @@
+//! The blocks that pointers name, added to a version.
 ghost use Rattle.std.specs.Prelude.{◌≡◌, ◌+◌, ◌<◌, ◌≤◌, ◌^◌, ◌++◌, ℕ, OnOk, OnErr, IsErrOf, length, flat_map};
 ghost use Rattle.std.specs.List.{AllByRecursion};
 ghost use Rattle.spec_image.specs.Common.{IsVolumeSize, RunsInSpace, InSpace, IsRun, run_blocks, count_up};
@@ -14,7 +15,7 @@ use words36::Word;
 pub enum RunError {
     /// A run leaves the free space.
     Outside,
-    /// There are more blocks than the length asks for.
+    /// There are more blocks than the length requires.
     TooMany,
     /// A growth was refused.
     NoMemory,
@@ -41,7 +42,7 @@ fn push_run(count: u32, first: u32, version: &mut Version) -> Result<(), NoMemor
     Ok(())
 }
 
-/// Adds the blocks that a pointer names, up to so many in all.
+/// Adds the blocks that a pointer names, up to `limit` blocks in all.
 fn push_pointer(word: Word, size: u32, limit: u32, version: &mut Version) -> Result<(), RunError>
     requires volume { IsVolumeSize size }
     requires run { IsRun (run_of word) }
@@ -64,11 +65,11 @@ fn push_pointer(word: Word, size: u32, limit: u32, version: &mut Version) -> Res
     Ok(())
 }
 
-/// Adds the blocks that pointers name, up to so many in all.
+/// Adds the blocks that pointers name, up to `limit` blocks in all.
 ///
 /// # Errors
 ///
-/// `Outside` where a run leaves the free space, `TooMany` where there are more blocks; `NoMemory`.
+/// `Outside` if a run leaves the free space, `TooMany` if there are more blocks; `NoMemory`.
 pub fn push_runs(
     pointers: &[Word],
     size: u32,

@@ -1,9 +1,10 @@
+//! The test whether a run lies in the free space.
 ghost use Rattle.std.specs.Prelude.{◌+◌, ◌<◌, ◌≤◌, ◌^◌, ◌↔◌, IsTrue};
 ghost use Rattle.spec_image.specs.Common.{IsVolumeSize, space_start};
 
 use spec_image::layout::space_start;
 
-/// Whether a run of blocks, at least one, lies in the free space.
+/// Returns whether a run of blocks, at least one, lies in the free space.
 pub fn is_run_in_space(size: u32, count: u32, first: u32) -> bool
     requires volume { IsVolumeSize size }
     requires fits { first + count < 2 ^ 32 }

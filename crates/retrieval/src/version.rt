@@ -1,3 +1,4 @@
+//! A version in memory: its length, its data blocks and its ribs.
 ghost use Rattle.std.specs.Prelude.{◌≡◌, ◌+◌, ◌-◌, ◌<◌, ◌≤◌, ◌++◌, ◌∷◌, ℕ, [], slice_set, slice_get, slice_index};
 ghost use Rattle.std.specs.Prelude.{length, Some, IfOk, OnOk, OnErr};
 ghost use Rattle.retrieval.specs.Common.{BlocksState, blocks_of_runs, pairs_of, longest_runs, VersionState};
@@ -8,7 +9,7 @@ use blockdisk::NoMemory;
 use std::alloc::Global;
 use std::marker::Model;
 
-/// Where a version of a file lies: its length in words, its data blocks in order, which are kept as runs, and its
+/// Where a version of a file lies: its length in words, its data blocks in order, which are stored as runs, and its
 /// ribs, the extensions of its prime block.
 #[derive(Drop)]
 pub struct Version {
@@ -26,7 +27,7 @@ impl Model for Version {
 }
 
 impl Version {
-    /// A version of no words and no blocks. It takes no memory yet.
+    /// Returns a version of no words and no blocks. It takes no memory yet.
     pub fn new(alloc: Global) -> Self
         ensures { result ≡ record { words = 0; blocks = []; ribs = [] } }
     {
@@ -37,7 +38,7 @@ impl Version {
         }
     }
 
-    /// The length in words.
+    /// Returns the length in words.
     pub fn length(&self) -> u32
         ensures { result ≡ self.now.words }
     {
@@ -51,14 +52,14 @@ impl Version {
         self.length = words;
     }
 
-    /// How many data blocks there are.
+    /// Returns how many data blocks there are.
     pub fn count(&self) -> usize
         ensures { result ≡ length self.now.blocks }
     {
         self.blocks.len()
     }
 
-    /// The longest runs of the data blocks, in order.
+    /// Returns the longest runs of the data blocks, in order.
     pub fn runs(&self) -> &[Run]
         ensures blocks { blocks_of_runs result.now ≡ self.now.blocks }
         ensures are_longest { pairs_of result.now ≡ longest_runs self.now.blocks }
@@ -66,21 +67,21 @@ impl Version {
         self.blocks.runs()
     }
 
-    /// The extensions of the prime block, in order.
+    /// Returns the extensions of the prime block, in order.
     pub fn ribs(&self) -> &[u32]
         ensures { result.now ≡ self.now.ribs }
     {
         self.ribs.as_slice()
     }
 
-    /// The data block at a place, counted from 0, or `None` past the last.
+    /// Returns the data block at a place, counted from 0, or `None` past the last.
     pub fn block(&self, i: usize) -> Option<u32>
         ensures { result ≡ slice_get self.now.blocks i }
     {
         self.blocks.get(i)
     }
 
-    /// The data block at a place, counted from 0.
+    /// Returns the data block at a place, counted from 0.
     pub fn block_at(&self, i: usize) -> u32
         requires { i < length self.now.blocks }
         ensures { result ≡ slice_index self.now.blocks i }
@@ -88,7 +89,7 @@ impl Version {
         self.blocks.at(i)
     }
 
-    /// The data block at a place, counted from 0, with all neighbours that follow it in the list.
+    /// Returns the data block at a place, counted from 0, with all neighbours that follow it in the list.
     pub fn run_at(&self, i: usize) -> Run
         requires { i < length self.now.blocks }
         ensures within { i + (result.last - result.first) < length self.now.blocks }
@@ -104,22 +105,22 @@ impl Version {
     ///
     /// # Errors
     ///
-    /// `NoMemory` where there is no memory; nothing changes then.
+    /// `NoMemory` if there is no memory; nothing changes then.
     pub fn set_block(&mut self, i: usize, n: u32) -> Result<(), NoMemory>
         requires { i < length self.old.blocks }
         ensures ok { OnOk result (self.new ≡ record self.old { blocks = slice_set self.old.blocks i n }) }
         ensures err { OnErr result (self.new ≡ self.old) }
     {
-        self.blocks.reserve(2)?; // a run that is parted
+        self.blocks.reserve(2)?; // a run that is split
         self.blocks.set(i, n);
         Ok(())
     }
 
-    /// Adds a data block behind the last.
+    /// Adds a data block after the last.
     ///
     /// # Errors
     ///
-    /// `NoMemory` where there is no memory; nothing changes then.
+    /// `NoMemory` if there is no memory; nothing changes then.
     pub fn push(&mut self, n: u32) -> Result<(), NoMemory>
         ensures ok { OnOk result (self.new ≡ record self.old { blocks = self.old.blocks ++ n ∷ [] }) }
         ensures err { OnErr result (self.new ≡ self.old) }
@@ -127,11 +128,11 @@ impl Version {
         self.blocks.push(n)
     }
 
-    /// Adds a rib behind the last.
+    /// Adds a rib after the last.
     ///
     /// # Errors
     ///
-    /// `NoMemory` where there is no memory; nothing changes then.
+    /// `NoMemory` if there is no memory; nothing changes then.
     pub fn push_rib(&mut self, n: u32) -> Result<(), NoMemory>
         ensures ok { OnOk result (self.new ≡ record self.old { ribs = self.old.ribs ++ n ∷ [] }) }
         ensures err { OnErr result (self.new ≡ self.old) }
@@ -142,18 +143,18 @@ impl Version {
         }
     }
 
-    /// Puts other ribs in the place of all.
+    /// Replaces all ribs by others.
     pub(crate) fn set_ribs(&mut self, ribs: Vec<u32>)
         ensures { self.new ≡ record self.old { ribs = ribs.items } }
     {
         self.ribs = ribs;
     }
 
-    /// A version with the same words: of the same length and the same data blocks, and with no ribs yet.
+    /// Returns a version with the same words: of the same length and the same data blocks, and with no ribs yet.
     ///
     /// # Errors
     ///
-    /// `NoMemory` where there is no memory.
+    /// `NoMemory` if there is no memory.
     pub fn copy_without_ribs(&self, alloc: Global) -> Result<Version, NoMemory>
         ensures { IfOk result (λ version. version ≡ record self.now { ribs = [] }) }
     {
@@ -165,11 +166,11 @@ impl Version {
         })
     }
 
-    /// An equal version.
+    /// Returns an equal version.
     ///
     /// # Errors
     ///
-    /// `NoMemory` where there is no memory.
+    /// `NoMemory` if there is no memory.
     pub fn copy(&self) -> Result<Version, NoMemory>
         ensures { IfOk result (λ version. version ≡ self.now) }
     {

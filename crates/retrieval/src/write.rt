@@ -1,3 +1,4 @@
+//! The retrieval blocks of a version, taken from the table and written.
 ghost use Rattle.std.specs.Prelude.{◌≡◌, ◌+◌, ◌-◌, ◌/◌, ◌<◌, ◌≤◌, ◌^◌, ◌∷◌, ℕ, map, length, take, drop, Some, OnOk};
 ghost use Rattle.std.specs.Prelude.{IfOk, IsErrOf};
 ghost use Rattle.std.specs.List.{AllByRecursion};
@@ -20,7 +21,7 @@ use spec_image::layout::{EXTENSION_HEAD, EXTENSION_POINTERS, PRIME_POINTERS};
 use std::alloc::Global;
 use words36::{BLOCK_WORDS, Block, Half, Word};
 
-/// The words of an extension: a pointer to each of the runs, and the next extension, or 0.
+/// Returns the words of an extension: a pointer to each of the runs, and the next extension, or 0.
 fn extension_of(runs: &[Run], next: u32) -> Block
     requires few { length runs.now ≤ 126 }
     requires fit { AllByRecursion IsRun (pairs_of runs.now) }
@@ -42,7 +43,7 @@ fn extension_of(runs: &[Run], next: u32) -> Block
 ///
 /// # Errors
 ///
-/// `Device` where the device failed; the ribs may then hold anything.
+/// `Device` if the device failed; the ribs may then hold anything.
 fn write_ribs<D: Disk>(disk: &mut D, ribs: &[u32], runs: &[Run]) -> Result<(), Fault>
     requires inside { AllByRecursion (λ n. n < (D.state disk.old).size) ribs.now }
     requires apart { AreApart ribs.now }
@@ -80,8 +81,8 @@ pub(crate) fn take_blocks(table: &mut Table, blocks: &mut [u32])
     }
 }
 
-/// How many ribs so many pointers ask for. A rib is a block with up to 126 pointers of a version: those for which its
-/// prime block, with the first 112, has no place. As many data blocks never ask for more.
+/// Returns how many ribs `pointers` pointers need. A rib is a block with up to 126 pointers of a version: those for
+/// which its prime block, with the first 112, has no place. That many data blocks never need more.
 pub fn rib_count(pointers: usize) -> usize
     ensures { result ≡ rib_count pointers }
 {
@@ -89,9 +90,9 @@ pub fn rib_count(pointers: usize) -> usize
     others.div_ceil(EXTENSION_POINTERS)
 }
 
-/// Takes the blocks that the retrieval blocks of a version will have: its prime block, which is answered, and
-/// its ribs, as many as its longest runs ask for. `ribs` is a list that was found for these, with a place for each, or
-/// more; what it holds isn't looked at.
+/// Takes the blocks that the retrieval blocks of a version will have: its prime block, which is returned, and
+/// its ribs, as many as its longest runs need. `ribs` is a list that was allocated for these, with a place for each,
+/// or more; its contents aren't read.
 pub fn take_retrieval_blocks(table: &mut Table, version: &mut Version, mut ribs: Vec<u32>) -> u32
     requires fixed { IsFixed table.old }
     requires enough { ribs_of version.old.blocks ≤ length ribs.items }
@@ -101,7 +102,7 @@ pub fn take_retrieval_blocks(table: &mut Table, version: &mut Version, mut ribs:
     ensures count { length version.new.ribs ≡ ribs_of version.new.blocks }
     ensures taken { Takes table.old (result ∷ version.new.ribs) table.new }
 {
-    let _booked = table.booked(); // which says that the table is sound
+    let _booked = table.booked(); // which states that the table is sound
     let at = table.take_block();
     ribs.truncate(rib_count(version.runs().len()));
     take_blocks(table, ribs.as_mut_slice());
@@ -114,14 +115,14 @@ pub fn take_retrieval_blocks(table: &mut Table, version: &mut Version, mut ribs:
 ///
 /// # Errors
 ///
-/// `Device` where the device failed; the blocks may then hold anything.
+/// `Device` if the device failed; the blocks may then hold anything.
 pub fn write_retrieval_blocks<D: Disk>(
     disk: &mut D,
     at: u32,
     prime: &Prime,
     version: &Version,
 ) -> Result<(), Fault>
-    // What the caller sees to.
+    // What the caller ensures.
     requires inside { AllByRecursion (λ n. n < (D.state disk.old).size) (at ∷ version.now.ribs) }
     requires apart { AreApart (at ∷ version.now.ribs) }
     requires nonzero { times 0 version.now.ribs ≡ 0 }
@@ -129,7 +130,7 @@ pub fn write_retrieval_blocks<D: Disk>(
     requires words { version.now.words ≤ 2097152 }
     requires enough { length version.now.blocks ≡ blocks_of version.now.words }
     requires fit { AllByRecursion (λ n. n < 2 ^ 18) version.now.blocks }
-    // What stands there then, in each layout that has the date.
+    // What is there then, in each layout that has the date.
     ensures written { (D.state disk.new).honest → (layout : ℕ) → prime.now.moment.date < date_limit layout
         → OnOk result (IsRetrieved layout (D.state disk.new).contents (with_length prime.now version.now.words)
         at version.now.ribs version.now.blocks) }
@@ -154,12 +155,12 @@ pub fn write_retrieval_blocks<D: Disk>(
     disk.write(at, &words)
 }
 
-/// Writes the retrieval blocks of a version: takes a prime block and the ribs that its blocks ask for from
-/// the table and writes them, by quiet writes alone. Answers the prime block.
+/// Writes the retrieval blocks of a version: takes a prime block and the ribs that its blocks need from
+/// the table and writes them, by quiet writes alone. Returns the prime block.
 ///
 /// # Errors
 ///
-/// `NoMemory` where the list of ribs finds no room, with nothing done; `Device` where the device failed,
+/// `NoMemory` if there is no memory for the list of ribs, with nothing done; `Device` if the device failed,
 /// with the blocks taken and holding anything.
 pub fn write_version<D: Disk>(
     alloc: Global,
@@ -177,7 +178,7 @@ pub fn write_version<D: Disk>(
     requires booked { used_in_space table.old + (1 + ribs_of version.old.blocks) ≤ table.old.booked }
     requires room { table.old.booked ≤ space table.old.size }
 
-    // What was written stands there in each layout that has the date, and is read back: `whole` and `reads` of
+    // What was written is there in each layout that has the date, and is read back: `whole` and `reads` of
     // `read_version`.
     ensures written { (D.state disk.new).honest → (layout : ℕ) → prime.now.moment.date < date_limit layout
         → IfOk result (λ n. IsRetrieved layout (D.state disk.new).contents (with_length prime.now version.new.words)
@@ -195,14 +196,14 @@ pub fn write_version<D: Disk>(
     ensures kept { version.new ≡ record version.old { ribs = version.new.ribs } }
     ensures count { OnOk result (length version.new.ribs ≡ ribs_of version.new.blocks) }
 
-    // The blocks taken were free, one after the other, also where the device failed.
+    // The blocks taken were free, one after the other, even if the device failed.
     ensures taken { IfOk result (λ n. Takes table.old (n ∷ version.new.ribs) table.new) }
     ensures own { IfOk result (λ n. AllByRecursion (λ k. IsFree table.old k × InSpace (D.state disk.old).size k)
         (n ∷ version.new.ribs)) }
     ensures apart { IfOk result (λ n. AreApart (n ∷ version.new.ribs)) }
     ensures left { IsErrOf result Device → (n : ℕ) × Takes table.old (n ∷ version.new.ribs) table.new }
 
-    // Nothing but blocks that were free is written, whatever the answer.
+    // Nothing except blocks that were free is written, whatever the result.
     ensures modified { (D.state disk.new).honest
         → Modifies (λ n. IsFree table.old n × InSpace (D.state disk.old).size n) (D.state disk.old) (D.state disk.new) }
     ensures memory { IsErrOf result NoMemory → (table.new ≡ table.old) × (version.new ≡ version.old)
@@ -214,10 +215,10 @@ pub fn write_version<D: Disk>(
     ensures failed { IsErrOf result Device → (D.state disk.new).failures ≡ one_more (D.state disk.old).failures }
     ensures served { (IsErrOf result Device → ⊥) → (D.state disk.new).failures ≡ (D.state disk.old).failures }
 {
-    // Memory first, so that a refused growth leaves everything alone.
+    // Memory first, so that a refused growth leaves everything unchanged.
     let ribs = vec![in alloc; 0; rib_count(version.runs().len())]?;
-    let _booked = table.booked(); // which says that the table is sound
-    let _place = (prime.ppn.word(), prime.file.ext.bits()); // which say that the place fits its words
+    let _booked = table.booked(); // which states that the table is sound
+    let _place = (prime.ppn.word(), prime.file.ext.bits()); // which state that the place fits its words
     let at = take_retrieval_blocks(table, version, ribs);
     match write_retrieval_blocks(disk, at, prime, version) {
         Ok(()) => Ok(at),

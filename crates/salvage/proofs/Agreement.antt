@@ -5,7 +5,7 @@ use Rattle.std.proofs.lemmas.Bool.{cases_lt}
 use Rattle.std.specs.Prelude.{if◌then◌else◌, ◌==◌}
 use Rattle.blockdisk.specs.Common.{Contents}
 use Rattle.spec_image.specs.declared.put.Put.{Put}
-use Rattle.spec_image.specs.Common.{File, Files, Home, IsHomeCopy, IsHome, AreImages, IsGateOpen, IsLog, with_puts}
+use Rattle.spec_image.specs.Common.{File, Files, SpecHome, IsHomeCopy, IsHome, AreImages, IsGateOpen, IsLog, with_puts}
 use Rattle.spec_image.specs.Common.{get, IsVolumeSize, log_start, table_blocks, table_start, DiskMap, HasMap, IsWhole}
 use Rattle.spec_image.specs.Common.{Stands, StoredDirectory, place_of, reaches, IsFileEntry, IsMasterEntry}
 use Rattle.spec_image.specs.Common.{file_words, master_words, bit_in}
@@ -16,7 +16,7 @@ abbrev pub Agree : ℕ → Contents → Contents → Type 0
 Agree size c d = (n : ℕ) → n < size → d n ≡ c n
 
 module _ (size : ℕ) (c d : Contents) (agree : Agree size c d) where
-  home_copy : (n : ℕ) (home : Home) → n < size → IsHomeCopy size c n home → IsHomeCopy size d n home
+  home_copy : (n : ℕ) (home : SpecHome) → n < size → IsHomeCopy size c n home → IsHomeCopy size d n home
   home_copy n home inside h = record {
     words = agree n inside ∙ h.words;
     layout = h.layout;
@@ -24,7 +24,7 @@ module _ (size : ℕ) (c d : Contents) (agree : Agree size c d) where
     master_below = h.master_below;
   }
 
-  home_back : (n : ℕ) (home : Home) → n < size → IsHomeCopy size d n home → IsHomeCopy size c n home
+  home_back : (n : ℕ) (home : SpecHome) → n < size → IsHomeCopy size d n home → IsHomeCopy size c n home
   home_back n home inside h = record {
     words = sym (agree n inside) ∙ h.words;
     layout = h.layout;
@@ -32,7 +32,7 @@ module _ (size : ℕ) (c d : Contents) (agree : Agree size c d) where
     master_below = h.master_below;
   }
 
-  home_agrees : IsVolumeSize size → (home : Home) → IsHome size c home → IsHome size d home
+  home_agrees : IsVolumeSize size → (home : SpecHome) → IsHome size c home → IsHome size d home
   home_agrees volume home (inl h) = inl (home_copy 1 home (let low = volume.small in omega arith) h)
   home_agrees volume home (inr h) = inr (
     λ other is. h.0 other (home_back 1 other (let low = volume.small in omega arith) is),

@@ -5,8 +5,8 @@ use Rattle.std.specs.FinMap.Entries.{find}
 use Rattle.std.specs.List.{AllByRecursion}
 use Rattle.words36.specs.declared.names.FileName.{FileName}
 use Rattle.blockdisk.specs.Common.{Contents}
-use Rattle.spec_image.specs.Common.{head_or_zero, Node, items, numbers, first_of, MasterEntry, master_words}
-use Rattle.spec_image.specs.Common.{FileEntry, file_words, IsFileEntry, InSpace, IsMasterEntryOf, name_cmp, IsHome}
+use Rattle.spec_image.specs.Common.{head_or_zero, Node, items, numbers, first_of, SpecMasterEntry, master_words}
+use Rattle.spec_image.specs.Common.{SpecFileEntry, file_words, IsFileEntry, InSpace, IsMasterEntryOf, name_cmp, IsHome}
 use Rattle.spec_image.specs.Common.{times, IsVolumeSize, place_of, LeadsAlong, IsDirectoryNamed, IsFileNamed}
 use Rattle.spec_image.proofs.Common.{items-append, head-numbers, TellsApart, each_entry, name_total, walk_of_chain}
 use Rattle.spec_image.proofs.Common.{find_front}
@@ -34,7 +34,7 @@ module _ {K V : Type 0} {R : K → K → Ordering} (words : K × V → List ℕ)
       ap (λ (es : List (K × V)). find R k es) all ∙ find_front R (items nodes) (items w.0) k v found
 
 -- Each entry of a directory's chain names its file.
-pub files_named : (size layout : ℕ) (contents : Contents) (ppn word first : ℕ) (chain : ChainState FileEntry)
+pub files_named : (size layout : ℕ) (contents : Contents) (ppn word first : ℕ) (chain : ChainState SpecFileEntry)
     → IsDirectoryNamed size contents layout ppn word first → IsChain name_cmp IsFileEntry chain
     → LeadsAlong file_words contents first (nodes_of chain.blocks chain.entries) 0
     → AllByRecursion (IsNamedIn size layout contents ppn) chain.entries
@@ -44,20 +44,20 @@ files_named size layout contents ppn word first chain named is walk = each_entry
       nodes = nodes_of chain.blocks chain.entries;
       last = 0;
       walk = record { word = word; first = first; named = named; walk = walk };
-      entry = ap (λ (es : List FileEntry). find name_cmp name es) (chain_items file_words IsFileEntry chain is) ∙ found;
+      entry = ap (λ (es : List SpecFileEntry). find name_cmp name es) (chain_items file_words IsFileEntry chain is) ∙ found;
     })
 
 -- Each entry of the master directory's chain names its directory.
-pub directories_named : (size layout : ℕ) (contents : Contents) (first : ℕ) (chain : ChainState MasterEntry)
+pub directories_named : (size layout : ℕ) (contents : Contents) (first : ℕ) (chain : ChainState SpecMasterEntry)
     → IsVolumeSize size → IsHome size contents (home_in layout first) → IsChain nat_cmp (IsMasterEntryOf 2) chain
     → LeadsAlong master_words contents first (nodes_of chain.blocks chain.entries) 0
-    → AllByRecursion (λ (e : MasterEntry). IsDirectoryNamed size contents layout e.0 e.1.0 e.1.1) chain.entries
+    → AllByRecursion (λ (e : SpecMasterEntry). IsDirectoryNamed size contents layout e.0 e.1.0 e.1.1) chain.entries
 directories_named size layout contents first chain volume home is walk = each_entry nat_cmp_total
     (λ (ppn : ℕ) (x : ℕ × ℕ). IsDirectoryNamed size contents layout ppn x.0 x.1) chain.entries is.each_once
     (λ ppn x found. record {
       nodes = nodes_of chain.blocks chain.entries;
       last = 0;
       walk = record { volume = volume; master = first; home = home; walk = walk };
-      entry = ap (λ (es : List MasterEntry). find nat_cmp ppn es)
+      entry = ap (λ (es : List SpecMasterEntry). find nat_cmp ppn es)
           (chain_items master_words (IsMasterEntryOf 2) chain is) ∙ found;
     })

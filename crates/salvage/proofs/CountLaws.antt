@@ -9,7 +9,7 @@ use Rattle.std.proofs.lemmas.List.{get_or_past, length-replicate}
 use Rattle.spec_image.specs.Common.{times}
 use Rattle.spec_image.proofs.Common.{times-append, total-append}
 use Rattle.changeset.specs.Common.{times_head, times_tail}
-use Rattle.volume.proofs.common.Marking.{times_parts}
+use Rattle.volume.proofs.common.MarkedBlocks.{times_parts}
 use Rattle.salvage.specs.Common.{CountTo, FitsDisk, blocks_of, claims}
 use Rattle.salvage.specs.declared.saved.SavedFile.{SavedFile}
 
@@ -52,7 +52,7 @@ times_more blocks i b below is m = ap (times m)
 pub times_all : (blocks : List ℕ) (i : ℕ) → length blocks ≤ i → (m : ℕ) → times m blocks ≡ times m (take i blocks)
 times_all blocks i past m = ap (times m) (sym (take_all i blocks past))
 
--- Those before a place stand once, and the one at the place does.
+-- Those before a place occur once, and so does the one at the place.
 pub alone_more : (counts blocks : List ℕ) (i b : ℕ) → i < length blocks → b ≡ get_or blocks i 0
     → slice_index counts b ≡ 1 → ((n : ℕ) → 0 < times n (take i blocks) → slice_index counts n ≡ 1) → (n : ℕ)
     → 0 < times n (take (i + 1) blocks) → slice_index counts n ≡ 1
@@ -82,7 +82,7 @@ pub claims_all : (files : List SavedFile) (i : ℕ) → length files ≤ i → (
     → claims files m ≡ claims (take i files) m
 claims_all files i past m = ap (λ (l : List SavedFile). claims l m) (sym (take_all i files past))
 
--- All blocks of a file stand once if those of its parts do.
+-- All blocks of a file occur once if those of its parts do.
 pub alone_parts : (counts : List ℕ) (at : ℕ) (ribs blocks : List ℕ) → slice_index counts at ≡ 1
     → ((n : ℕ) → 0 < times n ribs → slice_index counts n ≡ 1)
     → ((n : ℕ) → 0 < times n blocks → slice_index counts n ≡ 1) → (n : ℕ)

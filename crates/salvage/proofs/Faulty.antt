@@ -1,4 +1,4 @@
--- What is told of a file stands in the contents.
+-- What is reported of a file is there in the contents.
 use Rattle.std.proofs.Common.{◌≡◌, ℕ, zero, suc, ◌<◌, ◌≤◌, true, false, List, [], ◌∷◌, slice_index, refl, arith}
 use Rattle.std.specs.List.{AllByRecursion}
 use Rattle.blockdisk.specs.Common.{Contents}
@@ -10,9 +10,9 @@ use Rattle.salvage.specs.Common.{CountTo, IsFinding, Concerns, ConcernsUnnamed, 
 use Rattle.salvage.specs.Common.{IsRead, blocks_of, claims, place_in, loss_of, IsBlamed}
 use Rattle.salvage.specs.declared.saved.SavedFile.{SavedFile}
 use Rattle.spec_image.proofs.Common.{each_times}
-use Rattle.directory.proofs.Gathering.{all_of}
+use Rattle.directory.proofs.GatheredEntries.{all_of}
 
--- A block stands in the files as often as in one of them, or more.
+-- A block is in the files as often as in one of them, or more.
 pub claims_each : (files : List SavedFile)
     → AllByRecursion (λ file. (n : ℕ) → times n (blocks_of file) ≤ claims files n) files
 claims_each [] = tt
@@ -23,7 +23,7 @@ claims_each (x ∷ xs) = (
       (λ file few n. let e = few n in omega arith) (claims_each xs),
 )
 
--- A block of a file that wasn't counted once stands twice in the files.
+-- A block of a file that wasn't counted exactly once is twice in the files.
 pub stands_twice : (counts : List ℕ) (files : List SavedFile) (n here : ℕ) → here ≤ claims files n → 0 < here
     → CountTo counts (claims files) → (slice_index counts n ≡ 1 → ⊥) → 2 ≤ claims files n
 stands_twice counts files n here few some counted shared = by (claims files n) refl

@@ -1,11 +1,11 @@
--- Blocks that are looked at one after the other, and the files that stand there.
+-- Blocks that are checked one after the other, and the files that are there.
 use Rattle.std.proofs.Common.{◌≡◌, ⊎_elim, ℕ, ◌+◌, ◌<◌, ◌≤◌, ◌^◌, List, [], ◌∷◌, ◌++◌, map, Option, None, Some}
 use Rattle.std.proofs.Common.{IsSome, slice_index, refl, sym, ap, subst, ◌∙◌, arith}
 use Rattle.std.specs.List.{AllByRecursion}
 use Rattle.std.proofs.lemmas.Bool.{cases_eq}
 use Rattle.std.proofs.lemmas.List.{get_or_past}
 use Rattle.blockdisk.specs.Common.{Contents}
-use Rattle.spec_image.specs.Common.{InSpace, times, Prime, IsRetrieved, table_start}
+use Rattle.spec_image.specs.Common.{InSpace, times, SpecPrime, IsRetrieved, table_start}
 use Rattle.spec_image.proofs.Common.{times-append, all_append, each_times}
 use Rattle.changeset.specs.Common.{times_tail}
 use Rattle.alloctab.specs.Common.{digit, IsBadTableBlock, IsTableOf, TableState, IsTable, bit}
@@ -14,7 +14,7 @@ use Rattle.salvage.specs.Common.{CountTo, AreFound, IsCandidate, IsInUse, IsRead
 use Rattle.salvage.specs.Common.{IsAmong, IsRead, claims, place_in, MayBeUsed, IsScanned}
 use Rattle.salvage.specs.declared.saved.SavedFile.{SavedFile}
 use Rattle.salvage.proofs.Members.{contains_here, contains_left, contains_right, map_behind}
-use Rattle.directory.proofs.Gathering.{all_of}
+use Rattle.directory.proofs.GatheredEntries.{all_of}
 
 -- One block.
 
@@ -36,8 +36,8 @@ module _ (size layout : ℕ) (contents : Contents) (n : ℕ) (inside : InSpace s
     ext_fits = read.ext_fits;
   }
 
-  -- No version stands there.
-  pub nothing_here : (old ≡ old ++ []) → ((p : Prime) (ribs blocks : List ℕ)
+  -- No version is there.
+  pub nothing_here : (old ≡ old ++ []) → ((p : SpecPrime) (ribs blocks : List ℕ)
       → IsStandingVersion size contents layout n p ribs blocks → ⊥) → IsReadAt size layout contents n old old
   nothing_here same none = record {
     found = [];
@@ -49,9 +49,9 @@ module _ (size layout : ℕ) (contents : Contents) (n : ℕ) (inside : InSpace s
         file.stored.version.ribs file.stored.version.blocks (standing file at read));
   }
 
-  -- One does, and was read.
+  -- One is, and was read.
   pub one_here : (file : SavedFile) (new : List SavedFile) → new ≡ old ++ file ∷ [] → file.at ≡ n
-      → IsRead size layout contents file → ((p : Prime) (ribs blocks : List ℕ)
+      → IsRead size layout contents file → ((p : SpecPrime) (ribs blocks : List ℕ)
       → IsRetrieved layout contents p n ribs blocks → p.place.name.ext < 2 ^ 18
       → IsReadAs p ribs blocks file.stored.prime file.stored.version) → IsReadAt size layout contents n old new
   one_here file new is at read reads = record {
@@ -68,7 +68,7 @@ module _ (size layout : ℕ) (contents : Contents) (n : ℕ) (inside : InSpace s
           file = file;
           among = contains_here file [];
           at_is = at;
-          place_is = ap (λ (p : Prime). p.place) as_read.prime_is;
+          place_is = ap (λ (p : SpecPrime). p.place) as_read.prime_is;
         };
   }
     where
@@ -93,7 +93,7 @@ may_be_used size contents (Some table) n read unheld used = ⊎_elim
     (λ set clear. let is = read.bits_are n in omega arith)
     (λ bad. absurd (past_table size contents table bad.0 read unheld.0 unheld.1 bad.1)) used
 
--- Behind the blocks before it.
+-- After the blocks before it.
 
 none_at : (m : ℕ) (files : List SavedFile) → AllByRecursion (λ file. file.at ≡ m → ⊥) files
     → times m (map (λ file. file.at) files) ≡ 0
@@ -181,7 +181,7 @@ module _ (size layout : ℕ) (contents : Contents) (counts : List ℕ) (files : 
             place_is = there.place_is;
           }) (cases_eq file.at n)
 
--- All blocks were looked at.
+-- All blocks were checked.
 pub all_scanned : (size layout : ℕ) (contents : Contents) (counts : List ℕ) (named files : List SavedFile)
     → CountTo counts (claims named) → AreFound size layout contents counts files size
     → IsScanned size layout contents named files

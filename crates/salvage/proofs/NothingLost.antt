@@ -8,7 +8,7 @@ use Rattle.std.specs.List.{AllByRecursion}
 use Rattle.words36.specs.declared.names.FileName.{FileName}
 use Rattle.blockdisk.specs.Common.{Contents}
 use Rattle.spec_image.specs.Common.{head_or_zero, Node, numbers, first_of, items, IsSpelled, master_words, file_words}
-use Rattle.spec_image.specs.Common.{IsBadRetrieval, File, Files, Directory, Place, name_cmp, Home, IsHome}
+use Rattle.spec_image.specs.Common.{IsBadRetrieval, File, Files, Directory, Place, name_cmp, SpecHome, IsHome}
 use Rattle.spec_image.specs.Common.{layout_number, FinMap, get, times, prime_of, IsRetrieved, HasBody, StoredFile}
 use Rattle.spec_image.specs.Common.{StoredDirectory, DiskMap, HasMap, SettledStands, directory_of, place_of, entry_of}
 use Rattle.spec_image.specs.Common.{home_of, reaches, reaches_in_directory, reaches_in_file, LeadsAlong}
@@ -30,7 +30,7 @@ use Rattle.salvage.specs.declared.saved.SavedFile.{SavedFile}
 use Rattle.salvage.specs.declared.survey.Survey.{Survey}
 use Rattle.salvage.specs.declared.finding.Cost.{Cost}
 use Rattle.salvage.specs.declared.finding.Finding.{Finding}
-use Rattle.salvage.proofs.Carrying.{element_has}
+use Rattle.salvage.proofs.CarriedFacts.{element_has}
 use Rattle.salvage.proofs.SavedFiles.{blocks_at}
 use Rattle.spec_image.specs.Faults as faults
 use Rattle.salvage.specs.declared.finding.Cost.TheVariants as cost
@@ -173,7 +173,7 @@ module _ (size : ℕ) (contents : Contents) (m : DiskMap) (s : HasMap size conte
           let one = once size contents m s.marked n in
           omega arith
 
-  -- So no block stands twice in files that were read.
+  -- So no block is twice in files that were read.
   claimed_once : (layout : ℕ) (files : List SavedFile) → AllByRecursion (IsNamedRead size layout contents) files
       → AreApart files → (n : ℕ) → claims files n ≤ 1
   claimed_once layout [] all apart n = omega arith
@@ -195,7 +195,7 @@ module _ (size : ℕ) (contents : Contents) (m : DiskMap) (s : HasMap size conte
           omega arith
       by (suc k) some rest = let none = unshared layout f files n is all.1 others (omega arith) in omega arith
 
-  -- No finding stands that costs a named file.
+  -- There is no finding that costs a named file.
 
   no_file_fault : (layout : ℕ) (place : Place) (fault : VolumeError) → IsFaultOf size layout contents place fault → ⊥
   no_file_fault layout place fault met = by fault met.concerns
@@ -365,7 +365,7 @@ module _ (size : ℕ) (contents : Contents) (m : DiskMap) (s : HasMap size conte
 -- Each file of contents that stand is saved.
 pub all_saved : (size layout : ℕ) (contents : Contents) (files : Files File) (saved : List SavedFile)
     (findings : List Finding) → IsSurveyed size layout contents saved findings
-    → ((home : Home) → IsHome size contents home → layout ≡ home.layout)
+    → ((home : SpecHome) → IsHome size contents home → layout ≡ home.layout)
     → SettledStands size contents files → AreAllSaved contents saved files
 all_saved size layout contents files saved findings survey layout_is stands ppn directory name file at has =
     let m = stands.0 in
@@ -383,7 +383,7 @@ all_saved size layout contents files saved findings survey layout_is stands ppn 
 pub all_saved_on : {E : Type 0} (size : ℕ) (contents : Contents) (files : Files File) (result : Result Survey E)
     → IfOk result (λ (survey : Survey). IsSurveyed size (layout_number survey.layout) contents survey.files.items
     survey.findings.items)
-    → ((home : Home) → IsHome size contents home
+    → ((home : SpecHome) → IsHome size contents home
     → IfOk result (λ (survey : Survey). layout_number survey.layout ≡ home.layout))
     → SettledStands size contents files
     → IfOk result (λ (survey : Survey). AreAllSaved contents survey.files.items files)

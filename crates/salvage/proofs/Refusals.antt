@@ -1,9 +1,9 @@
--- A reader that is refused has met a fault that stands, if the disk and memory served it.
+-- A reader that is refused has met a fault that is there, if the disk and memory served it.
 use Rattle.std.proofs.Common.{◌≡◌, ◌⊎◌, inl, inr, ⊎_elim, ℕ, Bool, List, [], Result, Err, IfErr, IsErrOf, refl, sym}
 use Rattle.std.proofs.Common.{ap, subst, ◌∙◌, arith, nat_cmp, zero, suc, false, replicate}
 use Rattle.blockdisk.specs.Common.{Contents}
 use Rattle.spec_image.specs.Common.{master_words, file_words, IsFileEntry, InSpace, IsBadVersion, IsMasterEntryOf}
-use Rattle.spec_image.specs.Common.{IsNotVolume, IsBadHome, name_cmp, Home, IsHome, layout_number, IsVolumeSize}
+use Rattle.spec_image.specs.Common.{IsNotVolume, IsBadHome, name_cmp, SpecHome, IsHome, layout_number, IsVolumeSize}
 use Rattle.spec_image.specs.Common.{place_of, IsDirectoryNamed, IsFileNamed}
 use Rattle.spec_image.specs.declared.layout.Layout.{Layout}
 use Rattle.words36.specs.declared.names.FileName.{FileName}
@@ -15,14 +15,14 @@ use Rattle.volume.specs.declared.error.VolumeError.{VolumeError}
 use Rattle.volume.specs.declared.error.VolumeError.TheVariants.{NotVolume, BadHome, BadLog, BadDirectory}
 use Rattle.volume.specs.declared.error.VolumeError.TheVariants.{BadRetrieval, BlockTwice, TableWrong, Device}
 use Rattle.volume.specs.declared.error.VolumeError.TheVariants.{NoMemory, Failed, BadData}
-use Rattle.volume.proofs.VolumeStart.Finding.{refusal}
+use Rattle.volume.proofs.VolumeStart.FileFaults.{refusal}
 use Rattle.volume.proofs.VolumeStart.Quotas.{chain_carries}
 use Rattle.salvage.specs.Common.{IsFaultAt, IsChainRefusal, IsNoFault, MayRefuse}
 use Rattle.salvage.specs.declared.finding.Cost.{Cost}
 use Rattle.directory.specs.declared.error.DirectoryError.TheVariants as directory
 use Rattle.salvage.specs.declared.finding.Cost.TheVariants as cost
 
--- A fault that isn't want of memory or of the device stands.
+-- A fault that isn't want of memory or of the device is there.
 pub fault_stands : (size layout : ℕ) (contents : Contents) (costs : Cost) (error : VolumeError)
     → MayRefuse size layout contents costs error → (IsNoFault error → ⊥) → IsFaultAt size layout contents error costs
 fault_stands size layout contents costs error refused fault = ⊎_elim (λ none. absurd (fault none)) (λ stands. stands)
@@ -140,7 +140,7 @@ pub no_home : {T : Type 0} (size : ℕ) (contents : Contents) (result : Result T
     → result ≡ Err error → (IsNoFault error → ⊥) → IsVolumeSize size
     → ((e : VolumeError) → result ≡ Err e → (e ≡ NotVolume) ⊎ (e ≡ BadHome) ⊎ (e ≡ Device))
     → (result ≡ Err NotVolume → IsNotVolume size contents) → (result ≡ Err BadHome → IsBadHome size contents)
-    → (home : Home) → IsHome size contents home → ⊥
+    → (home : SpecHome) → IsHome size contents home → ⊥
 no_home size contents result error is fault volume only not_volume bad home copy = ⊎_elim
     (λ met. unnamed (not_volume (is ∙ ap Err met)) copy)
     (λ some. ⊎_elim (λ met. invalid (bad (is ∙ ap Err met)) copy) (λ met. fault (inl met)) some) (only error is)

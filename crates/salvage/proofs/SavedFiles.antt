@@ -6,7 +6,7 @@ use Rattle.std.proofs.lemmas.List.{map-append}
 use Rattle.std.proofs.lemmas.List.Elements.{Contains-append_left, Contains-push}
 use Rattle.std.specs.List.{AllByRecursion}
 use Rattle.blockdisk.specs.Common.{Contents}
-use Rattle.spec_image.specs.Common.{Place, times, Prime, prime_block, first_extension}
+use Rattle.spec_image.specs.Common.{Place, times, SpecPrime, prime_block, first_extension}
 use Rattle.spec_image.proofs.Common.{some_same, times-append, times_other, prime_ext_same, prime_same}
 use Rattle.retrieval.specs.Common.{with_length, IsVersionAt}
 use Rattle.volume.specs.declared.error.VolumeError.{VolumeError}
@@ -15,12 +15,12 @@ use Rattle.salvage.specs.declared.saved.SavedFile.{SavedFile}
 use Rattle.salvage.specs.declared.finding.Cost.{Cost}
 use Rattle.salvage.specs.declared.finding.Finding.{Finding}
 
--- What stands at a prime block says of which place it is.
+-- What is at a prime block says of which place it is.
 pub same_place : (size layout : ℕ) (contents : Contents) (f g : SavedFile) → IsRead size layout contents f
     → IsRead size layout contents g → f.at ≡ g.at → place_in f ≡ place_in g
 same_place size layout contents f g read other at =
-    let p : Prime = with_length f.stored.prime f.stored.version.words in
-    let q : Prime = with_length g.stored.prime g.stored.version.words in
+    let p : SpecPrime = with_length f.stored.prime f.stored.version.words in
+    let q : SpecPrime = with_length g.stored.prime g.stored.version.words in
     let a = read.retrieved in
     let moved : IsVersionAt size contents layout f.at g.stored.prime g.stored.version = subst
     (λ (n : ℕ). IsVersionAt size contents layout n g.stored.prime g.stored.version) (sym at) other in
@@ -31,7 +31,7 @@ same_place size layout contents f g read other at =
     let small' = other.ext_fits in
     let exts = prime_ext_same layout p q a.runs b.runs (first_extension a.further) (first_extension b.further)
     a.fits b.fits (omega arith) (omega arith) words in
-    ap (λ (x : Prime). x.place) (prime_same layout p q a.runs b.runs (first_extension a.further)
+    ap (λ (x : SpecPrime). x.place) (prime_same layout p q a.runs b.runs (first_extension a.further)
     (first_extension b.further) a.fits b.fits exts words)
 
 -- Files at different blocks.
@@ -82,7 +82,7 @@ apart_both xs ys a b others n =
     let few' = b n in
     ⊎_elim (λ none. omega arith) (λ none. omega arith) (elsewhere xs ys n others)
 
--- What was saved and what was told, with more behind it.
+-- What was saved and what was reported, with more after it.
 
 -- each file among the old ones is among the new ones, and what the old findings cost the new ones do
 pub record Grows (files : List SavedFile) (findings : List Finding) (files' : List SavedFile)

@@ -10,9 +10,9 @@ use Rattle.salvage.specs.Common.{claims, IsLostBy, loss_of, IsSound, Judges, Are
 use Rattle.salvage.specs.declared.saved.SavedFile.{SavedFile}
 use Rattle.salvage.specs.declared.finding.Finding.{Finding}
 use Rattle.salvage.proofs.Faulty.{claims_each, named_fault, unnamed_fault}
-use Rattle.salvage.proofs.Judging.{judged_all, judged_each, judged_few, judged_told, sound_once}
+use Rattle.salvage.proofs.JudgedFiles.{judged_all, judged_each, judged_few, judged_told, sound_once}
 use Rattle.salvage.proofs.Members.{all_both, all_three, contains_left, contains_right}
-use Rattle.directory.proofs.Gathering.{all_of}
+use Rattle.directory.proofs.GatheredEntries.{all_of}
 
 module _ (size layout : ℕ) (contents : Contents) (named unnamed files now new : List SavedFile)
     (findings found told : List Finding) (counts counts' : List ℕ)
@@ -66,7 +66,7 @@ module _ (size layout : ℕ) (contents : Contents) (named unnamed files now new 
       (sound_once contents counts' false n (IsRead size layout contents) second.taken unnamed_sound))
       (sound_once contents counts true n (IsNamedRead size layout contents) first.taken named_sound)
 
-  -- what is lost by a part of what was told
+  -- what is lost by a part of what was reported
   lost_in : (here : List Finding) (file : SavedFile) (is_named : Bool)
       → ((finding : Finding) → Contains here finding → Contains told finding)
       → IsLostBy here (loss_of is_named file) → IsLostBy told (loss_of is_named file)

@@ -1,4 +1,4 @@
--- What directories name, once all were read.
+-- What directories name, after all were read.
 use Rattle.std.proofs.Common.{◌≡◌, ◌⊎◌, inl, inr, ⊎_elim, ℕ, List, [], ◌∷◌, Some, sym, ap, subst, ◌∙◌, arith, nat_cmp}
 use Rattle.std.proofs.Common.{◌++◌, Result, OnOk}
 use Rattle.std.specs.Cmp.{nat_cmp_total}
@@ -7,7 +7,7 @@ use Rattle.std.specs.FinMap.Entries.{find}
 use Rattle.std.specs.List.{AllByRecursion}
 use Rattle.words36.specs.declared.names.FileName.{FileName}
 use Rattle.blockdisk.specs.Common.{Contents}
-use Rattle.spec_image.specs.Common.{head_or_zero, MasterEntry, master_words, InSpace, IsMasterEntryOf, IsHome}
+use Rattle.spec_image.specs.Common.{head_or_zero, SpecMasterEntry, master_words, InSpace, IsMasterEntryOf, IsHome}
 use Rattle.spec_image.specs.Common.{place_of, LeadsAlong, IsFileNamed}
 use Rattle.spec_image.proofs.Common.{master_apart, home_same, found_holds}
 use Rattle.directory.specs.Common.{ChainState, IsChain, IsOn}
@@ -17,7 +17,7 @@ use Rattle.salvage.specs.Common.{IsFaultAt, IsNoFault, IsReadTo, IsToldDirectory
 use Rattle.salvage.specs.Common.{IsNamedLoss, IsTree}
 use Rattle.salvage.specs.declared.saved.SavedFile.{SavedFile}
 use Rattle.salvage.specs.declared.finding.Finding.{Finding}
-use Rattle.salvage.proofs.Carrying.{on_ok_both}
+use Rattle.salvage.proofs.CarriedFacts.{on_ok_both}
 use Rattle.salvage.proofs.ChainsRead.{walked_entries}
 use Rattle.salvage.proofs.Refusals.{fault_stands}
 use Rattle.salvage.proofs.SavedFiles.{lost_here}
@@ -46,7 +46,7 @@ none_read size layout contents fault stands = record {
 }
 
 -- The directories of the whole chain of the master directory were read.
-module _ (size layout : ℕ) (contents : Contents) (first : ℕ) (chain : ChainState MasterEntry)
+module _ (size layout : ℕ) (contents : Contents) (first : ℕ) (chain : ChainState SpecMasterEntry)
     (files : List SavedFile) (findings : List Finding) (home : IsHome size contents (home_in layout first))
     (is : IsChain nat_cmp (IsMasterEntryOf 2) chain) (on : IsOn master_words contents chain)
     (begins : head_or_zero chain.blocks ≡ first) (inside : AllByRecursion (InSpace size) chain.blocks)

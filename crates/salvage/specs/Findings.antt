@@ -3,7 +3,8 @@ use Rattle.std.specs.Prelude.{◌≡◌, ℕ, ◌<◌, ◌≤◌, ◌⊎◌, ◌
 use Rattle.std.specs.List.{AllByRecursion}
 use Rattle.blockdisk.specs.Common.{Contents}
 use Rattle.spec_image.specs.Common.{file_words, master_words, InSpace, IsBadHome, IsBadMasterBlock, IsBadVersion}
-use Rattle.spec_image.specs.Common.{IsNotVolume, Place, IsHome, times, Prime, IsRetrieved, place_of, IsDirectoryNamed}
+use Rattle.spec_image.specs.Common.{IsNotVolume, Place, IsHome, times, SpecPrime, IsRetrieved, place_of}
+use Rattle.spec_image.specs.Common.{IsDirectoryNamed}
 use Rattle.spec_image.specs.Common.{IsFileNamed}
 use Rattle.alloctab.specs.Common.{IsBadTableBlock}
 use Rattle.directory.specs.Common.{IsTwiceInChain}
@@ -19,23 +20,23 @@ use Rattle.salvage.specs.declared.finding.Cost.TheVariants as cost
 
 -- Files that directories name.
 
--- A file of this place stands at a prime block, and block n is one of its blocks.
+-- A file of this place is at a prime block, and block n is one of its blocks.
 pub record HasBlock (layout : ℕ) (contents : Contents) (place : Place) (prime n : ℕ) : Type 0 where
-  pub p : Prime
+  pub p : SpecPrime
   pub extensions : List ℕ
   pub blocks : List ℕ
   pub place_is : p.place ≡ place
   pub retrieved : IsRetrieved layout contents p prime extensions blocks
   pub among : 0 < times n (prime ∷ (extensions ++ blocks))
 
--- Block n stands twice in files that directories name.
+-- Block n occurs twice in files that directories name.
 pub record IsNamedTwice (size layout : ℕ) (contents : Contents) (n : ℕ) : Type 0 where
   pub files : List SavedFile
   pub named : AllByRecursion (IsNamedRead size layout contents) files
   pub apart : AreApart files
   pub twice : 2 ≤ claims files n
 
--- The fault stands, and it concerns the file of a place whose directory names this prime block.
+-- The fault is there, and it concerns the file of a place whose directory names this prime block.
 abbrev pub Concerns : ℕ → ℕ → Contents → Place → ℕ → VolumeError → Type 0
 Concerns size layout contents place prime (BadRetrieval n) = InSpace size n
     × (IsBadVersion size contents layout prime n ⊎ ((n ≡ prime) × IsOtherPlace layout contents place prime))
@@ -53,7 +54,7 @@ pub record IsFaultOf (size layout : ℕ) (contents : Contents) (place : Place) (
 
 -- Files that no directory names.
 
--- Block n stands twice in files whose retrieval blocks are whole.
+-- Block n occurs twice in files whose retrieval blocks are whole.
 pub record IsReadTwice (size layout : ℕ) (contents : Contents) (n : ℕ) : Type 0 where
   pub files : List SavedFile
   pub read : AllByRecursion (IsRead size layout contents) files
@@ -89,7 +90,7 @@ pub record IsFaultOfDirectory (size layout : ℕ) (contents : Contents) (ppn : �
   pub named : IsDirectoryNamed size contents layout ppn word first
   pub concerns : IsFaultOfChain size contents first fault
 
--- The master directory comes to a block that it had before.
+-- The master directory reaches a block that it reached before.
 pub record IsMasterTwice (size layout : ℕ) (contents : Contents) (n : ℕ) : Type 0 where
   pub first : ℕ
   pub home : IsHome size contents (home_in layout first)
@@ -106,12 +107,12 @@ IsFaultOfMaster size layout contents fault = ⊥
 
 -- All of them.
 
--- The fault stands, and costs no file.
+-- The fault is there, and costs no file.
 abbrev pub IsFaultOfTable : ℕ → Contents → VolumeError → Type 0
 IsFaultOfTable size contents (TableWrong n) = IsBadTableBlock size contents n
 IsFaultOfTable size contents fault = ⊥
 
--- The fault stands in these contents, and costs this.
+-- The fault is in these contents, and costs this.
 abbrev pub IsFaultAt : ℕ → ℕ → Contents → VolumeError → Cost → Type 0
 IsFaultAt size layout contents fault (cost.File ppn name) = IsFaultOf size layout contents (place_of ppn name) fault
 IsFaultAt size layout contents fault (cost.Unnamed ppn name) = IsFaultOfUnnamed size layout contents (place_of ppn name)

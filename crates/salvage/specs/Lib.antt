@@ -1,10 +1,10 @@
 pub mod Copies
 pub mod Saved
-pub mod Counting
+pub mod BlockCounts
 pub mod Findings
 pub mod Surveys
 pub mod Trees
-pub mod Reading
-pub mod Taking
-pub mod Looking
+pub mod TreeRead
+pub mod TakenFiles
+pub mod ScannedBlocks
 pub mod Common

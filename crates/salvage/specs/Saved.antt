@@ -31,18 +31,18 @@ pub record IsWholeFile (size layout : ℕ) (contents : Contents) (file : SavedFi
   pub undamaged : AllByRecursion (IsWholeBlock contents) file.stored.version.blocks
 
 -- It fits a disk of this size, whatever its blocks hold: its blocks lie in the free space, and are as many as its
--- length asks for.
+-- length requires.
 pub record FitsDisk (size : ℕ) (file : SavedFile) : Type 0 where
   pub at_inside : InSpace size file.at
   pub ribs_inside : AllByRecursion (InSpace size) file.stored.version.ribs
   pub blocks_inside : AllByRecursion (InSpace size) file.stored.version.blocks
   pub counted : length file.stored.version.blocks ≡ words_blocks file.stored.version.words
 
--- how often a block stands in these files
+-- how often a block occurs in these files
 abbrev pub claims : List SavedFile → ℕ → ℕ
 claims files n = total (λ file. times n (blocks_of file)) files
 
--- No two of them stand at the same prime block.
+-- No two of them are at the same prime block.
 abbrev pub AreApart : List SavedFile → Type 0
 AreApart files = (n : ℕ) → times n (map (λ file. file.at) files) ≤ 1
 

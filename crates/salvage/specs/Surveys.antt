@@ -29,7 +29,7 @@ IsNamedLoss findings ppn name = IsLostBy findings (cost.File ppn name) ⊎ IsLos
 abbrev pub MayBeUsed : ℕ → Contents → ℕ → Type 0
 MayBeUsed size contents n = (table_bit size contents n ≡ 1) ⊎ ((t : ℕ) × IsBadTableBlock size contents t)
 
--- Block n stands in a file that a directory names and whose retrieval blocks are whole.
+-- Block n is in a file that a directory names and whose retrieval blocks are whole.
 pub record IsNamedBlock (size layout : ℕ) (contents : Contents) (n : ℕ) : Type 0 where
   pub file : SavedFile
   pub named : IsNamedRead size layout contents file
@@ -40,12 +40,12 @@ pub record IsSurveyed (size layout : ℕ) (contents : Contents) (files : List Sa
   -- each file is whole, and no block is in two of them
   pub whole : AllByRecursion (IsWholeFile size layout contents) files
   pub once : (n : ℕ) → claims files n ≤ 1
-  -- each fault stands
+  -- each fault is there
   pub stand : AllByRecursion (IsFinding size layout contents) findings
-  -- a file that a directory names is there, or a fault costs it
+  -- a file that a directory names is found, or a fault costs it
   pub named : (ppn : ℕ) (name : FileName) (prime : ℕ) → IsFileNamed size contents layout (place_of ppn name) prime
       → IsAmong files (place_of ppn name) prime ⊎ IsNamedLoss findings ppn name
-  -- and so is one that stands at a block in use that is in no file which a directory names
+  -- and so is one at a block in use that is in no file which a directory names
   pub unnamed : (file : SavedFile) → InSpace size file.at → IsRead size layout contents file
       → MayBeUsed size contents file.at → (IsNamedBlock size layout contents file.at → ⊥)
       → IsAmong files (place_in file) file.at

@@ -1,4 +1,4 @@
--- The steps of a survey: what directories name, what else stands on the disk, and which of these files are taken.
+-- The steps of a survey: what directories name, what else is on the disk, and which of these files are taken.
 use Rattle.std.specs.Prelude.{◌≡◌, ◌⊎◌, ℕ, ◌≤◌, List, ◌++◌, Contains}
 use Rattle.std.specs.List.{AllByRecursion}
 use Rattle.words36.specs.declared.names.FileName.{FileName}
@@ -20,7 +20,7 @@ pub record IsTree (size layout : ℕ) (contents : Contents) (files : List SavedF
   pub named : (ppn : ℕ) (name : FileName) (prime : ℕ) → IsFileNamed size contents layout (place_of ppn name) prime
       → IsAmong files (place_of ppn name) prime ⊎ IsNamedLoss findings ppn name
 
--- What else stands at a block that may be in use, and that is in none of these files.
+-- What else is at a block that may be in use, and that is in none of these files.
 pub record IsScanned (size layout : ℕ) (contents : Contents) (named unnamed : List SavedFile) : Type 0 where
   pub read : AllByRecursion (IsRead size layout contents) unnamed
   pub apart : AreApart unnamed
@@ -28,14 +28,14 @@ pub record IsScanned (size layout : ℕ) (contents : Contents) (named unnamed : 
   pub all : (file : SavedFile) → InSpace size file.at → IsRead size layout contents file
       → MayBeUsed size contents file.at → claims named file.at ≡ 0 → IsAmong unnamed (place_in file) file.at
 
--- Findings were added, and each of these faults stands.
+-- Findings were added, and each of these faults is there.
 pub record AreAdded (size layout : ℕ) (contents : Contents) (old new : List Finding) : Type 0 where
   pub added : List Finding
   pub new_is : new ≡ old ++ added
   pub stand : AllByRecursion (IsFinding size layout contents) added
 
--- Of these files those were taken that are whole and of which no block is in another: among those that directories
--- name, or, for one that none names, among all.
+-- Those of these files that are whole and share no block with another were taken: with another of those that
+-- directories name, or, for one that none names, with any.
 pub record AreTaken (size layout : ℕ) (contents : Contents) (named unnamed files : List SavedFile)
     (findings : List Finding) : Type 0 where
   pub whole : AllByRecursion (IsWholeFile size layout contents) files

@@ -1,3 +1,4 @@
+//! A copy of a disk in memory, as a start would find it.
 ghost use Rattle.std.specs.Prelude.{◌≡◌, ◌↔◌, ◌<◌, ◌≤◌, ℕ, IfOk, IsErrOf, IsErr, IsFalse, IsTrue, None, length};
 ghost use Rattle.blockdisk.specs.Common.{SameDisk, one_more, held, loaded};
 ghost use Rattle.changeset.specs.Common.{OnlyReads};
@@ -11,21 +12,21 @@ use changeset::{LogError, MAX_PUTS, recover};
 use spec_image::layout::is_volume_size;
 use std::alloc::Global;
 
-/// How many writes and syncs a copy lives through: more than a recovery makes.
+/// How many writes and syncs a copy has room for: more than a recovery makes.
 const COPY_CALLS: usize = 2 * MAX_PUTS;
 
-/// What a disk holds, in memory: with the puts that its log owes, so that it is as a start would find it.
+/// What a disk holds, in memory: with the pending puts of its log, so that it is as a start would find it.
 #[derive(Drop)]
 pub struct Copied {
     /// The copy. A block that couldn't be read is damaged in it.
     pub disk: MemDisk,
     /// How many blocks couldn't be read.
     pub unread: u32,
-    /// Whether the gate is open and the log isn't good: then the blocks are as they are.
+    /// Whether the gate is open and the log isn't good: then the blocks are unchanged.
     pub has_bad_log: bool,
 }
 
-/// Puts what a block of a disk holds into a copy, and says whether it could be read.
+/// Puts what a block of a disk holds into a copy, and returns whether it could be read.
 fn copy_block<D: Disk>(disk: &mut D, n: u32, copy: &mut MemDisk) -> bool
     requires inside { n < (D.state disk.old).size }
     requires room { n < length copy.old.blocks }
@@ -79,12 +80,12 @@ fn copy_blocks<D: Disk>(alloc: Global, disk: &mut D) -> Result<(MemDisk, u32), N
 }
 
 impl Copied {
-    /// Copies a disk, and makes the puts that its log owes in the copy. Nothing is written to the disk.
+    /// Copies a disk, and makes the pending puts of its log in the copy. Nothing is written to the disk.
     ///
     /// # Errors
     ///
-    /// `NotVolume` if the disk has a number of blocks that no volume has, with nothing read; `NoMemory` if the copy finds
-    /// no room, with nothing read: it takes twice what the disk holds. `NoMemory` too if the copy fails.
+    /// `NotVolume` if the disk has a number of blocks that no volume has, with nothing read; `NoMemory` if there is no
+    /// memory for the copy, with nothing read: it takes twice what the disk holds. `NoMemory` too if the copy fails.
     pub fn of<D: Disk>(alloc: Global, disk: &mut D) -> Result<Copied, SalvageError>
         ensures copied { (D.state disk.new).honest
             → IfOk result (λ copy. IsCopyOf (D.state disk.old) copy.disk copy.unread copy.has_bad_log) }
@@ -94,7 +95,7 @@ impl Copied {
         ensures device { IsErrOf result Device → ⊥ }
         ensures reads { (D.state disk.new).honest → OnlyReads (D.state disk.old) (D.state disk.new) }
         ensures same { SameDisk (D.state disk.old) (D.state disk.new) }
-        // The disk failed once for each block that couldn't be read, whatever the answer.
+        // The disk failed once for each block that couldn't be read, whatever the result.
         ensures failures { (unread : ℕ) × (unread ≤ (D.state disk.old).size)
             × ((D.state disk.new).failures ≡ failed_by unread (D.state disk.old).failures)
             × IfOk result (λ copy. copy.unread ≡ unread) }

@@ -1,8 +1,9 @@
+//! How often blocks occur in files.
 ghost use Rattle.std.specs.Prelude.{◌≡◌, ◌+◌, ◌<◌, ◌∷◌, ℕ, [], length, replicate, slice_index, IfOk, IfErr, IfSome};
 ghost use Rattle.std.specs.Prelude.{IfNone};
 ghost use Rattle.std.specs.List.{AllByRecursion};
 ghost use Rattle.spec_image.specs.Common.{times};
-ghost use Rattle.salvage.specs.Counting.{CountTo};
+ghost use Rattle.salvage.specs.BlockCounts.{CountTo};
 ghost use Rattle.salvage.specs.Saved.{FitsDisk, blocks_of, claims};
 ghost use Rattle.salvage.specs.declared.error.SalvageError.TheVariants.{NoMemory};
 
@@ -11,7 +12,7 @@ use retrieval::Version;
 use std::alloc::Global;
 use std::marker::Model;
 
-/// How often each block of a disk stands in files. A count ends at 2.
+/// How often each block of a disk occurs in files. A count ends at 2.
 #[derive(Drop)]
 pub struct Counts {
     counts: Vec<u8>,
@@ -26,11 +27,11 @@ impl Model for Counts {
 }
 
 impl Counts {
-    /// Of no files, for so many blocks.
+    /// Returns the counts of no files, for `size` blocks.
     ///
     /// # Errors
     ///
-    /// `NoMemory` if the counts find no room.
+    /// `NoMemory` if there is no memory for the counts.
     pub fn new(alloc: Global, size: u32) -> Result<Self, SalvageError>
         ensures zeros { IfOk result (λ counts. counts ≡ replicate size 0) }
         ensures only { IfErr result (λ error. error ≡ NoMemory) }
@@ -41,7 +42,7 @@ impl Counts {
         }
     }
 
-    /// How often a block was counted.
+    /// Returns how often a block was counted.
     pub fn of(&self, n: u32) -> u8
         requires { n < length self.now }
         ensures { result ≡ slice_index self.now n }
@@ -104,7 +105,7 @@ impl Counts {
         }
     }
 
-    /// The first of these blocks that wasn't counted once, if any.
+    /// Returns the first of these blocks that wasn't counted exactly once, if any.
     fn shared_among(&self, blocks: &[u32]) -> Option<u32>
         requires { AllByRecursion (λ n. n < length self.now) blocks.now }
         ensures shared { IfSome result (λ n. slice_index self.now n ≡ 1 → ⊥) }
@@ -119,7 +120,7 @@ impl Counts {
         None
     }
 
-    /// The first data block of a version that wasn't counted once, if any.
+    /// Returns the first data block of a version that wasn't counted exactly once, if any.
     fn shared_data(&self, version: &Version) -> Option<u32>
         requires { AllByRecursion (λ n. n < length self.now) version.now.blocks }
         ensures shared { IfSome result (λ n. slice_index self.now n ≡ 1 → ⊥) }
@@ -135,7 +136,7 @@ impl Counts {
         None
     }
 
-    /// The first block of a file that wasn't counted once, if any.
+    /// Returns the first block of a file that wasn't counted exactly once, if any.
     pub fn shared_block(&self, file: &SavedFile) -> Option<u32>
         requires { FitsDisk (length self.now) file.now }
         ensures shared { IfSome result (λ n. slice_index self.now n ≡ 1 → ⊥) }

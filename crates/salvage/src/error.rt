@@ -1,3 +1,4 @@
+//! Why a disk isn't surveyed, or the words of a file aren't read.
 ghost use Rattle.std.specs.Prelude.{◌≡◌};
 
 use blockdisk::NoMemory;

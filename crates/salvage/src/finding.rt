@@ -1,3 +1,4 @@
+//! What a survey finds wrong with a disk.
 use volume::VolumeError;
 use words36::{FileName, Ppn};
 
@@ -8,7 +9,7 @@ pub enum Cost {
     File(Ppn, FileName),
     /// A file that no directory names, by what its prime block says.
     Unnamed(Ppn, FileName),
-    /// The names in a directory. Its files are looked for by their prime blocks.
+    /// The names in a directory. Its files are searched for by their prime blocks.
     Directory(Ppn),
     /// The names of all directories.
     Directories,

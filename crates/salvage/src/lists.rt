@@ -1,10 +1,11 @@
+//! Additions to the lists of files and of findings.
 ghost use Rattle.std.specs.Prelude.{◌≡◌, ◌++◌, ◌∷◌, [], IfErr, OnOk};
 ghost use Rattle.salvage.specs.declared.error.SalvageError.TheVariants.{NoMemory};
 
 use crate::{Cost, Finding, SalvageError, SavedFile};
 use volume::VolumeError;
 
-/// Puts a file behind the others.
+/// Adds a file after the others.
 ///
 /// # Errors
 ///
@@ -19,12 +20,12 @@ pub fn push_file(files: &mut Vec<SavedFile>, file: SavedFile) -> Result<(), Salv
     }
 }
 
-/// Tells a fault and what it costs, behind the other findings.
+/// Adds a fault and what it costs after the other findings.
 ///
 /// # Errors
 ///
 /// `NoMemory` if there is no memory for it.
-pub fn tell(
+pub fn push_finding(
     findings: &mut Vec<Finding>,
     fault: VolumeError,
     costs: Cost,

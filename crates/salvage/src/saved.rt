@@ -1,4 +1,5 @@
-use volume::StoredVersion;
+//! The files that a survey finds.
+use volume::LoadedVersion;
 
 /// A file whose retrieval blocks are whole.
 #[derive(Drop)]
@@ -6,5 +7,5 @@ pub struct SavedFile {
     /// Its prime block.
     pub at: u32,
     /// What its prime block says, and where its words lie.
-    pub stored: StoredVersion,
+    pub stored: LoadedVersion,
 }

@@ -1,3 +1,4 @@
+//! The search for the prime blocks of files that no directory names.
 ghost use Rattle.std.specs.Prelude.{◌≡◌, ◌↔◌, ◌+◌, ◌<◌, ℕ, IfOk, IsErrOf, IsTrue, OnOk, length};
 ghost use Rattle.std.specs.List.{AllByRecursion};
 ghost use Rattle.blockdisk.specs.Common.{SameDisk, one_more};
@@ -8,16 +9,16 @@ ghost use Rattle.salvage.specs.Common.{IsScanned};
 ghost use Rattle.salvage.specs.declared.error.SalvageError.TheVariants.{Device, NotVolume};
 
 use crate::counts::Counts;
-use crate::lists::{push_file, tell};
+use crate::lists::{push_file, push_finding};
 use crate::{Cost, Finding, SalvageError, SavedFile};
 use alloctab::{Table, TableError};
 use blockdisk::Disk;
 use retrieval::{RetrievalError, read_version};
 use spec_image::layout::{Layout, space_start};
 use std::alloc::Global;
-use volume::{StoredVersion, VolumeError};
+use volume::{LoadedVersion, VolumeError};
 
-/// Reads the allocation table. If a block of it is bad that is told, and there is none.
+/// Reads the allocation table. If a block of it is bad, that is reported, and there is no table.
 fn load_table<D: Disk>(
     alloc: Global,
     disk: &mut D,
@@ -39,7 +40,7 @@ fn load_table<D: Disk>(
     match Table::load(alloc, disk) {
         Ok(table) => Ok(Some(table)),
         Err(TableError::TableWrong(block)) => {
-            match tell(findings, VolumeError::TableWrong(block), Cost::Nothing) {
+            match push_finding(findings, VolumeError::TableWrong(block), Cost::Nothing) {
                 Ok(()) => Ok(None),
                 Err(error) => Err(error),
             }
@@ -49,7 +50,7 @@ fn load_table<D: Disk>(
     }
 }
 
-/// Whether a block may be in use and was counted nowhere.
+/// Returns whether a block may be in use and was never counted.
 fn is_candidate(table: &Option<Table>, counts: &Counts, n: u32) -> bool
     requires inside { n < length counts.now }
     requires unheld { IsUnheld (length counts.now) table.now }
@@ -64,7 +65,7 @@ fn is_candidate(table: &Option<Table>, counts: &Counts, n: u32) -> bool
     }
 }
 
-/// Reads the version whose prime block this is, if it is one, and puts it behind the others.
+/// Reads the version whose prime block this is, if it is one, and adds it after the others.
 fn read_at<D: Disk>(
     alloc: Global,
     disk: &mut D,
@@ -87,7 +88,7 @@ fn read_at<D: Disk>(
 {
     match read_version(alloc, disk, n, layout) {
         Ok((prime, version)) => {
-            let stored = StoredVersion { prime, version };
+            let stored = LoadedVersion { prime, version };
             push_file(files, SavedFile { at: n, stored })
         }
         Err(RetrievalError::BadRetrieval(_)) => Ok(()),
@@ -96,8 +97,8 @@ fn read_at<D: Disk>(
     }
 }
 
-/// Looks at a block: if it may be in use and was counted nowhere, the version whose prime block it is comes behind the
-/// others.
+/// Checks a block: if it may be in use and was never counted, the version whose prime block it is, if any, is added
+/// after the others.
 fn look_at<D: Disk>(
     alloc: Global,
     disk: &mut D,
@@ -131,7 +132,7 @@ fn look_at<D: Disk>(
     read_at(alloc, disk, layout, n, files)
 }
 
-/// Looks at each block of the free space that may be in use and was counted nowhere.
+/// Checks each block of the free space that may be in use and was never counted, and returns the versions found.
 fn look_through<D: Disk>(
     alloc: Global,
     disk: &mut D,
@@ -161,8 +162,9 @@ fn look_through<D: Disk>(
     Ok(files)
 }
 
-/// Looks at each block of the free space that may be in use, and that is in none of these files, for a prime block
-/// whose retrieval blocks are whole. If a block of the allocation table is bad it is told, and each block may be in use.
+/// Checks each block of the free space that may be in use, and that is in none of these files, for a prime block
+/// whose retrieval blocks are whole. If a block of the allocation table is bad, that is reported, and each block may be
+/// in use.
 ///
 /// # Errors
 ///

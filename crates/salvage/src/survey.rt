@@ -1,8 +1,9 @@
+//! The survey of a disk: the files that are whole, and what is wrong.
 ghost use Rattle.std.specs.Prelude.{◌≡◌, ◌↔◌, IfOk, IsErrOf};
 ghost use Rattle.std.specs.List.{AllByRecursion};
 ghost use Rattle.blockdisk.specs.Common.{SameDisk, one_more};
 ghost use Rattle.changeset.specs.Common.{OnlyReads};
-ghost use Rattle.spec_image.specs.Common.{File, Files, Home, IsHome, layout_number, IsVolumeSize, SettledStands};
+ghost use Rattle.spec_image.specs.Common.{File, Files, SpecHome, IsHome, layout_number, IsVolumeSize, SettledStands};
 ghost use Rattle.salvage.specs.Common.{FitsDisk, AreAllSaved, IsSurveyed};
 ghost use Rattle.salvage.specs.declared.error.SalvageError.TheVariants.{Device, NotVolume};
 
@@ -31,11 +32,11 @@ fn survey_volume<D: Disk>(alloc: Global, disk: &mut D) -> Result<Survey, Salvage
     ensures surveyed { (D.state disk.new).honest
         → IfOk result (λ survey. IsSurveyed (D.state disk.old).size (layout_number survey.layout)
         (D.state disk.old).contents survey.files.items survey.findings.items) }
-    ensures layout { (D.state disk.new).honest → (home : Home)
+    ensures layout { (D.state disk.new).honest → (home : SpecHome)
         → IsHome (D.state disk.old).size (D.state disk.old).contents home
         → IfOk result (λ survey. layout_number survey.layout ≡ home.layout) }
     ensures no_layout { (D.state disk.new).honest
-        → ((home : Home) → IsHome (D.state disk.old).size (D.state disk.old).contents home → ⊥)
+        → ((home : SpecHome) → IsHome (D.state disk.old).size (D.state disk.old).contents home → ⊥)
         → IfOk result (λ survey. layout_number survey.layout ≡ 2) }
     ensures fits { IfOk result (λ survey. AllByRecursion (FitsDisk (D.state disk.old).size) survey.files.items) }
     ensures range { IsErrOf result NotVolume → ⊥ }
@@ -60,7 +61,7 @@ fn survey_volume<D: Disk>(alloc: Global, disk: &mut D) -> Result<Survey, Salvage
 }
 
 /// Finds the files of a disk that are whole, whatever else is wrong with it. Nothing is written. The contents are taken
-/// as they are: of a disk whose gate may be open `Copied` has them as a start would find them.
+/// as they are: for a disk whose gate may be open, `Copied` has them as a start would find them.
 ///
 /// # Errors
 ///
@@ -74,11 +75,11 @@ pub fn survey_disk<D: Disk>(alloc: Global, disk: &mut D) -> Result<Survey, Salva
         → SettledStands (D.state disk.old).size (D.state disk.old).contents files
         → IfOk result (λ survey. AreAllSaved (D.state disk.old).contents survey.files.items files) }
     // The layout of the home copy, or layout 2 if neither copy is valid.
-    ensures layout { (D.state disk.new).honest → (home : Home)
+    ensures layout { (D.state disk.new).honest → (home : SpecHome)
         → IsHome (D.state disk.old).size (D.state disk.old).contents home
         → IfOk result (λ survey. layout_number survey.layout ≡ home.layout) }
     ensures no_layout { (D.state disk.new).honest
-        → ((home : Home) → IsHome (D.state disk.old).size (D.state disk.old).contents home → ⊥)
+        → ((home : SpecHome) → IsHome (D.state disk.old).size (D.state disk.old).contents home → ⊥)
         → IfOk result (λ survey. layout_number survey.layout ≡ 2) }
     // On every disk what is found fits it.
     ensures fits { IfOk result (λ survey. AllByRecursion (FitsDisk (D.state disk.old).size) survey.files.items) }

@@ -1,3 +1,4 @@
+//! The choice of the files that are whole.
 ghost use Rattle.std.specs.Prelude.{◌≡◌, ◌++◌, ◌∷◌, ℕ, [], IfOk, IfErr, IfSome, IfNone, IsErrOf, OnOk, length};
 ghost use Rattle.std.specs.List.{AllByRecursion};
 ghost use Rattle.blockdisk.specs.Common.{SameDisk, one_more};
@@ -8,13 +9,14 @@ ghost use Rattle.salvage.specs.Common.{AreAdded, AreTaken};
 ghost use Rattle.salvage.specs.declared.error.SalvageError.TheVariants.{Device, NotVolume};
 
 use crate::counts::Counts;
-use crate::lists::{push_file, tell};
+use crate::lists::{push_file, push_finding};
 use crate::{Cost, Finding, SalvageError, SavedFile};
 use blockdisk::Disk;
 use std::alloc::Global;
 use volume::{VolumeError, read_data};
 
-/// What is wrong with the blocks of a file, if anything: one that wasn't counted once, or a damaged one.
+/// Returns what is wrong with the blocks of a file, if anything: one that wasn't counted exactly once, or a damaged
+/// one.
 fn find_fault<D: Disk>(
     disk: &mut D,
     counts: &Counts,
@@ -43,7 +45,7 @@ fn find_fault<D: Disk>(
     }
 }
 
-/// What a file costs that isn't taken.
+/// Returns what is lost with a file that isn't taken.
 fn loss_of(file: &SavedFile, is_named: bool) -> Cost
     ensures { result ≡ loss_of is_named file.now }
 {
@@ -54,7 +56,7 @@ fn loss_of(file: &SavedFile, is_named: bool) -> Cost
     Cost::Unnamed(ppn, name)
 }
 
-/// Takes a file if its blocks are as they should be; else tells it.
+/// Takes a file if its blocks are sound; otherwise reports it.
 fn take_file<D: Disk>(
     disk: &mut D,
     counts: &Counts,
@@ -81,13 +83,13 @@ fn take_file<D: Disk>(
         Ok(None) => push_file(files, file),
         Ok(Some(fault)) => {
             let costs = loss_of(&file, is_named);
-            tell(findings, fault, costs)
+            push_finding(findings, fault, costs)
         }
         Err(error) => Err(error),
     }
 }
 
-/// Takes of these files those whose blocks are as they should be, and tells the others.
+/// Takes those of these files whose blocks are sound, and reports the others.
 fn take_each<D: Disk>(
     disk: &mut D,
     counts: &Counts,
@@ -116,8 +118,8 @@ fn take_each<D: Disk>(
     Ok(())
 }
 
-/// Takes of these files those that are whole and of which no block is in another: a file that a directory names isn't
-/// asked to spare blocks that only unnamed ones claim. Each other one is told.
+/// Takes those of these files that are whole and of which no block is in another: a file that a directory names isn't
+/// refused because of blocks that only unnamed ones claim too. Each other file is reported.
 ///
 /// # Errors
 ///

@@ -1,11 +1,12 @@
+//! The files that directories name.
 ghost use Rattle.std.specs.Prelude.{◌≡◌, ◌++◌, ◌∷◌, ◌⊎◌, ◌↔◌, [], ℕ, List, None, map, IfOk, IfErr, OnOk, IsErrOf};
 ghost use Rattle.std.specs.List.{AllByRecursion};
 ghost use Rattle.std.specs.Ordering.{nat_cmp};
 ghost use Rattle.std.specs.FinMap.Entries.{find};
 ghost use Rattle.blockdisk.specs.Common.{SameDisk, one_more};
 ghost use Rattle.changeset.specs.Common.{OnlyReads};
-ghost use Rattle.spec_image.specs.Common.{head_or_zero, MasterEntry as MasterWords, FileEntry as FileWords, InSpace};
-ghost use Rattle.spec_image.specs.Common.{name_cmp, Home as HomeWords, IsHome, layout_number, EachOnce, IsVolumeSize};
+ghost use Rattle.spec_image.specs.Common.{head_or_zero, SpecMasterEntry, SpecFileEntry, InSpace};
+ghost use Rattle.spec_image.specs.Common.{name_cmp, SpecHome, IsHome, layout_number, EachOnce, IsVolumeSize};
 ghost use Rattle.spec_image.specs.Common.{IsDirectoryNamed, LeadsAlong};
 ghost use Rattle.directory.specs.Common.{IsChain, IsOn, nodes_of, viewed, IsBadChain, IsTwiceInChain};
 ghost use Rattle.volume.specs.Common.{file_view, master_view, home_in};
@@ -15,11 +16,11 @@ ghost use Rattle.salvage.specs.Common.{IsChainRefusal, IsNamedIn, IsNoFault, IsR
 ghost use Rattle.salvage.specs.declared.error.SalvageError.TheVariants.{Device, NoMemory, NotVolume};
 ghost use Rattle.salvage.specs.declared.finding.Cost.TheVariants.{Directories};
 
-use crate::lists::{push_file, tell};
+use crate::lists::{push_file, push_finding};
 use crate::{Cost, Finding, SalvageError, SavedFile};
 use alloctab::Reached;
 use blockdisk::Disk;
-use directory::{Chain, Entry, FileEntry, MasterEntry};
+use directory::{Chain, ChainEntry, FileEntry, MasterEntry};
 use spec_image::layout::Layout;
 use std::alloc::Global;
 use volume::{Home, VolumeError, read_home, read_named};
@@ -36,11 +37,11 @@ pub struct Tree {
     pub findings: Vec<Finding>,
 }
 
-/// Tells why a reader was refused, if that is a fault of the contents.
+/// Reports why a reader was refused, if that is a fault of the contents.
 ///
 /// # Errors
 ///
-/// `Device` and `NoMemory` if the reader was refused for that; `NoMemory` if the findings find no room.
+/// `Device` and `NoMemory` if the reader was refused for that; `NoMemory` if there is no memory for the finding.
 fn tell_refusal(
     findings: &mut Vec<Finding>,
     refusal: VolumeError,
@@ -55,7 +56,7 @@ fn tell_refusal(
     match refusal {
         VolumeError::Device => Err(SalvageError::Device),
         VolumeError::NoMemory => Err(SalvageError::NoMemory),
-        fault => tell(findings, fault, costs),
+        fault => push_finding(findings, fault, costs),
     }
 }
 
@@ -63,14 +64,14 @@ fn tell_refusal(
 ///
 /// # Errors
 ///
-/// `BadDirectory` with a block that is damaged or not as it should be; `BlockTwice` with one that the chain came to
-/// before; `Device` if the device failed; `NoMemory` if a growth was refused.
-fn load_chain<E: Entry, D: Disk>(
+/// `BadDirectory` with a block that is damaged or invalid; `BlockTwice` with one that the chain reached before;
+/// `Device` if the device failed; `NoMemory` if a growth was refused.
+fn load_chain<E: ChainEntry, D: Disk>(
     alloc: Global,
     disk: &mut D,
     first: u32,
 ) -> Result<Chain<E>, VolumeError>
-    // What the caller sees to.
+    // What the caller ensures.
     requires volume { IsVolumeSize (D.state disk.old).size }
     requires inside { InSpace (D.state disk.old).size first }
     // The chain that was read, as the disk spells it.
@@ -84,7 +85,7 @@ fn load_chain<E: Entry, D: Disk>(
     ensures inside { IfOk result (λ chain. AllByRecursion (InSpace (D.state disk.old).size) chain.blocks) }
     ensures targets { IfOk result (λ chain. AllByRecursion (λ e. InSpace (D.state disk.old).size (E.target e))
         (map E.view chain.entries)) }
-    // Which refusal comes when.
+    // When it refuses.
     ensures bad { (D.state disk.new).honest → (n : ℕ) → IsErrOf result (BadDirectory n)
         → IsBadChain E.order E.words_of E.IsEntry E.target (D.state disk.old).size
         (D.state disk.old).contents first n }
@@ -106,7 +107,7 @@ fn load_chain<E: Entry, D: Disk>(
     }
 }
 
-/// Reads the file of an entry, and puts it behind the others, or what is wrong with it behind the findings.
+/// Reads the file of an entry, and adds it after the others, or what is wrong with it after the findings.
 fn add_file<D: Disk>(
     alloc: Global,
     disk: &mut D,
@@ -116,11 +117,11 @@ fn add_file<D: Disk>(
     files: &mut Vec<SavedFile>,
     findings: &mut Vec<Finding>,
 ) -> Result<(), SalvageError>
-    // What the caller sees to.
+    // What the caller ensures.
     requires volume { IsVolumeSize (D.state disk.old).size }
     requires inside { InSpace (D.state disk.old).size entry.now.prime }
     // What was read.
-    ensures read { (D.state disk.new).honest → (directories : List MasterWords) (names : List FileWords)
+    ensures read { (D.state disk.new).honest → (directories : List SpecMasterEntry) (names : List SpecFileEntry)
         → IsNamedIn (D.state disk.old).size (layout_number layout) (D.state disk.old).contents ppn (file_view entry.now)
         → find nat_cmp ppn directories ≡ None → find name_cmp entry.now.name names ≡ None
         → IsReadTo (D.state disk.old).size (layout_number layout) (D.state disk.old).contents directories ppn names
@@ -158,11 +159,11 @@ fn add_files<D: Disk>(
     files: &mut Vec<SavedFile>,
     findings: &mut Vec<Finding>,
 ) -> Result<(), SalvageError>
-    // What the caller sees to.
+    // What the caller ensures.
     requires volume { IsVolumeSize (D.state disk.old).size }
     requires inside { AllByRecursion (λ e. InSpace (D.state disk.old).size e.1) (map file_view entries.now) }
     // What was read.
-    ensures read { (D.state disk.new).honest → (directories : List MasterWords)
+    ensures read { (D.state disk.new).honest → (directories : List SpecMasterEntry)
         → AllByRecursion (IsNamedIn (D.state disk.old).size (layout_number layout) (D.state disk.old).contents ppn)
         (map file_view entries.now)
         → EachOnce name_cmp (map file_view entries.now) → find nat_cmp ppn directories ≡ None
@@ -185,7 +186,7 @@ fn add_files<D: Disk>(
     Ok(())
 }
 
-/// Reads the directory of an entry with its files, or tells what is wrong with its chain.
+/// Reads the directory of an entry with its files, or reports what is wrong with its chain.
 fn add_directory<D: Disk>(
     alloc: Global,
     disk: &mut D,
@@ -194,11 +195,11 @@ fn add_directory<D: Disk>(
     files: &mut Vec<SavedFile>,
     findings: &mut Vec<Finding>,
 ) -> Result<(), SalvageError>
-    // What the caller sees to.
+    // What the caller ensures.
     requires volume { IsVolumeSize (D.state disk.old).size }
     requires inside { InSpace (D.state disk.old).size entry.now.first }
     // What was read.
-    ensures read { (D.state disk.new).honest → (directories : List MasterWords) (word : ℕ)
+    ensures read { (D.state disk.new).honest → (directories : List SpecMasterEntry) (word : ℕ)
         → IsDirectoryNamed (D.state disk.old).size (D.state disk.old).contents (layout_number layout) entry.now.ppn word
         entry.now.first
         → find nat_cmp entry.now.ppn directories ≡ None
@@ -238,7 +239,7 @@ fn add_directories<D: Disk>(
     files: &mut Vec<SavedFile>,
     findings: &mut Vec<Finding>,
 ) -> Result<(), SalvageError>
-    // What the caller sees to.
+    // What the caller ensures.
     requires volume { IsVolumeSize (D.state disk.old).size }
     requires inside { AllByRecursion (λ e. InSpace (D.state disk.old).size e.1.1) (map master_view entries.now) }
     // What was read.
@@ -265,7 +266,7 @@ fn add_directories<D: Disk>(
     Ok(())
 }
 
-/// Reads the directories that the master directory of this home copy names, or tells what is wrong with its chain.
+/// Reads the directories that the master directory of this home copy names, or reports what is wrong with its chain.
 fn add_master<D: Disk>(
     alloc: Global,
     disk: &mut D,
@@ -273,7 +274,7 @@ fn add_master<D: Disk>(
     files: &mut Vec<SavedFile>,
     findings: &mut Vec<Finding>,
 ) -> Result<(), SalvageError>
-    // What the caller sees to.
+    // What the caller ensures.
     requires volume { IsVolumeSize (D.state disk.old).size }
     requires inside { InSpace (D.state disk.old).size home.master }
     requires no_files { files.old.items ≡ [] }
@@ -299,7 +300,7 @@ fn add_master<D: Disk>(
 
 /// Reads what this home copy leads to.
 fn read_from<D: Disk>(alloc: Global, disk: &mut D, home: Home) -> Result<Tree, SalvageError>
-    // What the caller sees to.
+    // What the caller ensures.
     requires volume { IsVolumeSize (D.state disk.old).size }
     requires inside { InSpace (D.state disk.old).size home.master }
     // What was read.
@@ -325,7 +326,7 @@ fn read_from<D: Disk>(alloc: Global, disk: &mut D, home: Home) -> Result<Tree, S
     })
 }
 
-/// What is told of a disk whose home blocks can't be read.
+/// Returns what is reported for a disk whose home blocks can't be read.
 fn without_home(alloc: Global, refusal: VolumeError) -> Result<Tree, SalvageError>
     ensures files { IfOk result (λ tree. tree.files.items ≡ []) }
     ensures findings { IfOk result (λ tree. tree.findings.items
@@ -345,7 +346,7 @@ fn without_home(alloc: Global, refusal: VolumeError) -> Result<Tree, SalvageErro
 }
 
 /// Reads the directories that the first valid home copy leads to, and the retrieval blocks of all files that they name.
-/// A chain or a file that can't be read is left out, and told.
+/// A chain or a file that can't be read is left out, and reported.
 ///
 /// # Errors
 ///
@@ -356,11 +357,11 @@ pub fn read_tree<D: Disk>(alloc: Global, disk: &mut D) -> Result<Tree, SalvageEr
         → IfOk result (λ tree. IsTree (D.state disk.old).size (layout_number tree.layout)
         (D.state disk.old).contents tree.files.items tree.findings.items) }
     // The layout of the home copy, or layout 2 if neither copy is valid.
-    ensures layout { (D.state disk.new).honest → (home : HomeWords)
+    ensures layout { (D.state disk.new).honest → (home : SpecHome)
         → IsHome (D.state disk.old).size (D.state disk.old).contents home
         → IfOk result (λ tree. layout_number tree.layout ≡ home.layout) }
     ensures no_layout { (D.state disk.new).honest
-        → ((home : HomeWords) → IsHome (D.state disk.old).size (D.state disk.old).contents home → ⊥)
+        → ((home : SpecHome) → IsHome (D.state disk.old).size (D.state disk.old).contents home → ⊥)
         → IfOk result (λ tree. layout_number tree.layout ≡ 2) }
     ensures fits { IfOk result (λ tree. AllByRecursion (FitsDisk (D.state disk.old).size) tree.files.items) }
     ensures range { IsErrOf result NotVolume → ⊥ }

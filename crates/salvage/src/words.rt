@@ -1,3 +1,4 @@
+//! The words of a file that a survey found.
 ghost use Rattle.std.specs.Prelude.{◌≡◌, IfOk, IsErrOf, IsSomeAnd, length};
 ghost use Rattle.std.specs.List.{AllByRecursion};
 ghost use Rattle.blockdisk.specs.Common.{IsWholeBlock, SameDisk, one_more};
@@ -12,11 +13,11 @@ use retrieval::{BodyError, get_words};
 use std::alloc::Global;
 use words36::Word;
 
-/// All words of a file that a survey of this disk found; `None` if a block is damaged that wasn't then.
+/// Returns all words of a file that a survey of this disk found; `None` if a block is damaged that wasn't then.
 ///
 /// # Errors
 ///
-/// `NoMemory` if the words find no room, with nothing read; `Device` if the device failed.
+/// `NoMemory` if there is no memory for the words, with nothing read; `Device` if the device failed.
 pub fn read_words<D: Disk>(
     alloc: Global,
     disk: &mut D,

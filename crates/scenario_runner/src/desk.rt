@@ -1,26 +1,27 @@
+//! The state of a row while it is played, and its expectations.
 use anyhow::Result;
 use std::alloc::{AllocError, Global};
 use std::io;
 use words36::Moment;
 
-/// What is known while a row is played.
+/// The state of a row while it is played.
 #[derive(Drop)]
 pub struct Desk {
-    /// Where texts get their memory.
+    /// The allocator of texts.
     pub alloc: Global,
-    /// Which of its alternatives are played.
+    /// The number of the alternatives that are played.
     pub alternative: usize,
-    /// When its calls are made.
+    /// The moment of its calls.
     pub moment: Moment,
     /// The lines of a session that isn't played yet.
     pub asked: String,
-    /// What it is to print.
+    /// The text that it must print.
     pub wanted: String,
-    /// How many lines came out otherwise.
+    /// The number of lines that came out otherwise.
     pub mistakes: u64,
-    /// How many events came out as wanted.
+    /// The number of events that came out as wanted.
     pub answered: usize,
-    /// Whether an event met the fault of the disk, so that each one behind it finds a service that has failed.
+    /// Whether an event met the fault of the disk, so that each one after it finds a service that has failed.
     pub has_failed: bool,
     /// Whether the disk may fail.
     may_fail: bool,
@@ -29,7 +30,7 @@ pub struct Desk {
 }
 
 impl Desk {
-    /// Before the first line is played.
+    /// Returns the state before the first line is played.
     pub fn new(alloc: Global, alternative: usize) -> Result<Desk> {
         Ok(Desk {
             alloc,
@@ -45,31 +46,31 @@ impl Desk {
         })
     }
 
-    /// The same where nothing is printed.
+    /// Returns such a state with which nothing is printed.
     pub fn silent(alloc: Global, alternative: usize) -> Result<Desk> {
         let mut desk = Desk::new(alloc, alternative)?;
         desk.is_silent = true;
         Ok(desk)
     }
 
-    /// The same over a disk that may fail: from the event on that meets the fault the service has failed.
+    /// Returns such a state for a disk that may fail: after the event that meets the fault the service has failed.
     pub fn failing(alloc: Global) -> Result<Desk> {
         let mut desk = Desk::silent(alloc, 0)?;
         desk.may_fail = true;
         Ok(desk)
     }
 
-    /// A line of a session.
+    /// Adds a line to the session.
     pub fn ask(&mut self, line: &str) -> Result<(), AllocError> {
         push_line(&mut self.asked, line)
     }
 
-    /// A line that it is to print.
+    /// Adds a line to the text that the session must print.
     pub fn want(&mut self, line: &str) -> Result<(), AllocError> {
         push_line(&mut self.wanted, line)
     }
 
-    /// Says where something isn't as a line wants it.
+    /// Counts and prints a mistake if something isn't as a line wants it.
     pub fn expect(
         &mut self,
         rt: &impl Print,
@@ -88,7 +89,7 @@ impl Desk {
         println!(rt; "? {line}: {found} in place of {wanted} (alternative {alternative})")
     }
 
-    /// Whether an event or a session comes out as is wanted, or as it has to where the disk fails.
+    /// Returns whether an event or a session comes out as is wanted, or as it must if the disk fails.
     fn comes_out(&mut self, wanted: &str, found: &str) -> bool {
         let asked = self.asked.lines().count();
         if self.has_failed {
@@ -103,8 +104,9 @@ impl Desk {
     }
 }
 
-/// Whether an event, a session of so many lines or a start answers that the device failed. A session does so behind a
-/// part of what it is to print, in which each line before printed one or more, and each line behind it stops.
+/// Returns whether an event, a session of `asked` lines or a start answers that the device failed. A session does so
+/// after a part of the text that it must print, in which each line before printed one or more, and each line after it
+/// stops.
 fn meets_fault(wanted: &str, found: &str, asked: usize) -> bool {
     match found.split_once("?Device fault\n") {
         Some((printed, behind)) => {
@@ -119,7 +121,7 @@ fn meets_fault(wanted: &str, found: &str, asked: usize) -> bool {
     }
 }
 
-/// Whether an event is answered by a service that has failed, or a session of so many lines: nobody logs in any more.
+/// Returns whether a service that has failed answers an event, or a session of `asked` lines: nobody logs in any more.
 fn is_failed(found: &str, asked: usize) -> bool {
     if asked == 0 {
         return found == "FAILED";
@@ -129,12 +131,12 @@ fn is_failed(found: &str, asked: usize) -> bool {
         && found.lines().count() == asked
 }
 
-/// Whether a line is what a session prints then.
+/// Returns whether a line is what a session prints then.
 fn is_line_of_failed(line: &str) -> bool {
     line == "?Service stopped" || line == "?Not logged in"
 }
 
-/// Puts a line behind a text. At its end `\r` stands for a carriage return, and `\c` says that no line feed follows.
+/// Appends a line to a text. At its end `\r` means a carriage return, and `\c` means that no line feed follows.
 fn push_line(text: &mut String, line: &str) -> Result<(), AllocError> {
     if let Some(line) = line.strip_suffix("\\c") {
         return text.push_str(line);

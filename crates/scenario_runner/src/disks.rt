@@ -1,4 +1,5 @@
-use crate::counting::{Calls, CountingDisk};
+//! The disk that a row begins with, and the play of a row over it.
+use crate::counting_disk::{Calls, CountingDisk};
 use crate::desk::Desk;
 use crate::fields::{decimal, decimal_or, octal, octal_or_zero};
 use crate::row::{Row, step, without_remark};
@@ -11,10 +12,10 @@ use std::alloc::Global;
 use std::num::NonZeroUsize;
 use words36::{BLOCK_WORDS, Block, Moment, Word};
 
-/// How many blocks the largest cache keeps.
+/// The number of blocks in the largest cache.
 const MOST_KEPT: usize = 256;
 
-/// How many writes and syncs a disk takes where a row doesn't say it.
+/// The number of writes and syncs that a disk takes if a row doesn't give it.
 const CALLS: u32 = 4000;
 
 /// The image that is written out by hand: [10,20] with FOO.TXT of two words.
@@ -49,7 +50,7 @@ const WRITTEN: [(u32, &[u64]); 7] = [
     (18, &[0o442131446236, 0o064240000000]),
 ];
 
-/// Puts these words into a block, and zeros behind them.
+/// Puts these words into a block, with zeros after them.
 fn put_words(disk: &mut MemDisk, n: u32, words: &[u64]) -> Result<()> {
     let mut block: Block = [Word::ZERO; BLOCK_WORDS];
     for (place, &number) in block.iter_mut().zip(words) {
@@ -60,14 +61,14 @@ fn put_words(disk: &mut MemDisk, n: u32, words: &[u64]) -> Result<()> {
     Ok(())
 }
 
-/// A disk of zeros, of so many blocks, with room to record so many writes and syncs.
+/// Returns a disk of zeros: a line gives its number of blocks, and how many writes and syncs it has room to record.
 fn zeros(alloc: Global, fields: &[&str]) -> Result<MemDisk> {
     let blocks = decimal(fields, 1)?;
     let calls = decimal_or(fields, 2, CALLS)?;
     Ok(MemDisk::new(alloc, blocks, calls as usize)?)
 }
 
-/// `BLOCK N WORD ..`: a block has these words, in octal, and zeros behind them.
+/// Plays `BLOCK N WORD ..`: gives a block these words, in octal, with zeros after them.
 fn put_block(disk: &mut MemDisk, fields: &[&str]) -> Result<()> {
     let mut words = [0; BLOCK_WORDS];
     for (place, word) in words.iter_mut().enumerate() {
@@ -76,13 +77,13 @@ fn put_block(disk: &mut MemDisk, fields: &[&str]) -> Result<()> {
     put_words(disk, decimal(fields, 1)?, &words)
 }
 
-/// `ALL N WORD`: each word of a block is this one, in octal.
+/// Plays `ALL N WORD`: makes each word of a block this one, in octal.
 fn put_all(disk: &mut MemDisk, fields: &[&str]) -> Result<()> {
     let words = [octal(fields, 2)?; BLOCK_WORDS];
     put_words(disk, decimal(fields, 1)?, &words)
 }
 
-/// `DAMAGE N`: a block has no words.
+/// Plays `DAMAGE N`: makes a block one without words.
 fn damage(disk: &mut MemDisk, fields: &[&str]) -> Result<()> {
     let n = decimal(fields, 1)?;
     ensure!(n < disk.blocks(), "there is no block {n}");
@@ -90,7 +91,7 @@ fn damage(disk: &mut MemDisk, fields: &[&str]) -> Result<()> {
     Ok(())
 }
 
-/// The image that is written out by hand.
+/// Writes the image that is written out by hand.
 fn write_image(disk: &mut MemDisk) -> Result<()> {
     for (n, words) in WRITTEN {
         put_words(disk, n, words)?;
@@ -98,13 +99,13 @@ fn write_image(disk: &mut MemDisk) -> Result<()> {
     Ok(())
 }
 
-/// A volume in which there is no directory.
+/// Makes a volume in which there is no directory.
 fn make_volume(disk: &mut MemDisk) -> Result<()> {
     ensure!(Volume::init(disk).is_ok(), "no volume is made");
     Ok(())
 }
 
-/// Does what a line says of the disk that a row begins with.
+/// Does what a line requires of the disk that a row begins with.
 fn prepare(alloc: Global, disk: &mut MemDisk, fields: &[&str]) -> Result<()> {
     match fields.first().copied() {
         Some("RAW") => {
@@ -126,7 +127,7 @@ fn prepare(alloc: Global, disk: &mut MemDisk, fields: &[&str]) -> Result<()> {
     }
 }
 
-/// The disk that a row begins with.
+/// Returns the disk that a row begins with.
 pub fn disk_of(alloc: Global, row: &Row, alternative: usize) -> Result<MemDisk> {
     let mut disk = MemDisk::new(alloc, 0, 0)?;
     for line in row.lines() {
@@ -138,13 +139,13 @@ pub fn disk_of(alloc: Global, row: &Row, alternative: usize) -> Result<MemDisk> 
     Ok(disk)
 }
 
-/// A monitor over a disk, or why that is refused. What `start` promises stays behind this function: the proofs of its
-/// callers are short without it.
+/// Returns a monitor over a disk, or why that is refused. The contract of `start` stays inside this function: the
+/// proofs of its callers are short without it.
 pub fn start_over<D: Disk>(alloc: Global, disk: D) -> Result<Monitor<D>, (StartError, D)> {
     Monitor::start(alloc, disk)
 }
 
-/// Plays the lines of a row from one start to the next, over a disk; gives the disk back.
+/// Plays the lines of a row from one start to the next, over a disk, and returns the disk.
 pub fn play_over<D: Disk + Drop>(
     rt: &impl Print,
     desk: &mut Desk,
@@ -166,7 +167,7 @@ pub fn play_over<D: Disk + Drop>(
     }
 }
 
-/// The start is refused so.
+/// Checks how the start is refused.
 fn expect_refusal(rt: &impl Print, desk: &mut Desk, found: &str, lines: &[String]) -> Result<()> {
     let mut wanted = "";
     for line in lines {
@@ -179,7 +180,7 @@ fn expect_refusal(rt: &impl Print, desk: &mut Desk, found: &str, lines: &[String
     Ok(())
 }
 
-/// Empties the record of a disk: what is there now was there from the beginning.
+/// Empties the record of a disk: its present blocks become those from its beginning.
 pub fn forget_record(disk: &mut MemDisk) {
     if disk.blocks() > 0
         && let Ok(words) = disk.read(0)
@@ -188,7 +189,7 @@ pub fn forget_record(disk: &mut MemDisk) {
     }
 }
 
-/// `LEFT N WORD ..`: a block has these words, and zeros behind them, in octal.
+/// Plays `LEFT N WORD ..`: checks that a block has these words, in octal, with zeros after them.
 fn expect_block(
     rt: &impl Print,
     disk: &mut MemDisk,
@@ -210,7 +211,7 @@ fn expect_block(
     Ok(())
 }
 
-/// The blocks that lines speak of are left so.
+/// Checks the blocks that `LEFT` lines name.
 fn expect_left(
     rt: &impl Print,
     disk: &mut MemDisk,
@@ -227,7 +228,7 @@ fn expect_left(
     Ok(())
 }
 
-/// Prints what the disk was asked for, for each line that asks for it: without a cache, and with the largest.
+/// Prints the number of calls of the disk, for each `COST` line: without a cache, and with the largest.
 fn print_costs(
     rt: &impl Print,
     calls: Calls,
@@ -253,7 +254,7 @@ fn print_costs(
     Ok(())
 }
 
-/// Plays the lines of a row from one start to the next over a disk, of which so many blocks are kept in memory.
+/// Plays the lines of a row from one start to the next over a disk with a cache of `kept` blocks.
 fn play_kept(
     rt: &impl Print,
     desk: &mut Desk,
@@ -270,8 +271,8 @@ fn play_kept(
     }
 }
 
-/// Plays a row with one of its alternatives over a disk of which so many blocks are kept in memory; gives the disk that
-/// is left.
+/// Plays a row with one of its alternatives over a disk with a cache of `kept` blocks, and returns the disk that is
+/// left.
 fn play_row(rt: &impl Print, desk: &mut Desk, row: &Row, kept: usize) -> Result<MemDisk> {
     let mut disk = disk_of(desk.alloc, row, desk.alternative)?;
     desk.moment = Moment::new(0, 0)?;
@@ -285,7 +286,7 @@ fn play_row(rt: &impl Print, desk: &mut Desk, row: &Row, kept: usize) -> Result<
     Ok(disk)
 }
 
-/// How many blocks of two disks are not the same.
+/// Returns how many blocks of two disks are different.
 pub fn different_blocks(one: &mut MemDisk, other: &mut MemDisk) -> u32 {
     let mut count = 0u32;
     for n in 0..one.blocks() {
@@ -296,8 +297,8 @@ pub fn different_blocks(one: &mut MemDisk, other: &mut MemDisk) -> u32 {
     count
 }
 
-/// Plays a row with one of its alternatives, without a cache and with caches of one, two and 256 blocks; the same has
-/// to be left of the disk.
+/// Plays a row with one of its alternatives, without a cache and with caches of one, two and 256 blocks, and checks
+/// that the same is left of the disk. Returns how many lines came out otherwise.
 pub fn play_once(rt: &impl Print, alloc: Global, row: &Row, alternative: usize) -> Result<u64> {
     let mut desk = Desk::new(alloc, alternative)?;
     let mut plain = play_row(rt, &mut desk, row, 0)?;

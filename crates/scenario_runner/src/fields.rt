@@ -1,12 +1,13 @@
+//! The fields of a line of a row.
 use anyhow::{Context, Result};
 use words36::Ppn;
 
-/// What stands at a place of a line, or nothing where it doesn't go that far.
+/// Returns the field at a place of a line, or an empty one after the line's end.
 pub fn field<'a>(fields: &[&'a str], place: usize) -> &'a str {
     fields.get(place).copied().unwrap_or("")
 }
 
-/// The number, in decimal, that stands at a place of a line.
+/// Returns the decimal number at a place of a line.
 pub fn decimal(fields: &[&str], place: usize) -> Result<u32> {
     let field = field(fields, place);
     field
@@ -14,7 +15,7 @@ pub fn decimal(fields: &[&str], place: usize) -> Result<u32> {
         .context(format_args!("not a number: {field:?}"))
 }
 
-/// The same, where the line goes that far.
+/// Returns the decimal number at a place of a line, or the other one after the line's end.
 pub fn decimal_or(fields: &[&str], place: usize, other: u32) -> Result<u32> {
     if place < fields.len() {
         decimal(fields, place)
@@ -23,13 +24,13 @@ pub fn decimal_or(fields: &[&str], place: usize, other: u32) -> Result<u32> {
     }
 }
 
-/// The number, in octal, that stands at a place of a line.
+/// Returns the octal number at a place of a line.
 pub fn octal(fields: &[&str], place: usize) -> Result<u64> {
     let field = field(fields, place);
     u64::from_str_radix(field, 8).context(format_args!("not a number: {field:?}"))
 }
 
-/// The same, or zero behind the line's end.
+/// Returns the octal number at a place of a line, or zero after the line's end.
 pub fn octal_or_zero(fields: &[&str], place: usize) -> Result<u64> {
     if place < fields.len() {
         octal(fields, place)
@@ -38,7 +39,7 @@ pub fn octal_or_zero(fields: &[&str], place: usize) -> Result<u64> {
     }
 }
 
-/// The owner of a directory at a place of a line: `[p,n]`, in octal.
+/// Returns the owner of a directory at a place of a line: `[p,n]`, in octal.
 pub fn owner(fields: &[&str], place: usize) -> Result<Ppn> {
     let field = field(fields, place);
     let halves = field

@@ -1,10 +1,10 @@
-//! Plays texts of worked rows: each is played over a disk in memory, from a start to the next; lines of calls go
-//! through `script`, and lines of commands through `session`. What a line means stands at the top of the text that the
-//! program `scenarios` plays, beside its sources. There is nothing here to be promised: it tests and measures the crates
-//! below.
+//! Plays texts of worked rows: each row is played over a disk in memory, from a start to the next; lines of calls go
+//! through `script`, and lines of commands through `session`. The meaning of a line is described at the top of the text
+//! that the program `scenarios` plays, next to its sources. This crate promises nothing: it tests and measures the
+//! crates below.
 #![tactic(auto)]
 
-mod counting;
+mod counting_disk;
 mod desk;
 mod disks;
 mod fields;
@@ -18,7 +18,7 @@ use std::alloc::Global;
 use std::mem;
 use stops::{Manner, Stops, play_stops};
 
-/// Plays each row of the input, and prints what comes out otherwise; gives how many lines did.
+/// Plays each row of the input, and prints what comes out otherwise. Returns how many lines did.
 pub fn play_all(rt: &(impl Print + Input), alloc: Global) -> Result<u64> {
     let mut parts = Vec::new(alloc);
     let mut row = Row::new(alloc);
@@ -38,13 +38,13 @@ pub fn play_all(rt: &(impl Print + Input), alloc: Global) -> Result<u64> {
     Ok(mistakes.saturating_add(play(rt, alloc, &row)?))
 }
 
-/// Whether a row begins with a line.
+/// Returns whether a row begins with a line.
 fn is_title(line: &str) -> bool {
     let (word, _title) = line.split_once(' ').unwrap_or((line, ""));
     matches!(word, "ROW" | "STOPS" | "FAULTS" | "PART")
 }
 
-/// Plays a row with each of its alternatives, and prints its title. A part is played in rows alone.
+/// Plays a row with each of its alternatives, and prints its title. A part is played only in rows.
 fn play(rt: &impl Print, alloc: Global, row: &Row) -> Result<u64> {
     if let Some(title) = row.title().strip_prefix("STOPS ") {
         return play_stopped(rt, alloc, row, title, Manner::Stops);

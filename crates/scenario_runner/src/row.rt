@@ -1,3 +1,4 @@
+//! A worked row: its title, its lines and their alternatives.
 use anyhow::{Context, Result};
 use std::alloc::Global;
 
@@ -9,7 +10,7 @@ pub struct Row {
 }
 
 impl Row {
-    /// A row without a title, which isn't played.
+    /// Returns a row without a title, which isn't played.
     pub fn new(alloc: Global) -> Row {
         Row {
             title: String::new(alloc),
@@ -17,7 +18,7 @@ impl Row {
         }
     }
 
-    /// A row with a title and no lines yet.
+    /// Returns a row with a title and no lines yet.
     pub fn titled(alloc: Global, title: &str) -> Result<Row> {
         Ok(Row {
             title: String::from_str(alloc, title)?,
@@ -51,7 +52,7 @@ impl Row {
         self.lines.as_slice()
     }
 
-    /// How often the row is played: its lines are numbered alternatives, from 0 on.
+    /// Returns how many times the row is played: its lines have numbered alternatives, counted from 0.
     pub fn alternatives(&self) -> usize {
         let mut most = 0;
         for line in &self.lines {
@@ -63,7 +64,7 @@ impl Row {
     }
 }
 
-/// Behind a `~` stand the number of an alternative and its step.
+/// Returns the number of an alternative: what follows a `~` is this number and its step.
 fn number_of(other: &str) -> usize {
     let number = match other.split_once(' ') {
         Some((number, _step)) => number,
@@ -72,7 +73,7 @@ fn number_of(other: &str) -> usize {
     number.parse::<usize>().unwrap_or(0)
 }
 
-/// The step of a line: of several alternatives the last one with a number up to this.
+/// Returns the step of a line: of several alternatives the last one with a number up to this.
 pub fn step(line: &str, alternative: usize) -> &str {
     let mut chosen = line.split(" ~").next().unwrap_or("");
     for other in line.split(" ~").skip(1) {
@@ -86,7 +87,7 @@ pub fn step(line: &str, alternative: usize) -> &str {
     chosen
 }
 
-/// A step without a remark, which stands behind a `#`.
+/// Returns a step without its remark, which follows a `#`.
 pub fn without_remark(step: &str) -> &str {
     match step.split_once('#') {
         Some((step, _remark)) => step.trim(),

@@ -1,3 +1,4 @@
+//! The steps of a row: sessions, events, and words of a core.
 use crate::desk::Desk;
 use crate::fields::{decimal, decimal_or, field, octal, owner};
 use crate::row::{step, without_remark};
@@ -32,7 +33,7 @@ pub fn play_steps<D: Disk>(
     end_session(rt, monitor, desk)
 }
 
-/// Plays the session whose lines were read, where there is one: it prints what is wanted.
+/// Plays the session whose lines were read, if there is one, and checks what it prints.
 fn end_session<D: Disk>(rt: &impl Print, monitor: &mut Monitor<D>, desk: &mut Desk) -> Result<()> {
     if desk.asked.is_empty() {
         return Ok(());
@@ -45,7 +46,7 @@ fn end_session<D: Disk>(rt: &impl Print, monitor: &mut Monitor<D>, desk: &mut De
     Ok(())
 }
 
-/// What a session prints.
+/// Returns what a session prints.
 fn talk<D: Disk>(
     alloc: Global,
     monitor: &mut Monitor<D>,
@@ -58,7 +59,7 @@ fn talk<D: Disk>(
     Ok(writer)
 }
 
-/// What a line of a call script is answered with.
+/// Returns the answer to a line of a call script.
 fn answer<D: Disk>(
     alloc: Global,
     monitor: &mut Monitor<D>,
@@ -71,7 +72,7 @@ fn answer<D: Disk>(
     Ok(writer)
 }
 
-/// An event is answered so.
+/// Checks the answer to an event.
 fn expect_answer<D: Disk>(
     rt: &impl Print,
     monitor: &mut Monitor<D>,
@@ -84,7 +85,7 @@ fn expect_answer<D: Disk>(
     Ok(())
 }
 
-/// Plays a line that is no session's.
+/// Plays a line that isn't part of a session.
 fn play_step<D: Disk>(
     rt: &impl Print,
     monitor: &mut Monitor<D>,
@@ -145,7 +146,7 @@ fn play_event<D: Disk>(
     }
 }
 
-/// `CHARGE [p,n]`: a directory has this quota and this charge, or there is none.
+/// Plays `CHARGE [p,n]`: checks which quota and which charge a directory has, or that there is none.
 fn expect_charge<D: Disk>(
     rt: &impl Print,
     monitor: &Monitor<D>,
@@ -178,7 +179,7 @@ fn play_words<D: Disk>(
     }
 }
 
-/// `J DEPS ADDR WORD ..`: these words stand in a core from an address on.
+/// Plays `J DEPS ADDR WORD ..`: deposits these words in a core from an address.
 fn deposit_words<D: Disk>(
     rt: &impl Print,
     monitor: &mut Monitor<D>,
@@ -194,7 +195,7 @@ fn deposit_words<D: Disk>(
     Ok(())
 }
 
-/// `J EXAS ADDR WORD ..`: these words are looked at.
+/// Plays `J EXAS ADDR WORD ..`: examines the words of a core from an address, and checks that they are these.
 fn examine_words<D: Disk>(
     rt: &impl Print,
     monitor: &mut Monitor<D>,
@@ -211,8 +212,8 @@ fn examine_words<D: Disk>(
     Ok(())
 }
 
-/// `J FILL ADDR COUNT FIRST STEP`: so many words, each by so much more than the one before it, in decimal. A step that
-/// isn't said is 1.
+/// Plays `J FILL ADDR COUNT FIRST STEP`: deposits COUNT words, each by STEP more than the one before it, in decimal. If
+/// STEP is missing, it is 1.
 fn fill<D: Disk>(
     rt: &impl Print,
     monitor: &mut Monitor<D>,
@@ -230,7 +231,7 @@ fn fill<D: Disk>(
     Ok(())
 }
 
-/// `J HAS ADDR COUNT FIRST STEP`: these words stand in a core from an address on.
+/// Plays `J HAS ADDR COUNT FIRST STEP`: checks that these words are in a core from an address.
 fn expect_words<D: Disk>(
     rt: &impl Print,
     monitor: &mut Monitor<D>,

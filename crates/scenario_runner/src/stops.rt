@@ -1,5 +1,5 @@
-//! Stops at each call of a disk, and again in recovery: what a crash leaves is started, and has the files from behind
-//! the events that were answered, or those from behind one more.
+//! Stops at each call of a disk, and again in recovery: a start over what a crash leaves must find the files after the
+//! events that were answered, or those after one more.
 use crate::desk::Desk;
 use crate::disks::{different_blocks, disk_of, forget_record, play_over, start_over};
 use crate::row::Row;
@@ -7,35 +7,35 @@ use anyhow::{Result, ensure};
 use blockdisk::{Disk, Fail, FuseDisk, MemDisk, Pick};
 use std::alloc::Global;
 
-/// What a crash leaves of the open blocks.
+/// The choices of what a crash leaves of the open blocks.
 const PICKS: [Pick; 5] = [Pick::Old, Pick::New, Pick::Damaged, Pick::Half, Pick::Open];
 
 /// More calls than the lines of a row make of their disk.
 const MOST_CALLS: u64 = 5000;
 
-/// How many writes and syncs of a recovery are recorded.
+/// The number of writes and syncs of a recovery that are recorded.
 const RECORDED: usize = 500;
 
-/// How the lines of a row are stopped.
+/// The way in which the lines of a row are stopped.
 #[derive(Clone, Copy, PartialEq, Eq)]
 pub enum Manner {
     /// By a crash, of which each pick is tried, and by another one in each recovery.
     Stops,
-    /// By a fault of the disk alone, behind which it serves.
+    /// By a fault of the disk alone, after which the disk serves again.
     Faults,
 }
 
-/// How a row came out at its stops.
+/// The result of a row at its stops.
 #[derive(Clone, Copy)]
 pub struct Stops {
-    /// How often what was left was started.
+    /// The number of starts over what was left.
     pub starts: u64,
-    /// How often the files were others, or an event was answered otherwise.
+    /// The number of times that the files were others, or an event was answered otherwise.
     pub mistakes: u64,
 }
 
 impl Stops {
-    /// Something came out otherwise.
+    /// Counts a mistake.
     fn miss(&mut self) {
         self.mistakes = self.mistakes.saturating_add(1);
     }
@@ -47,22 +47,22 @@ struct Trial<'a> {
     row: &'a Row,
     /// The lines that are stopped.
     stopped: &'a [String],
-    /// Those that tell what is there behind so many events, which is the number of their alternative.
+    /// The lines that check what is there after n events, where n is the number of their alternative.
     telling: &'a [String],
     manner: Manner,
 }
 
-/// What is left where the disk failed, or didn't.
+/// The state after a disk failed, or didn't.
 #[derive(Drop)]
 struct Left {
     disk: MemDisk,
-    /// How many events were answered before.
+    /// The number of events that were answered before.
     answered: usize,
     has_failed: bool,
     mistakes: u64,
 }
 
-/// A disk with the same blocks, on which nothing is recorded.
+/// Returns a disk with the same blocks, on which nothing is recorded.
 fn copy_of(alloc: Global, disk: &mut MemDisk) -> Result<MemDisk> {
     let mut copy = MemDisk::new(alloc, disk.blocks(), RECORDED)?;
     for n in 0..disk.blocks() {
@@ -75,7 +75,7 @@ fn copy_of(alloc: Global, disk: &mut MemDisk) -> Result<MemDisk> {
     Ok(copy)
 }
 
-/// Whether these lines come out on a disk, by this alternative.
+/// Returns whether these lines come out as wanted on a disk, by this alternative.
 fn comes_out(
     rt: &impl Print,
     alloc: Global,
@@ -88,7 +88,7 @@ fn comes_out(
     Ok(desk.mistakes == 0)
 }
 
-/// Starts what is left of a disk: the files are those behind so many events, or behind one more.
+/// Starts what is left of a disk, and checks that the files are those after `answered` events, or after one more.
 fn judge(
     rt: &impl Print,
     alloc: Global,
@@ -108,8 +108,8 @@ fn judge(
     Ok(())
 }
 
-/// Starts the service on a copy of a disk that fails once so many calls have passed, and crashes it. Gives the disk,
-/// and whether it was stopped.
+/// Starts the service on a copy of a disk that fails after `passing` calls, and crashes it. Returns the disk, and
+/// whether the start was stopped.
 fn recover(alloc: Global, disk: &mut MemDisk, passing: u64, pick: Pick) -> Result<(MemDisk, bool)> {
     let fused = FuseDisk::new(copy_of(alloc, disk)?, passing, Fail::All);
     let (mut left, was_stopped) = match start_over(alloc, fused) {
@@ -120,7 +120,7 @@ fn recover(alloc: Global, disk: &mut MemDisk, passing: u64, pick: Pick) -> Resul
     Ok((left, was_stopped))
 }
 
-/// Stops the recovery of a disk behind so many calls, and crashes it in each way that leaves something else. Gives
+/// Stops the recovery of a disk after `passing` calls, and crashes it in each way that leaves something else. Returns
 /// whether it was stopped.
 fn stop_recovery(
     rt: &impl Print,
@@ -163,7 +163,7 @@ fn stop_recoveries(
     Ok(())
 }
 
-/// Plays the lines of a row over a disk that fails once so many calls have passed.
+/// Plays the lines of a row over a disk that fails after `passing` calls.
 fn play_failing(
     rt: &impl Print,
     alloc: Global,
@@ -184,7 +184,7 @@ fn play_failing(
     })
 }
 
-/// Stops the lines of a row behind so many calls of the disk, by a crash with this pick.
+/// Stops the lines of a row after `passing` calls of the disk, by a crash with this pick.
 fn crash_lines(
     rt: &impl Print,
     alloc: Global,
@@ -203,8 +203,8 @@ fn crash_lines(
     judge(rt, alloc, disk, trial, answered, stops)
 }
 
-/// Stops the lines of a row behind so many calls of the disk: once it has failed it is asked for nothing more, whether
-/// it would serve or not. Gives whether they were stopped.
+/// Stops the lines of a row after `passing` calls of the disk: after it has failed it isn't called any more, whether it
+/// would serve or not. Returns whether they were stopped.
 fn stop_lines(
     rt: &impl Print,
     alloc: Global,
@@ -229,8 +229,8 @@ fn stop_lines(
     Ok(failing.has_failed)
 }
 
-/// Plays a row of which the lines up to its RESTART are stopped at each call of the disk, and where they are stopped by
-/// a crash, each recovery behind that at each of its own, whatever the crashes leave of the open blocks.
+/// Plays a row whose lines up to its RESTART are stopped at each call of the disk. If they are stopped by a crash, each
+/// recovery after that is stopped at each of its own calls, whatever the crashes leave of the open blocks.
 pub fn play_stops(rt: &impl Print, alloc: Global, row: &Row, manner: Manner) -> Result<Stops> {
     let mut sections = row.lines().split(|line| line.as_str() == "RESTART");
     let trial = Trial {

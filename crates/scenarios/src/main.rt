@@ -1,5 +1,5 @@
-//! Plays the worked rows of its standard input, which is the file `stdin` beside its sources, and prints which of them
-//! come out as they should. The status is 1 where a line comes out otherwise.
+//! Plays the worked rows of its standard input, which is the file `stdin` next to its sources, and prints which of them
+//! come out as they should. The status is 1 if a line comes out otherwise.
 #![tactic(auto)]
 
 use anyhow::Result;

@@ -1,6 +1,6 @@
--- A directory's chain of blocks, and the directory after an entry is given another value or put in. ChainRemoval takes
--- one out. Each edit takes the chain before it by its shape, and what the new contents hold in the blocks that changed.
--- In each section `o` says that the order of the keys is total, and `exact` that only equal keys tie in it.
+-- A directory's chain of blocks, and the directory after an entry gets another value or is put in. ChainRemoval takes
+-- one out. Each edit takes the chain before it by its shape, and what the new contents have in the blocks that changed.
+-- In each section `o` states that the order of the keys is total, and `exact` that only equal keys tie in it.
 use Rattle.std.proofs.Common.{◌≡◌, ℕ, ◌+◌, ◌*◌, ◌<◌, ◌≤◌, Bool, true, false, cond, List, [], ◌∷◌, ◌++◌, length}
 use Rattle.std.proofs.Common.{Option, Some, None, ◌⊎◌, inl, inr, refl, sym, ap, subst, ◌∙◌, arith, Ordering}
 use Rattle.std.proofs.Common.{append_assoc, append-nil, length-append, lit<, lit≤}
@@ -43,13 +43,13 @@ has_last x [] = record { front = []; last = x; is = refl }
 has_last x (y ∷ ys) = let r = has_last y ys in
     record { front = x ∷ r.front; last = r.last; is = ap (λ zs. x ∷ zs) r.is }
 
--- what holds of each element holds of one of them and of the others
+-- what holds for each element holds for one of them and for the others
 pub all_without : {X : Type 0} (P : X → Type 0) (us : List X) (e : X) (vs : List X) → AllByRecursion P (us ++ e ∷ vs)
     → P e × AllByRecursion P (us ++ vs)
 all_without P [] e vs a = a
 all_without P (u ∷ us) e vs a = let r = all_without P us e vs a.1 in (r.0, (a.0, r.1))
 
--- what holds of an element and of the others holds of each
+-- what holds for an element and for the others holds for each
 pub all_around : {X : Type 0} (P : X → Type 0) (us : List X) (e : X) (vs : List X) → P e → AllByRecursion P (us ++ vs)
     → AllByRecursion P (us ++ e ∷ vs)
 all_around P [] e vs p a = (p, a)
@@ -85,7 +85,7 @@ module _ {E : Type 0} where
   numbers_alike [] xs ys e = e
   numbers_alike (p ∷ pre) xs ys e = ap (λ ns. p.0 ∷ ns) (numbers_alike pre xs ys e)
 
-  -- an end with one block more
+  -- an end with one more block
   pub numbers_more : (pre xs ys : List (Node E)) (n : ℕ) → numbers ys ≡ numbers xs ++ n ∷ []
       → numbers (pre ++ ys) ≡ numbers (pre ++ xs) ++ n ∷ []
   numbers_more [] xs ys n e = e
@@ -192,7 +192,7 @@ module _ {K V : Type 0} {R : K → K → Ordering} (o : IsTotalOrder R) (exact :
     map_is = from_entries_without o exact us e vs l.each_once ∙ ap (λ n. remove n e.0) l.map_is;
   }
 
-  -- an entry is given another value
+  -- an entry gets another value
   listing_replaced : (us : List (K × V)) (k : K) (v w : V) (vs : List (K × V)) (m : FinMap R V)
       → IsListing R IsEntry (us ++ (k, v) ∷ vs) m → IsEntry (k, w)
       → IsListing R IsEntry (us ++ (k, w) ∷ vs) (insert m k w)
@@ -284,19 +284,19 @@ module _ {K V : Type 0} {R : K → K → Ordering} (o : IsTotalOrder R) (exact :
       → numbers (pre ++ ys) ≡ blocks
   blocks_still pre xs ys is e = sym (numbers_alike pre xs ys e) ∙ ap numbers (sym is) ∙ d.blocks_are
 
-  -- one block more
+  -- one more block
   blocks_more : (pre xs ys : List (Node (K × V))) (n : ℕ) → d.nodes ≡ pre ++ xs → numbers ys ≡ numbers xs ++ n ∷ []
       → numbers (pre ++ ys) ≡ blocks ++ n ∷ []
   blocks_more pre xs ys n is e = numbers_more pre xs ys n e
       ∙ ap (λ ns. ns ++ n ∷ []) (ap numbers (sym is) ∙ d.blocks_are)
 
-  -- all blocks but the last
+  -- all blocks except the last
   pub blocks_fewer : (pre xs ys : List (Node (K × V))) (n : ℕ) (front : List ℕ) → d.nodes ≡ pre ++ xs
       → numbers xs ≡ numbers ys ++ n ∷ [] → blocks ≡ front ++ n ∷ [] → numbers (pre ++ ys) ≡ front
   blocks_fewer pre xs ys n front is e b = append_cancel_right (numbers (pre ++ ys)) front (n ∷ [])
       (sym (numbers_more pre ys xs n e) ∙ ap numbers (sym is) ∙ d.blocks_are ∙ b)
 
-  -- a block is given other entries, and other blocks come after it
+  -- a block gets other entries, and other blocks come after it
   pub edited : (pre : List (Node (K × V))) (n : ℕ) (es fs : List (K × V)) (xs ys : List (Node (K × V)))
       (blocks' : List ℕ) (m' : FinMap R V) → d.nodes ≡ pre ++ (n, es) ∷ xs → (pre ≡ []) ⊎ (0 < length fs)
       → AgreeOn (numbers pre) old new → IsSpelled words new ((n, fs) ∷ ys) → IsFilled ((n, fs) ∷ ys)
@@ -323,7 +323,7 @@ module _ {K V : Type 0} {R : K → K → Ordering} (o : IsTotalOrder R) (exact :
         map_is = after.map_is;
       }
 
-  -- An entry is given another value in its place.
+  -- An entry gets another value in its place.
   pub entry_replaced : (pre post : List (Node (K × V))) (n : ℕ) (xs ys : List (K × V)) (k : K) (v w : V)
       → d.nodes ≡ pre ++ (n, xs ++ (k, v) ∷ ys) ∷ post → IsEntry (k, w)
       → new n ≡ Some (directory_block words (first_of post) (xs ++ (k, w) ∷ ys))

@@ -1,7 +1,7 @@
--- A directory after an entry is taken out. The last entry of the chain may be moved into its place, and a
--- last block that is left without an entry is dropped, unless it is the first.
--- Each edit takes the chain before it by its shape, and what the new contents hold in the blocks that changed.
--- In each section `o` says that the order of the keys is total, and `exact` that only equal keys tie in it.
+-- A directory after an entry is taken out. The last entry of the chain may be moved into its place, and a last block
+-- that is left without an entry is dropped, unless it is the first. Each edit takes the chain before it by its shape,
+-- and what the new contents have in the blocks that changed. In each section `o` states that the order of the keys is
+-- total, and `exact` that only equal keys tie in it.
 use Rattle.std.proofs.Common.{◌≡◌, ℕ, ◌<◌, ◌≤◌, List, [], ◌∷◌, ◌++◌, length, Some, None, ◌⊎◌, inr, refl, sym, ap}
 use Rattle.std.proofs.Common.{subst, ◌∙◌, arith, Ordering, append_assoc, append-nil, length-append}
 use Rattle.std.specs.List.{AllByRecursion}
@@ -19,11 +19,11 @@ use Rattle.spec_image.proofs.ChainEdits.{numbers_more, numbers_alike, first_alik
 use Rattle.spec_image.proofs.ChainEdits.{filled_front, filled_alike, IsListing, listing_without, end_spelled}
 use Rattle.spec_image.proofs.ChainEdits.{end_filled, blocks_still, blocks_fewer, edited}
 
--- two lists with one element between them, where only the elements differ
+-- two lists with one element between them, of which only the elements differ
 one_each : {X : Type 0} (xs : List X) (x y : X) (ys : List X) → length (xs ++ x ∷ ys) ≡ length (xs ++ y ∷ ys)
 one_each xs x y ys = length-append xs (x ∷ ys) ∙ sym (length-append xs (y ∷ ys))
 
--- the last entry of a chain, where its block has others
+-- the last entry of a chain, if its block has others
 items_pop : {E : Type 0} (mid : List (Node E)) (n : ℕ) (zs : List E) (l : E)
     → items (mid ++ (n, zs ++ l ∷ []) ∷ []) ≡ items (mid ++ (n, zs) ∷ []) ++ l ∷ []
 items_pop mid n zs l =
@@ -31,7 +31,7 @@ items_pop mid n zs l =
     items-append mid ((n, zs ++ l ∷ []) ∷ []) ∙ ap (λ us. items mid ++ us) (append-nil (zs ++ l ∷ []))
     ∙ sym (append_assoc (items mid) zs (l ∷ [])) ∙ ap (λ us. us ++ l ∷ []) (sym front)
 
--- the last entry of a chain, where it is alone in its block
+-- the last entry of a chain, if it is alone in its block
 items_drop : {E : Type 0} (mid : List (Node E)) (p : ℕ) (es : List E) (n : ℕ) (l : E)
     → items (mid ++ (p, es) ∷ (n, l ∷ []) ∷ []) ≡ items (mid ++ (p, es) ∷ []) ++ l ∷ []
 items_drop mid p es n l =
@@ -59,7 +59,7 @@ listing_moved {R = R} o exact IsEntry us e l vs m h =
 module _ {K V : Type 0} {R : K → K → Ordering} (o : IsTotalOrder R) (exact : IsAntisymmetric R) (words : K × V
     → List ℕ) (IsEntry : K × V → Type 0) (old new : Contents) (blocks : List ℕ) (m : FinMap R V)
     (d : IsDirectory R words IsEntry old blocks m) where
-  -- What lies behind the entry loses its last entry, which is moved into the entry's place.
+  -- What lies after the entry loses its last entry, which is moved into the entry's place.
   moved : (pre : List (Node (K × V))) (q : ℕ) (xs ys zs : List (K × V)) (e l : K
       × V) (post rest : List (Node (K × V))) (blocks' : List ℕ) → d.nodes ≡ pre ++ (q, xs ++ e ∷ ys) ∷ post
       → ys ++ items post ≡ (zs ++ items rest) ++ l ∷ [] → AgreeOn (numbers pre) old new
@@ -73,7 +73,7 @@ module _ {K V : Type 0} {R : K → K → Ordering} (o : IsTotalOrder R) (exact :
       (subst (λ ws. IsListing R IsEntry ws m) (regroup us xs e ys (items post)
       ∙ ap (λ ws. (us ++ xs) ++ e ∷ ws) pops) h)))
 
-  -- An entry of the last block is taken out, and those behind it close up.
+  -- An entry of the last block is taken out, and those after it close up.
   pub entry_removed_in_last : (pre : List (Node (K × V))) (n : ℕ) (xs ys : List (K × V)) (e : K × V)
       → d.nodes ≡ pre ++ (n, xs ++ e ∷ ys) ∷ [] → (pre ≡ []) ⊎ (0 < length (xs ++ ys))
       → new n ≡ Some (directory_block words 0 (xs ++ ys)) → AgreeOn (numbers pre) old new
@@ -108,7 +108,7 @@ module _ {K V : Type 0} {R : K → K → Ordering} (o : IsTotalOrder R) (exact :
       ∙ ap (λ ws. ws ++ l ∷ []) (sym (append-nil zs))) a (h, tt) fewer
       (blocks_still o exact words IsEntry old new blocks m d pre ((n, es) ∷ []) ((n, xs ++ l ∷ zs) ∷ []) is refl)
 
-  -- The one entry of the last block is taken out, and the block dropped.
+  -- The only entry of the last block is taken out, and the block dropped.
   pub last_dropped : (pre : List (Node (K × V))) (p : ℕ) (es : List (K × V)) (n : ℕ) (e : K × V) (front : List ℕ)
       → d.nodes ≡ pre ++ (p, es) ∷ (n, e ∷ []) ∷ [] → blocks ≡ front ++ n ∷ []
       → new p ≡ Some (directory_block words 0 es) → AgreeOn (numbers pre) old new
@@ -148,7 +148,7 @@ module _ {K V : Type 0} {R : K → K → Ordering} (o : IsTotalOrder R) (exact :
       (blocks_still o exact words IsEntry old new blocks m d pre ((q, xs ++ e ∷ ys) ∷ post) ((q, xs ++ l ∷ ys)
       ∷ rest) is (ap (λ ns. q ∷ ns) (numbers_alike mid ((n, zs ++ l ∷ []) ∷ []) ((n, zs) ∷ []) refl)))
 
-  -- An entry of the block before the last is taken out, and the one entry of the last moved into its place; the last
+  -- An entry of the block before the last is taken out, and the only entry of the last moved into its place; the last
   -- block is dropped.
   pub entry_removed_filled_dropped_adjacent : (pre : List (Node (K × V))) (q n : ℕ) (xs ys : List (K × V)) (e l : K
       × V) (front : List ℕ) → d.nodes ≡ pre ++ (q, xs ++ e ∷ ys) ∷ (n, l ∷ []) ∷ [] → blocks ≡ front ++ n ∷ []
@@ -162,7 +162,7 @@ module _ {K V : Type 0} {R : K → K → Ordering} (o : IsTotalOrder R) (exact :
       (blocks_fewer o exact words IsEntry old new blocks m d pre ((q, xs ++ e ∷ ys) ∷ (n, l ∷ []) ∷ [])
       ((q, xs ++ l ∷ ys) ∷ []) n front is refl b)
 
-  -- An entry of an earlier block is taken out, and the one entry of the last moved into its place; the last block is
+  -- An entry of an earlier block is taken out, and the only entry of the last moved into its place; the last block is
   -- dropped.
   pub entry_removed_filled_dropped : (pre mid : List (Node (K × V))) (q p n : ℕ) (xs ys es : List (K × V)) (e l : K
       × V) (front : List ℕ) → d.nodes ≡ pre ++ (q, xs ++ e ∷ ys) ∷ (mid ++ (p, es) ∷ (n, l ∷ []) ∷ [])

@@ -1,4 +1,4 @@
--- Directory chains: what keeps one, and that a first block has at most one.
+-- Directory chains: what keeps one unchanged, and that a first block has at most one.
 use Rattle.std.proofs.Common.{◌≡◌, ℕ, ◌*◌, ◌-◌, List, [], ◌∷◌, ◌++◌, map, length, replicate, flat_map, refl, sym, ap}
 use Rattle.std.proofs.Common.{subst, ◌∙◌, arith, Ordering}
 use Rattle.blockdisk.specs.Common.{Contents}

@@ -32,12 +32,12 @@ pub use Rattle.spec_image.proofs.Settled.{length-targets, settled_same}
 pub use Rattle.spec_image.proofs.QuietLaws.{each_times}
 pub use Rattle.spec_image.proofs.Layouts.{layout_is, layouts_agree, settled_in_any, settled_layout, stands_in_any}
 pub use Rattle.spec_image.proofs.HomeChanges.{homes_raised}
-pub use Rattle.spec_image.proofs.Walking.{all_runs-append, all_times, find_front, flat-append}
-pub use Rattle.spec_image.proofs.Walking.{none_front, once_front, undamaged_at, walk_le, walk_of_chain}
+pub use Rattle.spec_image.proofs.WalkLaws.{all_runs-append, all_times, find_front, flat-append}
+pub use Rattle.spec_image.proofs.WalkLaws.{none_front, once_front, undamaged_at, walk_le, walk_of_chain}
 pub use Rattle.spec_image.proofs.Excluded.{IsMappedFile, file_named, image, no_bad_block, zero_free}
 pub use Rattle.spec_image.proofs.ExcludedFiles.{fault_excludes, no_bad_version, no_fault}
-pub use Rattle.spec_image.proofs.Counting.{below_none, below_sum, below_times, runs-le}
-pub use Rattle.spec_image.proofs.Reading.{directory_reaches, directory_whole, map_mapped, map_reaches, map_stands}
+pub use Rattle.spec_image.proofs.BitCounts.{below_none, below_sum, below_times, runs-le}
+pub use Rattle.spec_image.proofs.FoundMaps.{directory_reaches, directory_whole, map_mapped, map_reaches, map_stands}
 pub use Rattle.spec_image.proofs.MapParts.{found-le-sum}
 pub use Rattle.spec_image.proofs.VersionEdits.{version_rewritten}
 pub use Rattle.spec_image.proofs.FileChanges.{published, removed, renamed_across, renamed_within}

@@ -1,4 +1,4 @@
--- What a change makes of the directories: one is made, given another protection and quota, or removed.
+-- What a change makes of the directories: one is made, gets another protection and quota, or is removed.
 use Rattle.std.proofs.Common.{◌≡◌, ℕ, ◌+◌, ◌<◌, ◌≤◌, List, map, Some, None, sym, ap, subst, ◌∙◌, arith}
 use Rattle.std.specs.Cmp.{nat_cmp_total}
 use Rattle.std.specs.FinMap.{nat_cmp-IsAntisymmetric}
@@ -51,7 +51,7 @@ directory_made size old new m chain ppn protection quota blocks s none p q c mas
     (bare_is_whole m.layout new ppn protection quota blocks p q c) master first only (λ n. omega arith) table
     (λ n. omega (arith, reaches-bare n protection quota blocks))
 
--- A directory is given another protection and another quota: its own chain and its files stay.
+-- A directory gets another protection and another quota: its own chain and its files stay.
 pub directory_protected : (size : ℕ) (old new : Contents) (m : DiskMap) (chain : List ℕ) (ppn : ℕ) (d : StoredDirectory)
     (protection quota : ℕ)
     → HasMap size old m → get m.directories ppn ≡ Some d → protection < 512 → quota < quota_limit m.layout
@@ -70,7 +70,7 @@ directory_protected size old new m chain ppn d protection quota s at p q master 
     (record { protection = p; quota = q; chain = w.chain; files = w.files }) master first only (λ n. omega arith) table
     (λ n. omega arith)
 
--- A directory with no files is removed, and gives up its chain.
+-- A directory with no files is removed, and its chain is freed.
 pub directory_removed : (size : ℕ) (old new : Contents) (m : DiskMap) (chain : List ℕ) (ppn : ℕ) (d : StoredDirectory)
     → HasMap size old m → get m.directories ppn ≡ Some d → d.files ≡ empty
     → IsMasterChain new chain (remove (entries_of m) ppn) → head_or_zero chain ≡ head_or_zero m.chain

@@ -10,9 +10,10 @@ use Rattle.blockdisk.specs.Common.{Contents}
 use Rattle.spec_image.specs.Maps.{get}
 use Rattle.spec_image.specs.Files.{File, Files}
 use Rattle.spec_image.specs.Regions.{table_blocks, table_start, space_start}
-use Rattle.spec_image.specs.Home.{Home, home_block, IsHomeCopy, IsHome}
+use Rattle.spec_image.specs.Home.{SpecHome, home_block, IsHomeCopy, IsHome}
 use Rattle.spec_image.specs.Table.{bit_in, table_bit, fixed}
-use Rattle.spec_image.specs.Directories.{MasterEntry, FileEntry, master_words, IsMasterEntry, file_words, IsFileEntry}
+use Rattle.spec_image.specs.Directories.{SpecMasterEntry, SpecFileEntry, master_words, IsMasterEntry, file_words}
+use Rattle.spec_image.specs.Directories.{IsFileEntry}
 use Rattle.spec_image.specs.Stands.{StoredFile, StoredDirectory, DiskMap, files_of, reaches_in_file}
 use Rattle.spec_image.specs.Stands.{reaches_in_directory, reaches, quota_limit, place_of, IsWhole, entry_of, IsMapped}
 use Rattle.spec_image.specs.Stands.{IsMarked, HasMap, SettledStands}
@@ -30,7 +31,7 @@ use Rattle.spec_image.proofs.Versions.{version_kept, version_same}
 pub master_apart : TellsApart master_words
 master_apart = record { three = λ e. refl; same = entry }
   where
-    entry : (e f : MasterEntry) → master_words e ≡ master_words f → e ≡ f
+    entry : (e f : SpecMasterEntry) → master_words e ≡ master_words f → e ≡ f
     entry e f is =
         let a : e.0 ≡ f.0 = cc in
         let b : e.1.0 ≡ f.1.0 = cc in
@@ -40,7 +41,7 @@ master_apart = record { three = λ e. refl; same = entry }
 pub file_apart : TellsApart file_words
 file_apart = record { three = λ e. refl; same = entry }
   where
-    entry : (e f : FileEntry) → file_words e ≡ file_words f → e ≡ f
+    entry : (e f : SpecFileEntry) → file_words e ≡ file_words f → e ≡ f
     entry e f is =
         let a : e.0.name ≡ f.0.name = cc in
         let b : e.0.ext * 2 ^ 18 + 0 ≡ f.0.ext * 2 ^ 18 + 0 = cc in
@@ -78,9 +79,9 @@ pub file_part : (d : StoredDirectory) (name : FileName) (f : StoredFile) → get
     → reaches_in_file n f ≤ reaches_in_directory n d
 file_part d name f is n = let a = at-le-sum name_total name_exact (reaches_in_file n) d.files name f is in omega arith
 
--- What keeps the parts.
+-- What keeps the parts unchanged.
 
-copy_kept : (size : ℕ) (old new : Contents) (n : ℕ) (home : Home) → new n ≡ old n → IsHomeCopy size old n home
+copy_kept : (size : ℕ) (old new : Contents) (n : ℕ) (home : SpecHome) → new n ≡ old n → IsHomeCopy size old n home
     → IsHomeCopy size new n home
 copy_kept size old new n home e h = record {
   words = e ∙ h.words;
@@ -89,7 +90,7 @@ copy_kept size old new n home e h = record {
   master_below = h.master_below;
 }
 
-pub home_kept : (size : ℕ) (old new : Contents) (home : Home) → new 1 ≡ old 1 → new 2 ≡ old 2 → IsHome size old home
+pub home_kept : (size : ℕ) (old new : Contents) (home : SpecHome) → new 1 ≡ old 1 → new 2 ≡ old 2 → IsHome size old home
     → IsHome size new home
 home_kept size old new home e f (inl h) = inl (copy_kept size old new 1 home e h)
 home_kept size old new home e f (inr h) = inr (
@@ -107,7 +108,7 @@ whole_kept layout old new ppn d w a = record {
       (λ n h. a n (let q = file_part d name f is n in omega arith));
 }
 
--- A map stays where the home copies and its own blocks do.
+-- A map stays if the home copies and its own blocks do.
 pub mapped_kept : (size : ℕ) (old new : Contents) (m : DiskMap) → IsMapped size old m → new 1 ≡ old 1
     → new 2 ≡ old 2 → ((n : ℕ) → 0 < reaches n m → new n ≡ old n) → IsMapped size new m
 mapped_kept size old new m s e f a = record {
@@ -147,7 +148,7 @@ module _ (size : ℕ) (old new : Contents) (q : DifferInFree size old old new) w
 
 -- At most one.
 
-copy_same : (size : ℕ) (contents : Contents) (n : ℕ) (h k : Home) → IsHomeCopy size contents n h
+copy_same : (size : ℕ) (contents : Contents) (n : ℕ) (h k : SpecHome) → IsHomeCopy size contents n h
     → IsHomeCopy size contents n k → h ≡ k
 copy_same size contents n h k is also =
     let e : home_block size h ≡ home_block size k = some_same (sym is.words ∙ also.words) in
@@ -155,7 +156,7 @@ copy_same size contents n h k is also =
     let masters : h.master ≡ k.master = cc in
     λ i. record { layout = layouts i; master = masters i }
 
-pub home_same : (size : ℕ) (contents : Contents) (h k : Home) → IsHome size contents h → IsHome size contents k → h ≡ k
+pub home_same : (size : ℕ) (contents : Contents) (h k : SpecHome) → IsHome size contents h → IsHome size contents k → h ≡ k
 home_same size contents h k (inl a) (inl b) = copy_same size contents 1 h k a b
 home_same size contents h k (inl a) (inr b) = absurd (b.0 h a)
 home_same size contents h k (inr a) (inl b) = absurd (a.0 k b)
@@ -207,13 +208,13 @@ pub stands_same : (size : ℕ) (settled : Contents) (f g : Files File) → Settl
     → SettledStands size settled g → f ≡ g
 stands_same size settled f g s r = sym s.2 ∙ ap files_of (map_same size settled s.0 r.0 s.1 r.1) ∙ r.2
 
--- the bits where the table's blocks stay
+-- the bits, if the table's blocks stay
 pub bits_kept_off : (size : ℕ) (old new : Contents) (n : ℕ) → ((k : ℕ) → table_start size ≤ k → new k ≡ old k)
     → table_bit size new n ≡ table_bit size old n
 bits_kept_off size old new n a = ap (λ o. cond (ltb n (4608 * table_blocks size)) (bit_in o n) 0)
     (a (table_start size + n / 4608) (omega arith))
 
--- Gate and log are no part of a map.
+-- The gate and the log are no part of a map.
 pub log_ignored : (size : ℕ) (old new : Contents) (m : DiskMap) → SameOutsideLog size old new → HasMap size old m
     → HasMap size new m
 log_ignored size old new m same s = record {

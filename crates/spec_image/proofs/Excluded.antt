@@ -1,4 +1,4 @@
--- Where a fault stands, the contents stand for no files.
+-- If the contents have a fault, they stand for no files.
 use Rattle.std.proofs.Common.{◌≡◌, ℕ, ◌^◌, ◌<◌, ⊎_elim, List, [], ◌∷◌, ◌++◌, length, option_map, Option, Some, None}
 use Rattle.std.proofs.Common.{refl, sym, ap, subst, ◌∙◌, arith, nat_cmp, Ordering, append_assoc}
 use Rattle.std.specs.FinMap.{nat_cmp-IsAntisymmetric}
@@ -15,7 +15,7 @@ use Rattle.spec_image.specs.Blocks.{head_or_zero}
 use Rattle.spec_image.specs.Files.{Place, name_cmp}
 use Rattle.spec_image.specs.Regions.{space_start}
 use Rattle.spec_image.specs.Directories.{Node, numbers, first_of, items, directory_block, IsSpelled, IsFilled}
-use Rattle.spec_image.specs.Directories.{IsDirectory, MasterEntry, master_words, IsMasterEntry, file_words}
+use Rattle.spec_image.specs.Directories.{IsDirectory, SpecMasterEntry, master_words, IsMasterEntry, file_words}
 use Rattle.spec_image.specs.Directories.{IsFileEntry}
 use Rattle.spec_image.specs.Stands.{StoredFile, StoredDirectory, DiskMap, blocks_of_file, reaches_in_directory}
 use Rattle.spec_image.specs.Stands.{reaches, entry_of, IsVersion, HasMap}
@@ -30,9 +30,9 @@ use Rattle.spec_image.proofs.Lists.{TellsApart, times_here, times_later, all_lef
 use Rattle.spec_image.proofs.Chains.{block_same}
 use Rattle.spec_image.proofs.DiskMaps.{master_apart, file_apart, none_below, directory_part, file_part, home_same}
 use Rattle.spec_image.proofs.ChainEdits.{items-append, spelled_back}
-use Rattle.spec_image.proofs.Walking.{once_front, IsFilledAt, filled_at, walk_of_directory, entry_there}
+use Rattle.spec_image.proofs.WalkLaws.{once_front, IsFilledAt, filled_at, walk_of_directory, entry_there}
 
--- A block of a directory that stands is good.
+-- A block of a directory that the disk has is good.
 module _ {K V : Type 0} {R : K → K → Ordering} (words : K × V → List ℕ) (apart : TellsApart words)
     (IsMapEntry IsEntry : K × V → Type 0) (target : K × V → ℕ) (size : ℕ) (contents : Contents) (blocks : List ℕ)
     (m : FinMap R V) (d : IsDirectory R words IsMapEntry contents blocks m) (nonzero : times 0 blocks
@@ -108,7 +108,7 @@ module _ {K V : Type 0} {R : K → K → Ordering} (words : K × V → List ℕ)
           at (node ∷ rest) is e = good_at before node.0 node.1 rest is
               (subst (λ k. IsBadBlock R words IsEntry target size contents before k) (sym e) bad)
 
--- what a map has where its image has a value
+-- what a map has if its image has a value
 pub image : {X Y : Type 0} (f : X → Y) (o : Option X) (y : Y) → option_map f o ≡ Some y
     → (x : X) × (o ≡ Some x) × (f x ≡ y)
 image f None y h = cc
@@ -141,7 +141,7 @@ module _ (size : ℕ) (contents : Contents) (m : DiskMap) (s : HasMap size conte
   }
 
   -- the home copy that a walk begins with is the map's
-  pub walk_home : (layout : ℕ) (nodes : List (Node MasterEntry)) (last : ℕ)
+  pub walk_home : (layout : ℕ) (nodes : List (Node SpecMasterEntry)) (last : ℕ)
       (w : IsMasterWalk size contents layout nodes last) → (layout ≡ m.layout) × (w.master ≡ head_or_zero m.chain)
   walk_home layout nodes last w = let h = home_same size contents _ _ w.home s.mapped.home in
       (ap (λ x. x.layout) h, ap (λ x. x.master) h)
@@ -232,7 +232,7 @@ module _ (size : ℕ) (contents : Contents) (m : DiskMap) (s : HasMap size conte
   no_bad_master n bad =
       let home = walk_home bad.layout bad.before n bad.walk in
       let d = s.mapped.master in
-      let good : AllByRecursion (λ (e : MasterEntry). IsMasterEntryOf m.layout e
+      let good : AllByRecursion (λ (e : SpecMasterEntry). IsMasterEntryOf m.layout e
       × InSpace size e.1.1) (items d.nodes) = zip (items d.nodes)
       (each_entry nat_cmp_total (λ ppn e. get (map_values entry_of m.directories) ppn ≡ Some e)
       (items d.nodes) d.each_once entry_is) d.are_entries in
@@ -247,18 +247,18 @@ module _ (size : ℕ) (contents : Contents) (m : DiskMap) (s : HasMap size conte
       entry_is ppn e h = ap (λ z. get z ppn) (sym s.mapped.master.map_is)
           ∙ get-from_entries nat_cmp_total (items s.mapped.master.nodes) ppn ∙ h
 
-      zip : (es : List MasterEntry) → AllByRecursion (λ (e : MasterEntry). get (map_values entry_of m.directories) e.0
+      zip : (es : List SpecMasterEntry) → AllByRecursion (λ (e : SpecMasterEntry). get (map_values entry_of m.directories) e.0
           ≡ Some e.1) es → AllByRecursion IsMasterEntry es
-          → AllByRecursion (λ (e : MasterEntry). IsMasterEntryOf m.layout e × InSpace size e.1.1) es
+          → AllByRecursion (λ (e : SpecMasterEntry). IsMasterEntryOf m.layout e × InSpace size e.1.1) es
       zip [] a b = tt
       zip (e ∷ es) a b = (master_entry_good e.0 e.1 a.0 b.0, zip es a.1 b.1)
 
-      firsts : (es : List MasterEntry) → AllByRecursion (λ (e : MasterEntry). IsMasterEntryOf m.layout e
+      firsts : (es : List SpecMasterEntry) → AllByRecursion (λ (e : SpecMasterEntry). IsMasterEntryOf m.layout e
           × InSpace size e.1.1) es → AllByRecursion (IsMasterEntryOf m.layout) es
       firsts [] a = tt
       firsts (e ∷ es) a = (a.0.0, firsts es a.1)
 
-      seconds : (es : List MasterEntry) → AllByRecursion (λ (e : MasterEntry). IsMasterEntryOf m.layout e
+      seconds : (es : List SpecMasterEntry) → AllByRecursion (λ (e : SpecMasterEntry). IsMasterEntryOf m.layout e
           × InSpace size e.1.1) es → AllByRecursion (λ e. InSpace size e.1.1) es
       seconds [] a = tt
       seconds (e ∷ es) a = (a.0.1, seconds es a.1)

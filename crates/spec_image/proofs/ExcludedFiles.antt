@@ -1,4 +1,4 @@
--- Where a fault of a file stands, or a block is reached twice, the contents stand for no files.
+-- If the contents have a fault of a file, or reach a block twice, they stand for no files.
 use Rattle.std.proofs.Common.{◌≡◌, ℕ, zero, suc, ◌+◌, ◌-◌, ◌^◌, ◌<◌, ◌≤◌, ◌⊎◌, inl, inr, ⊎_elim, List, [], ◌∷◌, ◌++◌}
 use Rattle.std.proofs.Common.{map, length, replicate, flat_map, Option, Some, None, refl, sym, ap, subst, ◌∙◌, arith}
 use Rattle.std.proofs.Common.{nat_cmp, append_assoc, append-nil, length-append}
@@ -17,9 +17,9 @@ use Rattle.spec_image.specs.Log.{IsSettled}
 use Rattle.spec_image.specs.Table.{fixed}
 use Rattle.std.specs.Option.{IsSome}
 use Rattle.spec_image.specs.Costs.{blocks_of}
-use Rattle.spec_image.specs.Directories.{items, MasterEntry, master_words, IsMasterEntry, FileEntry, file_words}
+use Rattle.spec_image.specs.Directories.{items, SpecMasterEntry, master_words, IsMasterEntry, SpecFileEntry, file_words}
 use Rattle.spec_image.specs.Directories.{IsFileEntry}
-use Rattle.spec_image.specs.Retrieval.{Prime, prime_of, Run, run_blocks, IsRun, Extension, extension_numbers}
+use Rattle.spec_image.specs.Retrieval.{SpecPrime, prime_of, SpecRun, run_blocks, IsRun, Extension, extension_numbers}
 use Rattle.spec_image.specs.Retrieval.{first_extension, all_runs, pointer, prime_block, extension_block}
 use Rattle.spec_image.specs.Retrieval.{AreExtensions, IsRetrieved}
 use Rattle.spec_image.specs.Stands.{StoredFile, StoredDirectory, DiskMap, reaches_in_file, reaches_in_directory}
@@ -41,17 +41,17 @@ use Rattle.spec_image.proofs.Lists.{times_here, times_later, all_left, all_right
 use Rattle.spec_image.proofs.Versions.{pointers_same, prime_ext_same, prime_same, retrieved_same}
 use Rattle.spec_image.proofs.DiskMaps.{master_apart, file_apart, once, directory_part, mapped_same}
 use Rattle.spec_image.proofs.Settled.{settled_same}
-use Rattle.spec_image.proofs.Walking.{all_times, flat-append, undamaged_at, walk_le, entry_there, walk_of_extensions}
-use Rattle.spec_image.proofs.Walking.{extensions_back, all_runs-append}
+use Rattle.spec_image.proofs.WalkLaws.{all_times, flat-append, undamaged_at, walk_le, entry_there, walk_of_extensions}
+use Rattle.spec_image.proofs.WalkLaws.{extensions_back, all_runs-append}
 use Rattle.spec_image.proofs.Excluded.{image, zero_free, walk_home, IsMappedFile, file_named, no_bad_master}
 use Rattle.spec_image.proofs.Excluded.{no_bad_file_block}
 
--- What is read of the retrieval blocks of a version that stands is good.
-module _ (layout size : ℕ) (contents : Contents) (own : Prime) (prime : ℕ) (extensions blocks : List ℕ)
+-- What is read of the retrieval blocks of a version that the disk has is good.
+module _ (layout size : ℕ) (contents : Contents) (own : SpecPrime) (prime : ℕ) (extensions blocks : List ℕ)
     (v : IsRetrieved layout contents own prime extensions blocks)
     (inside : (n : ℕ) → 0 < times n (prime ∷ (extensions ++ blocks)) → InSpace size n) where
-  -- a prime block that was read is what stands
-  pub prime_read : (p : Prime) (runs : List Run) (next : ℕ) → IsPrimeRead contents layout prime p runs next
+  -- a prime block that was read is what the disk has
+  pub prime_read : (p : SpecPrime) (runs : List SpecRun) (next : ℕ) → IsPrimeRead contents layout prime p runs next
       → own.place.name.ext < 2 ^ 18 → (p ≡ own) × (runs ≡ v.runs) × (next ≡ first_extension v.further)
   prime_read p runs next read own_small =
       let words : prime_block p runs next
@@ -109,7 +109,7 @@ module _ (layout size : ℕ) (contents : Contents) (own : Prime) (prime : ℕ) (
   walked_on next last es e l = walk_of_extensions contents next es v.further last v.extended (sym e)
       (ap (times 0) v.extensions_are ∙ v.nonzero) l
 
-  -- the extensions from one of them on
+  -- the extensions after one of them
   from_one : (es rest : List Extension) → v.further ≡ es ++ rest → AreExtensions contents rest
       × ((n : ℕ) → 0 < times n (extension_numbers rest) → InSpace size n) × RunsInSpace size (all_runs rest)
   from_one es rest is = (
@@ -126,7 +126,7 @@ module _ (layout size : ℕ) (contents : Contents) (own : Prime) (prime : ℕ) (
   -- an extension that was walked to is good
   pub extension_good : (next n : ℕ) (es : List Extension) → next ≡ first_extension v.further
       → LeadsOn contents next es n → 0 < n
-      → ((others : List Run) (after : ℕ) → contents n ≡ Some (extension_block others after) → 0 < length others
+      → ((others : List SpecRun) (after : ℕ) → contents n ≡ Some (extension_block others after) → 0 < length others
       → length others ≤ 126 → AllByRecursion IsRun others → ⊥) → ⊥
   extension_good next n es e l p bad = let w = walked_on next n es e l in at w.0 w.1 w.2
     where
@@ -136,8 +136,8 @@ module _ (layout size : ℕ) (contents : Contents) (own : Prime) (prime : ℕ) (
           let a = (from_one es (x ∷ rest) is).0 in
           bad x.1 (first_extension rest) (ap contents (sym f) ∙ a.0) a.1 a.2 a.4
 
-  -- and what was walked last is what stands there
-  pub extension_last : (next after n : ℕ) (es : List Extension) (others : List Run) → next ≡ first_extension v.further
+  -- and what was walked last is what is there
+  pub extension_last : (next after n : ℕ) (es : List Extension) (others : List SpecRun) → next ≡ first_extension v.further
       → LeadsOn contents next (es ++ (n, others) ∷ []) after
       → RunsInSpace size others × (0 < after → InSpace size after) × (0 < after → length others ≡ 126)
   extension_last next after n es others e l =
@@ -151,8 +151,8 @@ module _ (layout size : ℕ) (contents : Contents) (own : Prime) (prime : ℕ) (
         λ p. a.0.3 (some_further w.0 (let f = w.2 in omega arith)),
       )
 
-  -- the whole walk counts what the length asks for
-  pub walk_counts : (next : ℕ) (es : List Extension) (runs : List Run) → next ≡ first_extension v.further
+  -- the whole walk counts what the length requires
+  pub walk_counts : (next : ℕ) (es : List Extension) (runs : List SpecRun) → next ≡ first_extension v.further
       → runs ≡ v.runs → LeadsOn contents next es 0 → length (flat_map run_blocks (runs ++ all_runs es))
       ≡ blocks_of own.words
   walk_counts next es runs e same l = let w = walked_on next 0 es e l in at w.0 w.1 w.2
@@ -171,8 +171,8 @@ module _ (layout size : ℕ) (contents : Contents) (own : Prime) (prime : ℕ) (
           < times k (x.0 ∷ extension_numbers rest)) f (times_here x.0 (extension_numbers rest)) in
           absurd (omega arith)
 
-  -- so many blocks at most were walked over
-  pub walk_few : (next last : ℕ) (es : List Extension) (runs : List Run) → next ≡ first_extension v.further
+  -- at most this number of blocks were walked over
+  pub walk_few : (next last : ℕ) (es : List Extension) (runs : List SpecRun) → next ≡ first_extension v.further
       → runs ≡ v.runs → LeadsOn contents next es last → length (flat_map run_blocks (runs ++ all_runs es))
       ≤ blocks_of own.words
   walk_few next last es runs e same l =
@@ -188,7 +188,7 @@ module _ (layout size : ℕ) (contents : Contents) (own : Prime) (prime : ℕ) (
       let all = ap length v.blocks_are ∙ v.enough in
       omega arith
 
-  -- so none of it is as it shouldn't be
+  -- so all of it is valid
   pub no_bad_version : IsPpn own.place.ppn → own.place.name.ext < 2 ^ 18 → (n : ℕ)
       → IsBadVersion size contents layout prime n → ⊥
   no_bad_version ppn_fits ext_fits n (malformed_prime none) =
@@ -258,10 +258,10 @@ module _ (size : ℕ) (contents : Contents) (m : DiskMap) (s : HasMap size conte
       undamaged_at contents named.file.blocks body.each n body.undamaged
       (subst (λ ns. 0 < times n ns) same.2 bad.inside) bad.damaged
 
-  -- What was read is a part of what stands.
+  -- What was read is a part of what the disk has.
 
   files_part : (layout ppn : ℕ) (d : StoredDirectory) → layout ≡ m.layout → get m.directories ppn ≡ Some d
-      → (es : List FileEntry)
+      → (es : List SpecFileEntry)
       → ((name : FileName) (n : ℕ) → find name_cmp name es ≡ Some n
       → get (map_values (λ (f : StoredFile). f.prime) d.files) name ≡ Some n)
       → (n : ℕ) (fs : List (FileName × ReadFile))
@@ -295,7 +295,7 @@ module _ (size : ℕ) (contents : Contents) (m : DiskMap) (s : HasMap size conte
       first e.last e.nodes is walk name k h) n e.files files) in
       omega arith
 
-  directories_part : (layout : ℕ) → layout ≡ m.layout → (es : List MasterEntry)
+  directories_part : (layout : ℕ) → layout ≡ m.layout → (es : List SpecMasterEntry)
       → ((ppn : ℕ) (x : ℕ × ℕ) → find nat_cmp ppn es ≡ Some x → get (map_values entry_of m.directories) ppn ≡ Some x)
       → (n : ℕ) (ds : List (ℕ × ReadDirectory)) → AllByRecursion (IsDirectoryRead layout contents es) ds
       → AllByRecursion (IsPartOf (times_in_directory n) (reaches_in_directory n) m.directories) ds
@@ -344,7 +344,7 @@ module _ (size : ℕ) (contents : Contents) (m : DiskMap) (s : HasMap size conte
       is_none None e h = cc
       is_none (Some x) e h = some_none e
 
-  -- No fault but one of the log stands where the contents have a map.
+  -- If the contents have a map, they have no fault except one of the log.
   pub no_fault : (fault : StartFault) → IsSettledFault size contents fault → ⊥
   no_fault NotVolume (inl out) = out s.volume
   no_fault NotVolume (inr unnamed) = ⊎_elim (λ copy. unnamed.0 (_, copy.words))

@@ -1,6 +1,6 @@
--- What a change makes of the files in directories: a version is published, a file is removed or renamed.
--- What a law takes for granted of the new contents, the layers below say: that a directory's chain has the
--- edited entries, that a version stands, and which blocks stay.
+-- What a change makes of the files in directories: a version is published, a file is removed or renamed. What a law
+-- takes for granted of the new contents is stated by the layers below: that a directory's chain has the edited entries,
+-- that a version is on the disk, and which blocks stay.
 use Rattle.std.proofs.Common.{◌≡◌, ℕ, ◌+◌, ◌*◌, ◌^◌, ◌<◌, ◌≤◌, ◌≢◌, ◌⊎◌, ⊎_elim, List, Option, option_map, Some, None}
 use Rattle.std.proofs.Common.{refl, sym, ap, subst, ◌∙◌, arith}
 use Rattle.std.specs.Cmp.{nat_cmp_total}
@@ -35,7 +35,7 @@ primes-remove : (files : FinMap name_cmp StoredFile) (name : FileName)
     → map_values (λ x. x.prime) (remove files name) ≡ remove (map_values (λ x. x.prime) files) name
 primes-remove = map_values-remove name_total name_exact (λ x. x.prime)
 
--- A directory is whole with other files in a chain of its own, where each of them is a version, or stays.
+-- A directory is whole with other files in a chain of its own, if each of them is a version, or stays.
 whole_changed : (layout : ℕ) (old new : Contents) (ppn : ℕ) (d : StoredDirectory) (chain : List ℕ)
     (files : FinMap name_cmp StoredFile) (gone : ℕ → ℕ)
     → IsWhole layout old ppn d → ((n : ℕ) → reaches_in_directory n d ≤ 1)
@@ -115,7 +115,7 @@ removed size old new m ppn d name f chain s at has c first only table =
     (λ n. at-le-sum name_total name_exact (reaches_in_file n) d.files name f has) only (λ n. omega arith) table
     (λ n. let e = sum-remove name_total name_exact (reaches_in_file n) d.files name f has in omega arith)
 
--- The attributes of a file change: its prime block is written again, in the same place.
+-- The attributes of a file change: its prime block is rewritten, in the same place.
 pub attributes_changed : (size : ℕ) (old new : Contents) (m : DiskMap) (ppn : ℕ) (d : StoredDirectory)
     (name : FileName) (f : StoredFile) (file : File)
     → HasMap size old m → get m.directories ppn ≡ Some d → get d.files name ≡ Some f

@@ -1,4 +1,4 @@
--- Both home copies are written again, for another layout.
+-- Both home copies are rewritten, for another layout.
 use Rattle.std.proofs.Common.{◌≡◌, ℕ, ◌<◌, ◌≤◌, ◌+◌, ◌≢◌, inl, inr, ⊎_elim, Some, ◌∙◌, arith}
 use Rattle.std.proofs.lemmas.Bool.{cases_lt}
 use Rattle.blockdisk.specs.Common.{Contents}

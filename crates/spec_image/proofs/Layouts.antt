@@ -7,7 +7,7 @@ use Rattle.std.proofs.lemmas.Bool.{leb-true, le-leb}
 use Rattle.std.proofs.lemmas.Slice.Eq.{slice_eq-Decides}
 use Rattle.blockdisk.specs.Common.{Contents}
 use Rattle.spec_image.specs.Files.{File, Files}
-use Rattle.spec_image.specs.Home.{Home, home_block, IsLayout, IsHomeCopy, IsHome}
+use Rattle.spec_image.specs.Home.{SpecHome, home_block, IsLayout, IsHomeCopy, IsHome}
 use Rattle.spec_image.specs.Layouts.{is_layout, home_named, is_home_copy, layout_named, layout_of, pack_in}
 use Rattle.spec_image.specs.Layouts.{SettledStandsOn, StandsOn, Pack}
 use Rattle.spec_image.specs.Regions.{space_start}
@@ -18,7 +18,7 @@ use Rattle.spec_image.specs.Stands.{SettledStands, Stands}
 layout_told : (layout : ℕ) → Decides (is_layout layout) (IsLayout layout)
 layout_told layout = Decides-or (layout == 1) (layout == 2) (Decides-eqb layout 1) (Decides-eqb layout 2)
 
--- a layout that an image may have isn't 0, which says that there is none
+-- a layout that an image may have isn't 0, which means that there is none
 layout_nonzero : (layout : ℕ) → IsLayout layout → (layout == 0) ≡ false
 layout_nonzero layout (inl one) = ap (λ l. l == 0) one
 layout_nonzero layout (inr two) = ap (λ l. l == 0) two
@@ -48,7 +48,7 @@ copy_named size contents n words at valid =
     }
 
 -- a valid copy names its layout
-named : (size : ℕ) (contents : Contents) (n : ℕ) (home : Home) → IsHomeCopy size contents n home
+named : (size : ℕ) (contents : Contents) (n : ℕ) (home : SpecHome) → IsHomeCopy size contents n home
     → layout_named size (contents n) ≡ home.layout
 named size contents n home copy =
     let is : Checked size (home_block size home) = (refl, (copy.layout, (copy.master_from, copy.master_below))) in
@@ -57,7 +57,7 @@ named size contents n home copy =
 
 -- a block that is no valid copy names none
 unnamed : (size : ℕ) (contents : Contents) (n : ℕ) (block : Option (List ℕ)) → contents n ≡ block
-    → ((home : Home) → IsHomeCopy size contents n home → ⊥) → layout_named size block ≡ 0
+    → ((home : SpecHome) → IsHomeCopy size contents n home → ⊥) → layout_named size block ≡ 0
 unnamed size contents n None at none = refl
 unnamed size contents n (Some words) at none = by (is_home_copy size words) refl
   where
@@ -66,7 +66,7 @@ unnamed size contents n (Some words) at none = by (is_home_copy size words) refl
     by false invalid = refl
 
 -- The layout of contents is that of the home copy that counts.
-pub layout_is : (size : ℕ) (contents : Contents) (home : Home) → IsHome size contents home
+pub layout_is : (size : ℕ) (contents : Contents) (home : SpecHome) → IsHome size contents home
     → layout_of size contents ≡ home.layout
 unfolding layout_of
 layout_is size contents home (inl copy) =

@@ -14,12 +14,12 @@ pub mod Settled
 pub mod QuietLaws
 pub mod Layouts
 pub mod HomeChanges
-pub mod Walking
+pub mod WalkLaws
 pub mod Excluded
 pub mod ExcludedFiles
-pub mod Counting
+pub mod BitCounts
 pub mod Vectors
-pub mod Reading
+pub mod FoundMaps
 pub mod SpoiledRows
 pub mod SpoiledMaps
 pub mod MapParts

@@ -41,11 +41,11 @@ times_here n ns = omega (arith, times-cons n ns)
 pub times_later : (n m : ℕ) (ns : List ℕ) → 0 < times n ns → 0 < times n (m ∷ ns)
 times_later n m ns h = omega arith
 
--- 0 can't be first where it doesn't stand
+-- 0 can't be first if it isn't in the list
 pub not_first : (n : ℕ) (ns : List ℕ) → 0 ≡ n → times 0 (n ∷ ns) ≡ 0 → ⊥
 not_first n ns e h = let p : 0 < times 0 (n ∷ ns) = subst (λ m. 0 < times 0 (m ∷ ns)) e (times_here 0 ns) in omega arith
 
--- what is in front and what is behind, where the fronts are of one length
+-- what is in front and what is after it, if the fronts have one length
 pub front_same : {A : Type 0} (xs ys us vs : List A) → length xs ≡ length ys → xs ++ us ≡ ys ++ vs
     → (xs ≡ ys) × (us ≡ vs)
 front_same [] [] us vs n e = (refl, e)
@@ -58,7 +58,7 @@ front_same (x ∷ xs) (y ∷ ys) us vs n e =
     let same : xs ≡ ys = rest.0 in
     (cc, rest.1)
 
--- An encoding of items by three words each that tells them apart.
+-- An encoding of items by three words each that distinguishes them.
 pub record TellsApart {E : Type 0} (words : E → List ℕ) : Type 0 where
   pub three : (e : E) → length (words e) ≡ 3
   pub same : (e f : E) → words e ≡ words f → e ≡ f

@@ -11,7 +11,7 @@ use Rattle.spec_image.specs.Stands.{HasMap}
 use Rattle.spec_image.specs.Changes.{IsFileChain, IsMasterChain}
 use Rattle.spec_image.proofs.Names.{name_total}
 use Rattle.spec_image.proofs.MapSums.{size-map_values, sum_le, sum-map_values}
-use Rattle.spec_image.proofs.Counting.{size-le-cost}
+use Rattle.spec_image.proofs.BitCounts.{size-le-cost}
 
 directory-le-cost : (layout : ℕ) (contents : Contents) (ppn : ℕ) (d : StoredDirectory)
     (file_chains : (blocks : List ℕ) (primes : FinMap name_cmp ℕ) → IsFileChain contents blocks primes
@@ -26,7 +26,7 @@ directory-le-cost layout contents ppn d file_chains w =
     let same = sum-map_values name_total (λ f. version_cost (length f.body)) (λ f. f.file) d.files in
     omega arith
 
--- `file_chains` and `master_chains` say how long the chains are.
+-- `file_chains` and `master_chains` state how long the chains are.
 pub map_costs : (disk_size : ℕ) (contents : Contents) (m : DiskMap)
     (file_chains : (blocks : List ℕ) (primes : FinMap name_cmp ℕ) → IsFileChain contents blocks primes
     → length blocks ≡ directory_cost (size primes))

@@ -1,5 +1,5 @@
 -- The map of a list of entries after an edit of the list: an entry `e` between `us` and `vs` is put in, taken out,
--- given another value or moved. In each section `o` says that the order of the keys is total, and `exact` that only
+-- given another value or moved. In each section `o` states that the order of the keys is total, and `exact` that only
 -- equal keys tie in it.
 use Rattle.std.proofs.Common.{◌≡◌, Bool, true, false, cond, List, [], ◌∷◌, ◌++◌, Option, Some, None, append-nil, refl}
 use Rattle.std.proofs.Common.{sym, ap, subst, ◌∙◌, Ordering}
@@ -13,7 +13,7 @@ use Rattle.spec_image.proofs.MapLaws.{some_none, get-insert, same_map, insert-in
 use Rattle.spec_image.proofs.MapLists.{find-append_both, get-from_entries, from_entries_push}
 
 module _ {K X : Type 0} {R : K → K → Ordering} (o : IsTotalOrder R) where
-  -- an entry whose key is nowhere else is found wherever it stands
+  -- an entry whose key is nowhere else is found wherever it is
   pub find-around : (us : List (K × X)) (e : K × X) (vs : List (K × X)) (q : K) → find R e.0 (us ++ vs) ≡ None
       → find R q (us ++ e ∷ vs) ≡ cond (eq_by_cmp R q e.0) (Some e.1) (find R q (us ++ vs))
   find-around us e vs q none = find-append_both R us (e ∷ vs) q ∙ step (eq_by_cmp R q e.0) refl
@@ -91,7 +91,7 @@ module _ {K X : Type 0} {R : K → K → Ordering} (o : IsTotalOrder R) where
         sym (ap (λ m. remove m e.0) (from_entries_around us e vs none)
         ∙ remove-insert_new o exact (from_entries (us ++ vs)) e.0 e.1 (get-from_entries o (us ++ vs) e.0 ∙ none))
 
-    -- the entry of a key is given another value
+    -- the entry of a key gets another value
     pub from_entries_replaced : (us : List (K × X)) (k : K) (v w : X) (vs : List (K × X))
         → EachOnce R (us ++ (k, v) ∷ vs) → from_entries {R = R} (us ++ (k, w) ∷ vs)
         ≡ insert (from_entries (us ++ (k, v) ∷ vs)) k w

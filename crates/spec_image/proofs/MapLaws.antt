@@ -1,5 +1,5 @@
 -- Laws of finite maps: what each operation answers, and equations between maps.
--- In each section `o` says that the order of the keys is total, and `exact` that only equal keys tie in it.
+-- In each section `o` states that the order of the keys is total, and `exact` that only equal keys tie in it.
 -- MapLists has maps made of a list, MapEdits an edit of that list, and MapSums sums and sizes.
 use Rattle.std.proofs.Common.{◌≡◌, Bool, true, false, cond, not, T, List, [], length, Option, Some, None, ◌≢◌, ◌⊎◌}
 use Rattle.std.proofs.Common.{inl, inr, refl, sym, ap, ◌∙◌, Ordering}
@@ -29,7 +29,7 @@ twice : {A : Type 0} (b : Bool) (x y z : A) → cond b x (cond b y z) ≡ cond b
 twice true x y z = refl
 twice false x y z = refl
 
--- two tests change places, where both give one answer or at most one of them holds
+-- two tests change places, if both give one answer or at most one of them holds
 swapped : {A : Type 0} (a b : Bool) (x y z : A) → (a ≡ true → b ≡ true → x ≡ y)
     → cond a x (cond b y z) ≡ cond b y (cond a x z)
 swapped true true x y z both = both refl refl
@@ -147,7 +147,7 @@ module _ {K X : Type 0} {R : K → K → Ordering} (o : IsTotalOrder R) (exact :
   pub get-remove_other : (m : FinMap R X) (k q : K) → q ≢ k → get (remove m k) q ≡ get m q
   get-remove_other m k q differ = get-remove o m k q ∙ ap (λ b. cond b None (get m q)) (not_tied o exact q k differ)
 
-  -- what stands in a map after an insertion: the new value at its key, or what stood there before at another
+  -- what is in a map after an insertion: the new value at its key, or what was there before at another
   pub inserted : (m : FinMap R X) (k : K) (v : X) (q : K) (x : X) → get (insert m k v) q ≡ Some x
       → ((q ≡ k) × (x ≡ v)) ⊎ ((q ≢ k) × (get m q ≡ Some x))
   inserted m k v q x is = split (eq_by_cmp R q k) refl (sym (get-insert o m k v q) ∙ is)
@@ -157,7 +157,7 @@ module _ {K X : Type 0} {R : K → K → Ordering} (o : IsTotalOrder R) (exact :
       split true e h = inl (tied o exact q k e, sym (some_same h))
       split false e h = inr (apart o q k e, h)
 
-  -- what stands in a map after a removal stood there before, at another key
+  -- what is in a map after a removal was there before, at another key
   pub get-remove_is : (m : FinMap R X) (k q : K) (x : X) → get (remove m k) q ≡ Some x → (q ≢ k) × (get m q ≡ Some x)
   get-remove_is m k q x is = split (eq_by_cmp R q k) refl (sym (get-remove o m k q) ∙ is)
     where
@@ -172,7 +172,7 @@ module _ {K X : Type 0} {R : K → K → Ordering} (o : IsTotalOrder R) (exact :
   same_map m n is = same_entries_map m n (same_entries R o exact (entries m) (entries n) (entries_sorted m)
       (entries_sorted n) (λ q. sym (get-entries m q) ∙ is q ∙ get-entries n q))
 
-  -- what stands at a key is put there again
+  -- what is at a key is put there again
   kept : (m : FinMap R X) (k : K) (old : Option X) → get m k ≡ old → (q : K) (b : Bool) → eq_by_cmp R q k ≡ b
       → cond b old (get m q) ≡ get m q
   kept m k old is q true t = sym is ∙ ap (get m) (sym (tied o exact q k t))

@@ -1,6 +1,6 @@
 -- Laws of maps made of a list of entries, and of the list that a map has: `from_entries`, `map_values`, and what holds
--- of each entry. In each section `o` says that the order of the keys is total, and `exact` that only equal keys tie in
--- it.
+-- for each entry. In each section `o` states that the order of the keys is total, and `exact` that only equal keys tie
+-- in it.
 use Rattle.std.proofs.Common.{◌≡◌, ℕ, zero, suc, ◌<◌, Bool, true, false, cond, ◌&&◌, T, List, [], ◌∷◌, ◌++◌, map}
 use Rattle.std.proofs.Common.{length, Option, Some, None, option_map, get_or, map-id, refl, sym, ap, subst, ◌∙◌}
 use Rattle.std.proofs.Common.{Ordering, Less, Equal, Greater, arith}
@@ -57,7 +57,7 @@ module _ {K X : Type 0} (R : K → K → Ordering) where
     unmapped None e = refl
     unmapped (Some x) e = cc
 
-    -- whether a key comes twice rests on the keys alone
+    -- whether a key comes twice depends only on the keys
     pub EachOnce-map : (es : List (K × X)) → EachOnce R es → EachOnce R (map (λ e. (e.0, f e.1)) es)
     EachOnce-map [] u = tt
     EachOnce-map (e ∷ es) u = (find-mapped es e.0 ∙ ap (option_map f) u.0, EachOnce-map es u.1)
@@ -69,7 +69,7 @@ module _ {K X : Type 0} (R : K → K → Ordering) where
 pub EachOnce-entries : {K X : Type 0} {R : K → K → Ordering} (m : FinMap R X) → EachOnce R (entries m)
 EachOnce-entries {R = R} m = EachOnce-sorted R (entries m) (entries_sorted m)
 
--- Lists of entries, where the order is total.
+-- Lists of entries, if the order is total.
 
 module _ {K X : Type 0} {R : K → K → Ordering} (o : IsTotalOrder R) where
   pub find_first : (e : K × X) (es : List (K × X)) → find R e.0 (e ∷ es) ≡ Some e.1
@@ -83,7 +83,7 @@ module _ {K X : Type 0} {R : K → K → Ordering} (o : IsTotalOrder R) where
       step true t = absurd (some_none (sym is ∙ sym (find_tied R o q e.0 ((Equal-is (R q e.0)).0 t) es) ∙ none))
       step false t = is
 
-  -- what holds of each look-up holds of each entry
+  -- what holds for each look-up holds for each entry
   pub each_entry : (P : K → X → Type 0) (es : List (K × X)) → EachOnce R es
       → ((q : K) (x : X) → find R q es ≡ Some x → P q x) → AllByRecursion (λ e. P e.0 e.1) es
   each_entry P [] u h = tt
@@ -166,7 +166,7 @@ module _ {K X Y : Type 0} {R : K → K → Ordering} (o : IsTotalOrder R) (f : X
       ∙ ap from_entries (map-map _ _ (entries m))
 
 module _ {K X : Type 0} {R : K → K → Ordering} (o : IsTotalOrder R) (exact : IsAntisymmetric R) where
-  -- what holds of each entry holds of what is found
+  -- what holds for each entry holds for what is found
   pub found_holds : (P : K → X → Type 0) (es : List (K × X)) (q : K) (x : X) → AllByRecursion (λ e. P e.0 e.1) es
       → find R q es ≡ Some x → P q x
   found_holds P [] q x a h = absurd (some_none (sym h))
@@ -260,7 +260,7 @@ module _ {K X : Type 0} {R : K → K → Ordering} (o : IsTotalOrder R) (exact :
         at q None is = refl
         at q (Some x) is = ap Some (alike q x is)
 
-    -- two maps whose values look alike under f are equal, where f tells their values apart
+    -- two maps whose values look alike under f are equal, if f distinguishes their values
     pub same_under : (m n : FinMap R X) → map_values f m ≡ map_values f n
         → ((q : K) (x y : X) → get m q ≡ Some x → get n q ≡ Some y → f x ≡ f y → x ≡ y) → m ≡ n
     same_under m n e differ = same_map o exact m n (λ q. join q (get m q) (get n q) refl refl

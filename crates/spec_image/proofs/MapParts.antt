@@ -1,6 +1,6 @@
 -- A map of parts that have blocks: after a change of the map each part is new, or stays and has no block
 -- in common with the parts that are gone.
--- In each section `o` says that the order of the keys is total, and `exact` that only equal keys tie in it.
+-- In each section `o` states that the order of the keys is total, and `exact` that only equal keys tie in it.
 use Rattle.std.proofs.Common.{◌≡◌, ℕ, ◌+◌, ◌≤◌, ◌≢◌, ◌⊎◌, inl, inr, ⊎_elim, Bool, true, false, cond, Option, Some}
 use Rattle.std.proofs.Common.{None, refl, sym, ap, subst, ◌∙◌, arith, Ordering}
 use Rattle.std.specs.Ordering.{eq_by_cmp}
@@ -10,8 +10,8 @@ use Rattle.spec_image.specs.Maps.{FinMap, get, insert, remove, sum_over}
 use Rattle.spec_image.proofs.MapLaws.{inserted, get-remove, get-remove_is, get-remove_other}
 use Rattle.spec_image.proofs.MapSums.{part, sum-remove, at-le-sum, two-le-sum}
 
--- `reach n x` is how often block n stands in the part x, and `gone n` how often in what is gone of the map.
--- Where no block stands in the map twice, a block of a part that stays is not gone.
+-- `reach n x` is how often block n is in the part x, and `gone n` how often in what is gone of the map. If no block is
+-- in the map twice, a block of a part that stays is not gone.
 abbrev pub IsNewOrStays : {K X : Type 0} {R : K → K → Ordering} → (K → X → Type 0) → (ℕ → X → ℕ) → (ℕ → ℕ)
     → FinMap R X → K → X → Type 0
 IsNewOrStays IsNew reach gone m k x = IsNew k x
@@ -28,7 +28,7 @@ still_none {X = X} {R = R} o m k q none = get-remove o m k q ∙ ap (cond (eq_by
     either false = refl
 
 module _ {K X : Type 0} {R : K → K → Ordering} (o : IsTotalOrder R) (exact : IsAntisymmetric R) where
-  -- what holds of the new part and of all that was at other keys
+  -- what holds for the new part and for all that was at other keys
   pub each_inserted : (P : K → X → Type 0) (m : FinMap R X) (k : K) (v : X) → P k v
       → ((q : K) (x : X) → q ≢ k → get m q ≡ Some x → P q x)
       → (q : K) (x : X) → get (insert m k v) q ≡ Some x → P q x

@@ -1,5 +1,5 @@
--- Laws of sums over lists and over maps, of the size of a map, and of how often a number stands in a list.
--- In each section `o` says that the order of the keys is total, and `exact` that only equal keys tie in it.
+-- Laws of sums over lists and over maps, of the size of a map, and of how often a number is in a list. In each section
+-- `o` states that the order of the keys is total, and `exact` that only equal keys tie in it.
 use Rattle.std.proofs.Common.{◌≡◌, ℕ, zero, suc, ◌+◌, ◌<◌, ◌≤◌, Bool, true, false, cond, List, [], ◌∷◌, ◌++◌, map}
 use Rattle.std.proofs.Common.{length, Option, Some, None, ◌≢◌, refl, sym, ap, ◌∙◌, arith, Ordering, Less, Equal}
 use Rattle.std.proofs.Common.{Greater}
@@ -60,7 +60,7 @@ length-total (x ∷ xs) = omega (arith, length-total xs)
 
 -- Sums over the entries of a map.
 
--- what stands at a key, measured
+-- what is at a key, measured
 abbrev pub part : {X : Type 0} → (X → ℕ) → Option X → ℕ
 part g None = 0
 part g (Some x) = g x

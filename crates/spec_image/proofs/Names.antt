@@ -1,4 +1,4 @@
--- The order of file names is total, and tells different names apart.
+-- The order of file names is total, and distinguishes different names.
 use Rattle.std.proofs.Common.{◌≡◌, refl, Less, Equal, Greater, Ordering, nat_cmp}
 use Rattle.std.specs.Ordering.{ordering_then}
 use Rattle.std.specs.Cmp.{IsTotalOrder, nat_cmp_total, on_total, then_total}

@@ -1,4 +1,4 @@
--- A stretch of calls that wrote quiet blocks alone leaves, at each moment, what stands for the same files.
+-- A stretch of calls that wrote only quiet blocks leaves, at each moment, contents that stand for the same files.
 use Rattle.std.proofs.Common.{◌≡◌, ℕ, ◌<◌, ◌⊎◌, inl, inr, ⊎_elim, List, [], ◌∷◌, sym, subst, arith}
 use Rattle.std.specs.List.{AllByRecursion}
 use Rattle.std.proofs.lemmas.Bool.{cases_eq}
@@ -11,7 +11,7 @@ use Rattle.spec_image.specs.Quiet.{IsQuiet}
 use Rattle.spec_image.proofs.Settled.{quiet_writes}
 use Rattle.spec_image.proofs.Publication.{none_or_some}
 
--- what holds of each of a list holds of what stands in it
+-- what holds for each of a list holds for what is in it
 pub each_times : (P : ℕ → Type 0) (ns : List ℕ) (n : ℕ) → AllByRecursion P ns → 0 < times n ns → P n
 each_times P [] n a h = absurd (omega arith)
 each_times P (k ∷ ns) n a h = ⊎_elim

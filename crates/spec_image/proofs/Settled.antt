@@ -106,7 +106,7 @@ module _ (size : ℕ) (settled old new : Contents) (q : DifferInFree size settle
     λ n. ⊎_elim (λ e. inl (e ∙ sym (p.3 n))) inr (over_puts p.1 n),
   )
 
--- Whatever the gate, writes to free blocks change nothing of what is stood for.
+-- Whatever the gate, writes to free blocks change nothing of what the contents stand for.
 pub quiet_writes : (size : ℕ) (old new : Contents) (files : Files File) (s : Stands size old files)
     → DifferInFree size s.0 old new → Stands size new files
 quiet_writes size old new files s q =

@@ -36,7 +36,7 @@ pub length-splice : (body : List ℕ) (block : ℕ) (words : List ℕ) → lengt
 length-splice body block [] = refl
 length-splice body block (w ∷ ws) = let h = lengths (block_start block) body (w ∷ ws) in grind arith
 
--- Words before the block are the body's, or zero where it has none.
+-- Words before the block are the body's, or zero if it has none.
 before-index : (p : ℕ) (body : List ℕ) (i : ℕ) → i < p → (i < length body) ⊎ (length body ≤ i)
     → slice_index (before p body) i ≡ slice_index body i
 before-index p body i below (inl there) =

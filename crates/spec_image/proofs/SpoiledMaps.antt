@@ -24,7 +24,7 @@ use Rattle.spec_image.proofs.Vectors.{v1_has_map}
 use Rattle.spec_image.proofs.SpoiledRows.{zero_block, zero_gate, gate_closed, elsewhere, in_space, home_stands}
 use Rattle.spec_image.proofs.SpoiledRows.{master_nodes, file_nodes, foo_place, retrieved}
 
--- the bits where the table's block stays
+-- the bits, if the table's block stays
 same_bits : (c d : Contents) → c 14 ≡ d 14 → (n : ℕ) → table_bit 64 c n ≡ table_bit 64 d n
 same_bits c d is n = step (ltb n 4608) refl
   where
@@ -69,7 +69,7 @@ untouched_copy = (
   (v1_map, copy_map, refl),
 )
 
--- The gate is open but for its last word.
+-- The gate is open except for its last word.
 
 nearly_open : nearly_open_gate ≡ open_gate → ⊥
 nearly_open is = let last : get_or nearly_open_gate 127 0

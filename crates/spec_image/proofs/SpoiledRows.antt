@@ -7,11 +7,11 @@ use Rattle.spec_image.specs.declared.put.Put.{Put}
 use Rattle.spec_image.specs.Maps.{insert, entries, empty}
 use Rattle.spec_image.specs.Blocks.{head_or_zero}
 use Rattle.spec_image.specs.Files.{File, Files, Place}
-use Rattle.spec_image.specs.Home.{filser_word, Home, home_block, IsHomeCopy, IsHome}
+use Rattle.spec_image.specs.Home.{filser_word, SpecHome, home_block, IsHomeCopy, IsHome}
 use Rattle.spec_image.specs.Log.{IsGateOpen, open_gate, log_header, IsLog}
 use Rattle.spec_image.specs.Table.{table_bit, fixed}
-use Rattle.spec_image.specs.Directories.{Node, directory_block, MasterEntry, master_words, FileEntry}
-use Rattle.spec_image.specs.Retrieval.{Prime, prime_of, Run, attributes, prime_block, IsPrime, IsRetrieved}
+use Rattle.spec_image.specs.Directories.{Node, directory_block, SpecMasterEntry, master_words, SpecFileEntry}
+use Rattle.spec_image.specs.Retrieval.{SpecPrime, prime_of, SpecRun, attributes, prime_block, IsPrime, IsRetrieved}
 use Rattle.spec_image.specs.Stands.{reaches, place_of, IsMapped, Stands}
 use Rattle.spec_image.specs.Walks.{IsMasterWalk, IsDirectoryNamed, IsDirectoryWalk, IsFileNamed, IsPrimeRead}
 use Rattle.spec_image.specs.Faults.{InSpace, HasName, malformed, short, of_version, malformed_prime, miscounted}
@@ -58,12 +58,12 @@ elsewhere n content c k h = ap (λ b. cond b content (c k)) (ne_eqb k n h)
 pub in_space : (n : ℕ) → 0 < reaches n v1_map → InSpace 64 n
 in_space n h = reached_inside 64 v1 v1_map v1_has_map n h
 
--- What a reader of contents finds, where they agree with V1.
+-- What a reader of contents finds, if they agree with V1.
 
-abbrev pub master_nodes : List (Node MasterEntry)
+abbrev pub master_nodes : List (Node SpecMasterEntry)
 master_nodes = (15, (owner, (0o775000000000, 16)) ∷ []) ∷ []
 
-abbrev pub file_nodes : List (Node FileEntry)
+abbrev pub file_nodes : List (Node SpecFileEntry)
 file_nodes = (16, (foo_txt, 17) ∷ []) ∷ []
 
 abbrev pub foo_place : Place
@@ -103,8 +103,8 @@ module _ (c : Contents) (home : c 1 ≡ Some home_words) (master : c 15 ≡ Some
   file_named : IsFileNamed 64 c 1 foo_place 17
   file_named = record { nodes = file_nodes; last = 0; walk = past_directory; entry = refl }
 
--- a prime block that names one block, which holds two words
-pub retrieved : (c : Contents) (p : Prime) (n : ℕ) → c 17 ≡ Some (prime_block p ((1, n) ∷ []) 0) → IsPrime 1 p
+-- a prime block that names one block, for two words
+pub retrieved : (c : Contents) (p : SpecPrime) (n : ℕ) → c 17 ≡ Some (prime_block p ((1, n) ∷ []) 0) → IsPrime 1 p
     → p.words ≡ 2 → n < 2 ^ 18 → IsRetrieved 1 c p 17 [] (n ∷ [])
 retrieved c p n is fits two small = record {
   runs = (1, n) ∷ [];
@@ -121,7 +121,7 @@ retrieved c p n is fits two small = record {
   enough = rw two refl;
 }
 
-abbrev hello_prime : Prime
+abbrev hello_prime : SpecPrime
 hello_prime = prime_of foo_place hello
 
 hello_fits : IsPrime 1 hello_prime
@@ -139,7 +139,7 @@ pub not_volume : HasFault 64 v1_not_volume NotVolume
 not_volume = settled_fault v1_not_volume NotVolume refl
     (inr (nameless v1_not_volume 1 refl, nameless v1_not_volume 2 refl))
 
-no_third : (c : Contents) (n : ℕ) → c n ≡ Some third_home → (home : Home) → IsHomeCopy 64 c n home → ⊥
+no_third : (c : Contents) (n : ℕ) → c n ≡ Some third_home → (home : SpecHome) → IsHomeCopy 64 c n home → ⊥
 no_third c n is home copy =
     let same : third_home ≡ home_block 64 home = some_same (sym is ∙ copy.words) in
     let third : 3 ≡ home.layout = ap (λ words. get_or words 1 0) same in
@@ -165,7 +165,7 @@ bad_log = inl
 
 -- Directories.
 
-crowded : (next : ℕ) (es : List MasterEntry) → Some crowded_master ≡ Some (directory_block master_words next es)
+crowded : (next : ℕ) (es : List SpecMasterEntry) → Some crowded_master ≡ Some (directory_block master_words next es)
     → length es ≤ 42 → ⊥
 crowded next es is few =
     let same : crowded_master ≡ directory_block master_words next es = some_same is in
@@ -199,7 +199,7 @@ looping_directory = settled_fault v1_looping_directory (BadDirectory 16) refl (
 
 -- The file.
 
-no_late : (p : Prime) (runs : List Run) (next : ℕ) → Some late_rib ≡ Some (prime_block p runs next) → IsPrime 1 p → ⊥
+no_late : (p : SpecPrime) (runs : List SpecRun) (next : ℕ) → Some late_rib ≡ Some (prime_block p runs next) → IsPrime 1 p → ⊥
 no_late p runs next is fits =
     let same : late_rib ≡ prime_block p runs next = some_same is in
     let word : 0o057026407777 ≡ attributes p = ap (λ words. get_or words 3 0) same in
@@ -215,7 +215,7 @@ late_minute = settled_fault v1_late_minute (BadRetrieval 17) refl (
       (malformed_prime (λ p runs next read few. no_late p runs next read.words read.fits)),
 )
 
-abbrev long_prime : Prime
+abbrev long_prime : SpecPrime
 long_prime = record { place = foo_place; protection = 0o057; mode = 0; time = 0; date = 4095; words = 129 }
 
 long_read : IsPrimeRead v1_too_long 1 17 long_prime ((1, 18) ∷ []) 0

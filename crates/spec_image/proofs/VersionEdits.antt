@@ -1,4 +1,4 @@
--- A version whose prime block is written again: for another place, or with other attributes.
+-- A version whose prime block is rewritten: for another place, or with other attributes.
 use Rattle.std.proofs.Common.{◌≡◌, ℕ, ◌++◌, length, Some, sym, ap, subst, ◌∙◌, arith}
 use Rattle.blockdisk.specs.Common.{Contents}
 use Rattle.spec_image.specs.Maps.{times}

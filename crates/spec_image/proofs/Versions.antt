@@ -1,4 +1,4 @@
--- Versions: what keeps one, and that a prime block has at most one.
+-- Versions: what keeps one unchanged, and that a prime block has at most one.
 use Rattle.std.proofs.Common.{◌≡◌, ℕ, ◌+◌, ◌*◌, ◌-◌, ◌/◌, ◌%◌, ◌^◌, ◌<◌, ◌≤◌, Bool, true, false, cond, eqb, List, []}
 use Rattle.std.proofs.Common.{◌∷◌, ◌++◌, map, length, replicate, flat_map, take, Some, refl, sym, ap, subst, ◌∙◌}
 use Rattle.std.proofs.Common.{arith}
@@ -7,7 +7,7 @@ use Rattle.blockdisk.specs.Common.{Contents}
 use Rattle.spec_image.specs.Maps.{times}
 use Rattle.spec_image.specs.Blocks.{AgreeOn}
 use Rattle.spec_image.specs.Files.{Place}
-use Rattle.spec_image.specs.Retrieval.{Prime, prime_of, Run, Extension, pointer, attributes, prime_block}
+use Rattle.spec_image.specs.Retrieval.{SpecPrime, prime_of, SpecRun, Extension, pointer, attributes, prime_block}
 use Rattle.spec_image.specs.Retrieval.{extension_half, extension_block, extension_numbers, first_extension, all_runs}
 use Rattle.spec_image.specs.Retrieval.{run_blocks, AreExtensions, IsRun, IsMode, date_limit, IsPrime, IsRetrieved}
 use Rattle.spec_image.specs.Retrieval.{HasBody}
@@ -16,7 +16,7 @@ use Rattle.spec_image.proofs.Lists.{times_here, times_later, not_first}
 use Rattle.spec_image.proofs.MapLaws.{some_same}
 use Rattle.spec_image.proofs.MapSums.{times-append}
 
--- What keeps one.
+-- What keeps one unchanged.
 
 pub extensions_kept : (old new : Contents) (es : List Extension) → AreExtensions old es
     → AgreeOn (extension_numbers es) old new → AreExtensions new es
@@ -41,7 +41,7 @@ data_kept old new (n ∷ ns) (w ∷ ws) s a = (
 )
 
 -- Other contents that agree on the retrieval blocks have the same retrieved.
-pub retrieved_kept : (layout : ℕ) (old new : Contents) (p : Prime) (prime : ℕ) (extensions blocks : List ℕ)
+pub retrieved_kept : (layout : ℕ) (old new : Contents) (p : SpecPrime) (prime : ℕ) (extensions blocks : List ℕ)
     → IsRetrieved layout old p prime extensions blocks → AgreeOn (prime ∷ extensions) old new
     → IsRetrieved layout new p prime extensions blocks
 retrieved_kept layout old new p prime extensions blocks d a = record {
@@ -81,7 +81,7 @@ version_kept layout old new place f d a = record {
 
 -- At most one.
 
-pub pointers_same : (rs ss : List Run) (x y : List ℕ) → length rs ≡ length ss → AllByRecursion IsRun rs
+pub pointers_same : (rs ss : List SpecRun) (x y : List ℕ) → length rs ≡ length ss → AllByRecursion IsRun rs
     → AllByRecursion IsRun ss → map pointer rs ++ x ≡ map pointer ss ++ y → rs ≡ ss
 pointers_same [] [] x y n f g e = refl
 pointers_same [] (s ∷ ss) x y n f g e = absurd (omega arith)
@@ -125,7 +125,7 @@ data_same contents (n ∷ ns) (u ∷ us) (v ∷ vs) s t =
     let rest : us ≡ vs = data_same contents ns us vs s.1 t.1 in
     cc
 
--- Blocks hold at most one body of a length.
+-- Blocks have at most one body of a length.
 pub body_same : (contents : Contents) (blocks body other : List ℕ) → HasBody contents blocks body
     → HasBody contents blocks other → length body ≡ length other → body ≡ other
 body_same contents blocks body other d e lengths =
@@ -148,8 +148,8 @@ date_bound layout d h = bound (eqb layout 1) h
     bound true h = omega arith
     bound false h = omega arith
 
--- The extension of a name is told by its prime block.
-pub prime_ext_same : (layout : ℕ) (p q : Prime) (runs others : List Run) (next after : ℕ) → IsPrime layout p
+-- The extension of a name is determined by its prime block.
+pub prime_ext_same : (layout : ℕ) (p q : SpecPrime) (runs others : List SpecRun) (next after : ℕ) → IsPrime layout p
     → IsPrime layout q → p.place.name.ext < 2 ^ 18 → q.place.name.ext < 2 ^ 18
     → prime_block p runs next ≡ prime_block q others after → p.place.name.ext ≡ q.place.name.ext
 prime_ext_same layout p q runs others next after f g x y words =
@@ -160,7 +160,7 @@ prime_ext_same layout p q runs others next after f g x y words =
     omega arith
 
 -- A prime block says one thing.
-pub prime_same : (layout : ℕ) (p q : Prime) (runs others : List Run) (next after : ℕ) → IsPrime layout p
+pub prime_same : (layout : ℕ) (p q : SpecPrime) (runs others : List SpecRun) (next after : ℕ) → IsPrime layout p
     → IsPrime layout q → p.place.name.ext ≡ q.place.name.ext
     → prime_block p runs next ≡ prime_block q others after → p ≡ q
 prime_same layout p q runs others next after f g exts words =
@@ -185,7 +185,7 @@ prime_same layout p q runs others next after f g exts words =
     }
 
 -- What one prime block retrieves is one thing.
-pub retrieved_same : (layout : ℕ) (contents : Contents) (p q : Prime) (prime : ℕ) (xs ys bs cs : List ℕ)
+pub retrieved_same : (layout : ℕ) (contents : Contents) (p q : SpecPrime) (prime : ℕ) (xs ys bs cs : List ℕ)
     → IsRetrieved layout contents p prime xs bs → IsRetrieved layout contents q prime ys cs
     → p.place.name.ext ≡ q.place.name.ext → (p ≡ q) × (xs ≡ ys) × (bs ≡ cs)
 retrieved_same layout contents p q prime xs ys bs cs d e exts =

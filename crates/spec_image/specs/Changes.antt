@@ -1,4 +1,4 @@
--- What a change makes of a map: words for the laws of it. They are over settled contents of a disk of `size`
+-- What a change makes of a map: words for the laws about changes. They are for settled contents of a disk of `size`
 -- blocks, `old` before the change and `new` after it.
 use Rattle.std.specs.Prelude.{◌≡◌, ℕ, ◌+◌, ◌<◌, ◌≤◌, List, Option, None, Some, IsSome}
 use Rattle.std.specs.Ordering.{nat_cmp}
@@ -12,9 +12,10 @@ use Rattle.spec_image.specs.Directories.{IsDirectory, master_words, IsMasterEntr
 use Rattle.spec_image.specs.Stands.{StoredFile, StoredDirectory, DiskMap, reaches_in_file, reaches, entry_of}
 use Rattle.spec_image.specs.Quiet.{IsFreeBlock}
 
--- What is said of the new contents. Which blocks are meant, a number for each block says: 0 if it is not one of them.
+-- What holds for the new contents. A number for each block states which blocks are meant: it is 0 if the block isn't
+-- one of them.
 
--- The table gives up these blocks and takes those.
+-- The table frees these blocks and takes those.
 pub record TableFollows (size : ℕ) (old new : Contents) (given_up taken : ℕ → ℕ) : Type 0 where
   pub undamaged : (i : ℕ) → i < table_blocks size → IsSome (new (table_start size + i))
   pub inside : (n : ℕ) → size ≤ n → taken n ≡ 0
@@ -25,7 +26,7 @@ pub record HomeStays (old new : Contents) : Type 0 where
   pub first : new 1 ≡ old 1
   pub second : new 2 ≡ old 2
 
--- The home copies stay, and of the map's blocks all but these.
+-- The home copies stay, and all blocks of the map except these.
 pub record ChangesOnly (old new : Contents) (m : DiskMap) (modified : ℕ → ℕ) : Type 0 where
   pub home : HomeStays old new
   pub others : (n : ℕ) → 0 < reaches n m → modified n ≡ 0 → new n ≡ old n
@@ -44,12 +45,12 @@ primes_of d = map_values (λ f. f.prime) d.files
 abbrev pub entries_of : DiskMap → FinMap nat_cmp (ℕ × ℕ)
 entries_of m = map_values entry_of m.directories
 
--- how often a block stands in the file, if there is one
+-- how often a block is in the file, if there is one
 abbrev pub reaches_in_found : ℕ → Option StoredFile → ℕ
 reaches_in_found n None = 0
 reaches_in_found n (Some f) = reaches_in_file n f
 
--- The new map. Where an entry changes, its chain may have become longer or shorter, so it is given with it.
+-- The new map. If an entry changes, its chain may have become longer or shorter, so the chain is given too.
 
 abbrev pub with_directory : DiskMap → List ℕ → ℕ → StoredDirectory → DiskMap
 with_directory m chain ppn d = record { layout = m.layout; chain = chain; directories = insert m.directories ppn d }
@@ -104,7 +105,8 @@ pub record WritesFree (size : ℕ) (old new : Contents) (blocks : List ℕ) : Ty
   pub inside : (n : ℕ) → size ≤ n → times n blocks ≡ 0
   pub others : (n : ℕ) → times n blocks ≡ 0 → new n ≡ old n
 
--- A change set puts these blocks and blocks of the table. Below the table only the home copies are said to stay.
+-- A change set puts these blocks and blocks of the table. Of the blocks below the table, only the home copies must
+-- stay.
 pub record PutsOnly (size : ℕ) (old new : Contents) (blocks : List ℕ) : Type 0 where
   pub home : HomeStays old new
   pub undamaged : (i : ℕ) → i < table_blocks size → IsSome (new (table_start size + i))

@@ -17,7 +17,7 @@ Node E = ℕ × List E
 abbrev pub numbers : {E : Type 0} → List (Node E) → List ℕ
 numbers nodes = map (λ node. node.0) nodes
 
--- the number of the first block, or 0 where there is none
+-- the number of the first block, or 0 if there is none
 abbrev pub first_of : {E : Type 0} → List (Node E) → ℕ
 first_of [] = 0
 first_of (node ∷ nodes) = node.0
@@ -31,13 +31,13 @@ abbrev pub directory_block : {E : Type 0} → (E → List ℕ) → ℕ → List 
 directory_block words next entries = next ∷ length entries
     ∷ (flat_map words entries ++ replicate (126 - 3 * length entries) 0)
 
--- Each block of the chain stands on the disk, and names the one after it.
+-- Each block of the chain is on the disk, and names the one after it.
 abbrev pub IsSpelled : {E : Type 0} → (E → List ℕ) → Contents → List (Node E) → Type 0
 IsSpelled words contents [] = Unit {0}
 IsSpelled words contents (node ∷ nodes) = (contents node.0 ≡ Some (directory_block words (first_of nodes) node.1))
     × IsSpelled words contents nodes
 
--- All blocks but the last are full, and the last is empty only where it is the first.
+-- All blocks except the last are full, and the last is empty only if it is the first.
 abbrev pub IsFilled : {E : Type 0} → List (Node E) → Type 0
 IsFilled [] = ⊥
 IsFilled (a ∷ []) = length a.1 ≤ 42
@@ -56,28 +56,29 @@ pub record IsDirectory {K V : Type 0} (R : K → K → Ordering) (words : K × V
 
 -- An entry of the master directory: the PPN; a word with the protection in bits 0 to 8 and, in layout 2,
 -- a quota in bits 18 to 35; the first block of that directory.
-abbrev pub MasterEntry : Type 0
-MasterEntry = ℕ × (ℕ × ℕ)
+abbrev pub SpecMasterEntry : Type 0
+SpecMasterEntry = ℕ × (ℕ × ℕ)
 
-abbrev pub master_words : MasterEntry → List ℕ
+abbrev pub master_words : SpecMasterEntry → List ℕ
 master_words e = e.0 ∷ e.1.0 ∷ e.1.1 ∷ []
 
-abbrev pub IsMasterEntry : MasterEntry → Type 0
+abbrev pub IsMasterEntry : SpecMasterEntry → Type 0
 IsMasterEntry e = IsPpn e.0
 
 -- the word of a protection and a quota
 abbrev pub master_word : ℕ → ℕ → ℕ
 master_word protection quota = protection * 2 ^ 27 + quota
 
--- An entry of a directory: the name; the extension left and a right half of zero; the prime retrieval block.
-abbrev pub FileEntry : Type 0
-FileEntry = FileName × ℕ
+-- An entry of a directory: the name; the extension in the left half and zero in the right one; the prime retrieval
+-- block.
+abbrev pub SpecFileEntry : Type 0
+SpecFileEntry = FileName × ℕ
 
-abbrev pub file_words : FileEntry → List ℕ
+abbrev pub file_words : SpecFileEntry → List ℕ
 file_words e = e.0.name ∷ join e.0.ext 0 ∷ e.1 ∷ []
 
 -- any nonzero word is a name
-pub record IsFileEntry (e : FileEntry) : Type 0 where
+pub record IsFileEntry (e : SpecFileEntry) : Type 0 where
   pub name : 0 < e.0.name
   pub name_fits : IsWord e.0.name
   pub ext_fits : e.0.ext < 2 ^ 18

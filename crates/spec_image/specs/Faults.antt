@@ -1,5 +1,5 @@
--- What a start may refuse: each fault as the fact that it stands, at the block that it names. Where a disk
--- has several, each of them stands. All but the log's are faults of the settled contents.
+-- What a start may refuse: each fault as the fact that a disk has it, at the block that it names. If a disk has several
+-- faults, each of these facts is true. All except the log's are faults of the settled contents.
 use Rattle.std.specs.Prelude.{◌≡◌, ℕ, zero, suc, ◌+◌, ◌/◌, ◌<◌, ◌≤◌, ◌⊎◌, List, [], ◌∷◌, ◌++◌, length, flat_map, Some}
 use Rattle.std.specs.Prelude.{None}
 use Rattle.std.specs.List.{AllByRecursion}
@@ -14,17 +14,17 @@ use Rattle.spec_image.specs.Maps.{EachOnce, times, total}
 use Rattle.spec_image.specs.Costs.{blocks_of}
 use Rattle.spec_image.specs.Files.{Place, name_cmp}
 use Rattle.spec_image.specs.Regions.{IsVolumeSize, table_blocks, table_start, space_start}
-use Rattle.spec_image.specs.Home.{filser_word, Home, IsHomeCopy}
+use Rattle.spec_image.specs.Home.{filser_word, SpecHome, IsHomeCopy}
 use Rattle.spec_image.specs.Log.{IsGateOpen, IsLog, IsSettled}
 use Rattle.spec_image.specs.Table.{table_bit, fixed}
-use Rattle.spec_image.specs.Directories.{Node, numbers, items, directory_block, MasterEntry, master_words}
-use Rattle.spec_image.specs.Directories.{master_word, FileEntry, file_words, IsFileEntry}
-use Rattle.spec_image.specs.Retrieval.{Prime, Run, run_blocks, IsRun, Extension, all_runs, extension_block}
+use Rattle.spec_image.specs.Directories.{Node, numbers, items, directory_block, SpecMasterEntry, master_words}
+use Rattle.spec_image.specs.Directories.{master_word, SpecFileEntry, file_words, IsFileEntry}
+use Rattle.spec_image.specs.Retrieval.{SpecPrime, SpecRun, run_blocks, IsRun, Extension, all_runs, extension_block}
 use Rattle.spec_image.specs.Retrieval.{prime_block, IsPrime, IsRetrieved}
 use Rattle.spec_image.specs.Stands.{DiskMap, reaches, place_of, quota_limit, IsMapped}
 use Rattle.spec_image.specs.Walks.{LeadsAlong, LeadsOn, IsMasterWalk, IsDirectoryWalk, IsFileNamed, IsPrimeRead}
 
--- the free space, in which all but the fixed regions lies
+-- the free space, in which everything lies except the fixed regions
 pub record InSpace (size n : ℕ) : Type 0 where
   pub from : space_start size ≤ n
   pub below : n < size
@@ -43,8 +43,8 @@ IsNotVolume size settled = (IsVolumeSize size → ⊥) ⊎ ((HasName settled 1 �
 pub record IsBadHome (size : ℕ) (settled : Contents) : Type 0 where
   pub volume : IsVolumeSize size
   pub named : HasName settled 1 ⊎ HasName settled 2
-  pub first : (home : Home) → IsHomeCopy size settled 1 home → ⊥
-  pub second : (home : Home) → IsHomeCopy size settled 2 home → ⊥
+  pub first : (home : SpecHome) → IsHomeCopy size settled 1 home → ⊥
+  pub second : (home : SpecHome) → IsHomeCopy size settled 2 home → ⊥
 
 -- The log, whose contents don't settle.
 
@@ -54,7 +54,7 @@ pub record IsBadLog (size : ℕ) (contents : Contents) : Type 0 where
 
 -- Directory blocks.
 
--- Block n of a chain, behind these blocks, is not as it should be.
+-- Block n of a chain, after these blocks, isn't valid.
 pub data IsBadBlock {K V : Type 0} (R : K → K → Ordering) (words : K × V → List ℕ) (IsEntry : K × V
     → Type 0) (target : K × V → ℕ) (size : ℕ) (contents : Contents) (before : List (Node (K × V)))
     (n : ℕ) : Type 0 where
@@ -77,13 +77,13 @@ pub data IsBadBlock {K V : Type 0} (R : K → K → Ordering) (words : K × V �
   -- it is empty, and isn't the first
   empty_later : (next : ℕ) → contents n ≡ Some (directory_block words next []) → 0 < length before
       → IsBadBlock R words IsEntry target size contents before n
-  -- it brings a key for the second time, and is the first block that does
+  -- it has a key for the second time, and is the first block that does
   key_again : (next : ℕ) (entries : List (K × V)) → contents n ≡ Some (directory_block words next entries)
       → EachOnce R (items before) → (EachOnce R (items before ++ entries) → ⊥)
       → IsBadBlock R words IsEntry target size contents before n
 
--- an entry of the master directory as it should be: besides the PPN a protection, and a quota where the layout has them
-pub record IsMasterEntryOf (layout : ℕ) (e : MasterEntry) : Type 0 where
+-- a valid entry of the master directory: besides the PPN it has a protection, and a quota if the layout has quotas
+pub record IsMasterEntryOf (layout : ℕ) (e : SpecMasterEntry) : Type 0 where
   pub ppn : IsPpn e.0
   pub protection : ℕ
   pub quota : ℕ
@@ -93,7 +93,7 @@ pub record IsMasterEntryOf (layout : ℕ) (e : MasterEntry) : Type 0 where
 
 pub record IsBadMasterBlock (size : ℕ) (settled : Contents) (n : ℕ) : Type 0 where
   pub layout : ℕ
-  pub before : List (Node MasterEntry)
+  pub before : List (Node SpecMasterEntry)
   pub walk : IsMasterWalk size settled layout before n
   pub inside : InSpace size n
   pub bad : IsBadBlock nat_cmp master_words (IsMasterEntryOf layout) (λ e. e.1.1) size settled before n
@@ -101,7 +101,7 @@ pub record IsBadMasterBlock (size : ℕ) (settled : Contents) (n : ℕ) : Type 0
 pub record IsBadFileBlock (size : ℕ) (settled : Contents) (n : ℕ) : Type 0 where
   pub layout : ℕ
   pub ppn : ℕ
-  pub before : List (Node FileEntry)
+  pub before : List (Node SpecFileEntry)
   pub walk : IsDirectoryWalk size settled layout ppn before n
   pub inside : InSpace size n
   pub bad : IsBadBlock name_cmp file_words IsFileEntry (λ e. e.1) size settled before n
@@ -111,72 +111,72 @@ IsBadDirectory size settled n = IsBadMasterBlock size settled n ⊎ IsBadFileBlo
 
 -- Retrieval blocks.
 
--- each block of a run
-abbrev pub RunsInSpace : ℕ → List Run → Type 0
+-- each block of the runs is in the free space
+abbrev pub RunsInSpace : ℕ → List SpecRun → Type 0
 RunsInSpace size runs = AllByRecursion (InSpace size) (flat_map run_blocks runs)
 
--- Block n, the prime block of a version or one of its extensions, is not as it should be.
+-- Block n, the prime block of a version or one of its extensions, isn't valid.
 pub data IsBadVersion (size : ℕ) (contents : Contents) (layout prime : ℕ) : ℕ → Type 0 where
   -- the prime block is damaged, or its words are not those of a prime block
-  malformed_prime : ((p : Prime) (runs : List Run) (next : ℕ) → IsPrimeRead contents layout prime p runs next
+  malformed_prime : ((p : SpecPrime) (runs : List SpecRun) (next : ℕ) → IsPrimeRead contents layout prime p runs next
       → length runs ≤ 112 → ⊥)
       → IsBadVersion size contents layout prime prime
   -- a run of it leaves the free space
-  prime_run_outside : (p : Prime) (runs : List Run) (next : ℕ) → IsPrimeRead contents layout prime p runs next
+  prime_run_outside : (p : SpecPrime) (runs : List SpecRun) (next : ℕ) → IsPrimeRead contents layout prime p runs next
       → (RunsInSpace size runs → ⊥)
       → IsBadVersion size contents layout prime prime
   -- it names an extension outside the free space
-  prime_next_outside : (p : Prime) (runs : List Run) (next : ℕ) → IsPrimeRead contents layout prime p runs next
+  prime_next_outside : (p : SpecPrime) (runs : List SpecRun) (next : ℕ) → IsPrimeRead contents layout prime p runs next
       → 0 < next → (InSpace size next → ⊥)
       → IsBadVersion size contents layout prime prime
   -- it names an extension though its pointers aren't all used
-  prime_short : (p : Prime) (runs : List Run) (next : ℕ) → IsPrimeRead contents layout prime p runs next
+  prime_short : (p : SpecPrime) (runs : List SpecRun) (next : ℕ) → IsPrimeRead contents layout prime p runs next
       → 0 < next → (length runs ≡ 112 → ⊥)
       → IsBadVersion size contents layout prime prime
   -- the counts don't add up to the blocks of its length
-  miscounted : (p : Prime) (runs : List Run) (next : ℕ) (extensions : List Extension)
+  miscounted : (p : SpecPrime) (runs : List SpecRun) (next : ℕ) (extensions : List Extension)
       → IsPrimeRead contents layout prime p runs next
       → LeadsOn contents next extensions 0
       → (length (flat_map run_blocks (runs ++ all_runs extensions)) ≡ blocks_of p.words → ⊥)
       → IsBadVersion size contents layout prime prime
   -- or are too many already, as in a loop of extensions
-  too_many : (p : Prime) (runs : List Run) (next last : ℕ) (extensions : List Extension)
+  too_many : (p : SpecPrime) (runs : List SpecRun) (next last : ℕ) (extensions : List Extension)
       → IsPrimeRead contents layout prime p runs next
       → LeadsOn contents next extensions last
       → blocks_of p.words < length (flat_map run_blocks (runs ++ all_runs extensions))
       → IsBadVersion size contents layout prime prime
   -- an extension is damaged, or its words are no extension's
-  malformed_extension : (p : Prime) (runs : List Run) (next : ℕ) (extensions : List Extension) (n : ℕ)
+  malformed_extension : (p : SpecPrime) (runs : List SpecRun) (next : ℕ) (extensions : List Extension) (n : ℕ)
       → IsPrimeRead contents layout prime p runs next
       → LeadsOn contents next extensions n → InSpace size n
-      → ((others : List Run) (after : ℕ) → contents n ≡ Some (extension_block others after) → 0 < length others
+      → ((others : List SpecRun) (after : ℕ) → contents n ≡ Some (extension_block others after) → 0 < length others
       → length others ≤ 126 → AllByRecursion IsRun others → ⊥)
       → IsBadVersion size contents layout prime n
   -- the same faults of an extension that was walked last
-  extension_run_outside : (p : Prime) (runs : List Run) (next : ℕ) (extensions : List Extension) (n : ℕ)
-      (others : List Run) (after : ℕ)
+  extension_run_outside : (p : SpecPrime) (runs : List SpecRun) (next : ℕ) (extensions : List Extension) (n : ℕ)
+      (others : List SpecRun) (after : ℕ)
       → IsPrimeRead contents layout prime p runs next → LeadsOn contents next (extensions ++ (n, others) ∷ []) after
       → (RunsInSpace size others → ⊥)
       → IsBadVersion size contents layout prime n
-  extension_next_outside : (p : Prime) (runs : List Run) (next : ℕ) (extensions : List Extension) (n : ℕ)
-      (others : List Run) (after : ℕ)
+  extension_next_outside : (p : SpecPrime) (runs : List SpecRun) (next : ℕ) (extensions : List Extension) (n : ℕ)
+      (others : List SpecRun) (after : ℕ)
       → IsPrimeRead contents layout prime p runs next → LeadsOn contents next (extensions ++ (n, others) ∷ []) after
       → 0 < after → (InSpace size after → ⊥)
       → IsBadVersion size contents layout prime n
-  extension_short : (p : Prime) (runs : List Run) (next : ℕ) (extensions : List Extension) (n : ℕ) (others : List Run)
+  extension_short : (p : SpecPrime) (runs : List SpecRun) (next : ℕ) (extensions : List Extension) (n : ℕ) (others : List SpecRun)
       (after : ℕ)
       → IsPrimeRead contents layout prime p runs next → LeadsOn contents next (extensions ++ (n, others) ∷ []) after
       → 0 < after → (length others ≡ 126 → ⊥)
       → IsBadVersion size contents layout prime n
 
--- Block n is not as it should be: the prime block of a file or one of its extensions.
+-- Block n, the prime block of a file or one of its extensions, isn't valid.
 pub data IsBadRetrieval (size : ℕ) (contents : Contents) (n : ℕ) : Type 0 where
   of_version : (layout : ℕ) (place : Place) (prime : ℕ) → IsFileNamed size contents layout place prime
       → IsBadVersion size contents layout prime n
       → IsBadRetrieval size contents n
-  -- it is a prime block, though not of the place that names it
+  -- it isn't a valid prime block of the place that names it
   of_another_place : (layout : ℕ) (place : Place) → IsFileNamed size contents layout place n
-      → ((p : Prime) (runs : List Run) (next : ℕ) → contents n ≡ Some (prime_block p runs next) → p.place ≡ place
+      → ((p : SpecPrime) (runs : List SpecRun) (next : ℕ) → contents n ≡ Some (prime_block p runs next) → p.place ≡ place
       → IsPrime layout p → length runs ≤ 112 → AllByRecursion IsRun runs → ⊥)
       → IsBadRetrieval size contents n
 
@@ -185,7 +185,7 @@ pub data IsBadRetrieval (size : ℕ) (contents : Contents) (n : ℕ) : Type 0 wh
 pub record IsBadData (size : ℕ) (settled : Contents) (n : ℕ) : Type 0 where
   pub layout : ℕ
   pub place : Place
-  pub p : Prime
+  pub p : SpecPrime
   pub prime : ℕ
   pub extensions : List ℕ
   pub blocks : List ℕ
@@ -195,26 +195,26 @@ pub record IsBadData (size : ℕ) (settled : Contents) (n : ℕ) : Type 0 where
   pub inside : 0 < times n blocks
   pub damaged : settled n ≡ None
 
--- A block reached twice: what was read so far, and how often it stands there.
+-- A block reached twice: what was read so far, and how often the block is in it.
 
--- where a version lies whose retrieval blocks were read, its data blocks not looked at
+-- where a version is whose retrieval blocks were read, but not its data blocks
 pub record ReadFile : Type 0 where
-  pub p : Prime
+  pub p : SpecPrime
   pub prime : ℕ
   pub extensions : List ℕ
   pub blocks : List ℕ
 
 pub record ReadDirectory : Type 0 where
-  pub nodes : List (Node FileEntry)
+  pub nodes : List (Node SpecFileEntry)
   pub last : ℕ
   pub files : List (FileName × ReadFile)
 
 pub record ReadMap : Type 0 where
-  pub nodes : List (Node MasterEntry)
+  pub nodes : List (Node SpecMasterEntry)
   pub last : ℕ
   pub directories : List (ℕ × ReadDirectory)
 
--- the blocks of a walk, with the one that it names last, where it names one
+-- the blocks of a walk, with the one that it names last, if it names one
 abbrev pub walked : {E : Type 0} → List (Node E) → ℕ → List ℕ
 walked nodes zero = numbers nodes
 walked nodes (suc last) = numbers nodes ++ suc last ∷ []
@@ -229,13 +229,13 @@ abbrev pub times_in_map : ℕ → ReadMap → ℕ
 times_in_map n m = times n (walked m.nodes m.last) + total (λ e. times_in_directory n e.1) m.directories
 
 -- an entry of what was read of a directory names the file
-pub record IsFileRead (layout : ℕ) (contents : Contents) (ppn : ℕ) (entries : List FileEntry) (e : FileName
+pub record IsFileRead (layout : ℕ) (contents : Contents) (ppn : ℕ) (entries : List SpecFileEntry) (e : FileName
     × ReadFile) : Type 0 where
   pub entry : find name_cmp e.0 entries ≡ Some e.1.prime
   pub place_is : e.1.p.place ≡ place_of ppn e.0
   pub retrieved : IsRetrieved layout contents e.1.p e.1.prime e.1.extensions e.1.blocks
 
-pub record IsDirectoryRead (layout : ℕ) (contents : Contents) (entries : List MasterEntry) (e : ℕ
+pub record IsDirectoryRead (layout : ℕ) (contents : Contents) (entries : List SpecMasterEntry) (e : ℕ
     × ReadDirectory) : Type 0 where
   pub word : ℕ
   pub first : ℕ
@@ -257,7 +257,7 @@ pub record IsTwice (size : ℕ) (settled : Contents) (n : ℕ) : Type 0 where
 
 -- The allocation table, when all else is good.
 
--- A block of the table is damaged, or has a bit that isn't as the map says.
+-- A block of the table is damaged, or has a bit that doesn't agree with the map.
 pub record IsWrongTable (size : ℕ) (settled : Contents) (n : ℕ) : Type 0 where
   pub m : DiskMap
   pub volume : IsVolumeSize size
@@ -282,8 +282,8 @@ pub data StartFault : Type 0 where
   TableWrong : ℕ → StartFault
   BadData : ℕ → StartFault
 
--- The fault stands in settled contents. A block that it names lies in the free space, or is one of the table: a
--- number outside is never read, and the block that names such a number is the one that is not as it should be.
+-- Settled contents have the fault. A block that it names is in the free space, or is one of the table: a number outside
+-- is never read, and the block that names such a number is the one that isn't valid.
 abbrev pub IsSettledFault : ℕ → Contents → StartFault → Type 0
 IsSettledFault size settled NotVolume = IsNotVolume size settled
 IsSettledFault size settled BadHome = IsBadHome size settled
@@ -294,7 +294,7 @@ IsSettledFault size settled (BlockTwice n) = InSpace size n × IsTwice size sett
 IsSettledFault size settled (TableWrong n) = IsWrongTable size settled n
 IsSettledFault size settled (BadData n) = InSpace size n × IsBadData size settled n
 
--- The fault stands in the contents of a disk, whatever its gate.
+-- The contents of a disk have the fault, whatever its gate.
 abbrev pub HasFault : ℕ → Contents → StartFault → Type 0
 HasFault size contents fault =
     (IsBadLog size contents × (fault ≡ BadLog))

@@ -5,7 +5,7 @@ use Rattle.std.specs.Prelude.{Some, None}
 use Rattle.std.specs.Cmp.Lexicographic.{pointwise}
 use Rattle.blockdisk.specs.Common.{Contents, DiskState}
 use Rattle.spec_image.specs.Files.{File, Files}
-use Rattle.spec_image.specs.Home.{Home, home_block}
+use Rattle.spec_image.specs.Home.{SpecHome, home_block}
 use Rattle.spec_image.specs.Log.{IsSettled}
 use Rattle.spec_image.specs.Regions.{space_start}
 use Rattle.spec_image.specs.Stands.{DiskMap, HasMap, files_of}
@@ -23,12 +23,12 @@ layout_number Two = 2
 
 -- The layout of contents.
 
--- an image may have it
+-- an image may have this layout
 abbrev pub is_layout : ℕ → Bool
 is_layout layout = layout == 1 || layout == 2
 
 -- what the words of a home copy name
-abbrev pub home_named : List ℕ → Home
+abbrev pub home_named : List ℕ → SpecHome
 home_named words = record { layout = get_or words 1 0; master = get_or words 5 0 }
 
 -- these are the words of a valid home copy
@@ -37,7 +37,7 @@ is_home_copy size words =
     pointwise (λ a b. a == b) words (home_block size (home_named words)) && (is_layout (home_named words).layout
     && (nat_le (space_start size) (home_named words).master && nat_lt (home_named words).master size))
 
--- the layout that a block names, 0 if it is no valid home copy
+-- the layout that a block names, 0 if it isn't a valid home copy
 abbrev pub layout_named : ℕ → Option (List ℕ) → ℕ
 layout_named size None = 0
 layout_named size (Some words) = if is_home_copy size words then (home_named words).layout else 0

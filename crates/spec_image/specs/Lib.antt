@@ -15,7 +15,7 @@ pub mod Blocks
 pub mod Walks
 pub mod Faults
 pub mod Edits
-pub mod Readings
+pub mod ReadFindings
 pub mod Spoiled
 pub mod Changes
 pub mod Published

@@ -1,7 +1,6 @@
--- A finite map as a value: its entries, in the order of their keys.
--- The operations compute on closed terms, in a proof with the line `unfolding entries empty get insert remove size`;
--- laws of them stand in proofs/. With it come words on a list of entries, a sum over a list or a map, and how often a
--- number stands in a list.
+-- A finite map as a value: its entries, in the order of their keys. The operations compute on closed terms, in a proof
+-- with the line `unfolding entries empty get insert remove size`; laws about them are in proofs/. Besides it there are
+-- words for a list of entries, a sum over a list or a map, and how often a number is in a list.
 use Rattle.std.specs.Prelude.{◌≡◌, ℕ, ◌+◌, ◌==◌, Bool, true, false, cond, not, T, List, [], ◌∷◌, map, length, Option}
 use Rattle.std.specs.Prelude.{None, refl}
 use mathlib.Core.Path.{sym, subst}
@@ -14,14 +13,14 @@ pub record FinMap {K : Type 0} (R : K → K → Ordering) (X : Type 0) : Type 0 
   pub sorted : T (is_sorted R list)
 
 module _ {K X : Type 0} {R : K → K → Ordering} where
-  -- in the keys' order
+  -- the entries, in the order of their keys
   unfoldable pub entries : FinMap R X → List (K × X)
   entries m = m.list
 
   unfoldable pub empty : FinMap R X
   empty = record { list = []; sorted = tt }
 
-  -- An order that is not total may leave a list out of order, and then the map is the one given.
+  -- An order that isn't total may leave a list unsorted; then the map is the one given.
   abbrev pub checked : (es : List (K × X)) (b : Bool) → is_sorted R es ≡ b → FinMap R X → FinMap R X
   checked es true e m = record { list = es; sorted = subst T (sym e) tt }
   checked es false e m = m
@@ -47,7 +46,7 @@ module _ {K X : Type 0} {R : K → K → Ordering} where
   abbrev pub values : FinMap R X → List X
   values m = map (λ e. e.1) (entries m)
 
-  -- At a key that comes twice it has the first value.
+  -- A key that comes twice has the first value.
   abbrev pub from_entries : List (K × X) → FinMap R X
   from_entries [] = empty
   from_entries (e ∷ es) = insert (from_entries es) e.0 e.1
@@ -73,7 +72,7 @@ sum_entries f m = total (λ e. f e.0 e.1) (entries m)
 abbrev pub sum_over : {K X : Type 0} {R : K → K → Ordering} → (X → ℕ) → FinMap R X → ℕ
 sum_over f m = total (λ e. f e.1) (entries m)
 
--- how often the number stands in the list
+-- how often the number is in the list
 abbrev pub times : ℕ → List ℕ → ℕ
 times n [] = 0
 times n (x ∷ xs) = cond (n == x) 1 0 + times n xs

@@ -1,6 +1,6 @@
--- The fixed regions of a disk of `size` blocks. Block 0 is zero and never looked at; 1 and 2 are the
--- home copies, 3 is the gate, 4 the log header; then come the log's images, the allocation table, and
--- the free space, in which `init` puts the master directory first.
+-- The fixed regions of a disk of `size` blocks. Block 0 is zero and ignored; 1 and 2 are the home copies, 3 is the
+-- gate, 4 the log header; then come the log's images, the allocation table, and the free space, in which `init` puts
+-- the master directory first.
 use Rattle.std.specs.Prelude.{ℕ, ◌+◌, ◌/◌, ◌≤◌}
 
 -- a disk that can be a volume has 64 to 131072 blocks
@@ -8,7 +8,7 @@ pub record IsVolumeSize (size : ℕ) : Type 0 where
   pub small : 64 ≤ size
   pub large : size ≤ 131072
 
--- how many blocks the allocation table has: 4608 bits to a block
+-- how many blocks the allocation table has, with 4608 bits in each
 abbrev pub table_blocks : ℕ → ℕ
 table_blocks size = (size + 4607) / 4608
 

@@ -1,5 +1,5 @@
--- V1 with one change: what a start refuses, and what it still takes. All numbers that the format writes
--- in octal are in octal.
+-- V1 with one change: what a start refuses, and what it still accepts. All numbers that the format writes in octal are
+-- in octal.
 use Rattle.std.specs.Prelude.{ℕ, ◌==◌, if◌then◌else◌, List, [], ◌∷◌, ◌++◌, replicate, Option, Some, None}
 use Rattle.blockdisk.specs.Common.{Contents}
 use Rattle.spec_image.specs.Maps.{empty, insert}
@@ -37,7 +37,7 @@ latest_hello = record {
 abbrev pub latest_files : Files File
 latest_files = insert empty owner (record { protection = 0o775; quota = 0; files = insert empty foo_txt latest_hello })
 
--- The gate is open but for its last word. The log header is zeros, as in V1.
+-- The gate is open except for its last word. The log header is zeros, as in V1.
 abbrev pub nearly_open_gate : List ℕ
 nearly_open_gate = replicate 127 0o252525252525 ++ 0 ∷ []
 

@@ -1,6 +1,5 @@
--- What the contents of a disk stand for: the files that a map of the disk has, where that map is spelled
--- in the settled contents, every block of it is in one place and in the free space, and the allocation
--- table agrees.
+-- What the contents of a disk stand for: the files that a map of the disk has, if that map is spelled in the settled
+-- contents, every block of it is in one place and in the free space, and the allocation table agrees.
 use Rattle.std.specs.Prelude.{◌≡◌, ℕ, ◌+◌, ◌<◌, ◌≤◌, ◌==◌, if◌then◌else◌, List, ◌∷◌, ◌++◌, Some, IsSome}
 use Rattle.std.specs.Ordering.{nat_cmp}
 use Rattle.words36.specs.declared.names.FileName.{FileName}
@@ -9,7 +8,7 @@ use Rattle.spec_image.specs.Maps.{FinMap, get, map_values, sum_over, times}
 use Rattle.spec_image.specs.Blocks.{head_or_zero}
 use Rattle.spec_image.specs.Files.{File, Files, Directory, Place, name_cmp}
 use Rattle.spec_image.specs.Regions.{IsVolumeSize, table_blocks, table_start}
-use Rattle.spec_image.specs.Home.{Home, IsHome}
+use Rattle.spec_image.specs.Home.{SpecHome, IsHome}
 use Rattle.spec_image.specs.Log.{IsSettled}
 use Rattle.spec_image.specs.Table.{table_bit, fixed}
 use Rattle.spec_image.specs.Directories.{IsDirectory, master_words, IsMasterEntry, master_word, file_words}
@@ -18,7 +17,7 @@ use Rattle.spec_image.specs.Retrieval.{prime_of, IsRetrieved, HasBody}
 
 -- The map of a disk.
 
--- a file, and where its version lies
+-- a file, and where its version is
 pub record StoredFile : Type 0 where
   pub file : File
   -- the prime retrieval block
@@ -49,7 +48,7 @@ directory_of d = record { protection = d.protection; quota = d.quota; files = ma
 abbrev pub files_of : DiskMap → Files File
 files_of m = map_values directory_of m.directories
 
--- How often a block stands in it.
+-- How often a block is in it.
 
 abbrev pub blocks_of_file : StoredFile → List ℕ
 blocks_of_file f = f.prime ∷ (f.extensions ++ f.blocks)
@@ -89,7 +88,7 @@ pub record IsWhole (layout : ℕ) (contents : Contents) (ppn : ℕ) (d : StoredD
   pub files : (name : FileName) (f : StoredFile) → get d.files name ≡ Some f
       → IsVersion layout contents (place_of ppn name) f
 
--- what the master directory says of a directory: its word, and its first block
+-- what the master directory says about a directory: its word, and its first block
 abbrev pub entry_of : StoredDirectory → ℕ × ℕ
 entry_of d = (master_word d.protection d.quota, head_or_zero d.chain)
 
@@ -97,7 +96,7 @@ abbrev pub IsMasterDirectory : Contents → DiskMap → Type 0
 IsMasterDirectory contents m = IsDirectory nat_cmp master_words IsMasterEntry contents m.chain
     (map_values entry_of m.directories)
 
-abbrev pub home_of : DiskMap → Home
+abbrev pub home_of : DiskMap → SpecHome
 home_of m = record { layout = m.layout; master = head_or_zero m.chain }
 
 -- The directories and files are on the disk as the map says.

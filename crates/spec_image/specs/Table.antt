@@ -1,5 +1,5 @@
--- The allocation table: a bit for each block of the disk. Bit j of word w of table block t, all counted
--- from 0 and bit 0 the most significant, stands for block 4608 * t + 36 * w + j.
+-- The allocation table: a bit for each block of the disk. Bit j of word w of table block t, all counted from 0 and bit
+-- 0 the most significant, is that of block 4608 * t + 36 * w + j.
 use Rattle.std.specs.Prelude.{ℕ, ◌+◌, ◌*◌, ◌-◌, ◌/◌, ◌%◌, ◌^◌, nat_lt, if◌then◌else◌, List, slice_index, Option, Some}
 use Rattle.std.specs.Prelude.{None}
 use Rattle.blockdisk.specs.Common.{Contents}

@@ -9,11 +9,12 @@ use Rattle.blockdisk.specs.Common.{Contents}
 use Rattle.spec_image.specs.Files.{Place, name_cmp}
 use Rattle.spec_image.specs.Regions.{IsVolumeSize}
 use Rattle.spec_image.specs.Home.{IsHome}
-use Rattle.spec_image.specs.Directories.{Node, items, directory_block, MasterEntry, master_words, FileEntry}
+use Rattle.spec_image.specs.Directories.{Node, items, directory_block, SpecMasterEntry, master_words, SpecFileEntry}
 use Rattle.spec_image.specs.Directories.{file_words}
-use Rattle.spec_image.specs.Retrieval.{Prime, Run, IsRun, Extension, prime_block, extension_block, IsPrime}
+use Rattle.spec_image.specs.Retrieval.{SpecPrime, SpecRun, IsRun, Extension, prime_block, extension_block, IsPrime}
 
--- From the block `first` these blocks of a chain stand, each naming the next, and the last of them names `last`.
+-- From the block `first`, these blocks of a chain follow one another, each naming the next, and the last of them names
+-- `last`.
 abbrev pub LeadsAlong : {E : Type 0} → (E → List ℕ) → Contents → ℕ → List (Node E) → ℕ → Type 0
 LeadsAlong words contents first [] last = first ≡ last
 LeadsAlong words contents first (node ∷ nodes) last =
@@ -28,7 +29,7 @@ LeadsOn contents first (extension ∷ extensions) last =
     × (next : ℕ) × (contents first ≡ Some (extension_block extension.1 next)) × LeadsOn contents next extensions last
 
 -- On a disk of a size that a volume may have, these blocks of the master directory were walked, and `last` comes next.
-pub record IsMasterWalk (size : ℕ) (contents : Contents) (layout : ℕ) (nodes : List (Node MasterEntry))
+pub record IsMasterWalk (size : ℕ) (contents : Contents) (layout : ℕ) (nodes : List (Node SpecMasterEntry))
     (last : ℕ) : Type 0 where
   pub volume : IsVolumeSize size
   pub master : ℕ
@@ -37,13 +38,13 @@ pub record IsMasterWalk (size : ℕ) (contents : Contents) (layout : ℕ) (nodes
 
 -- The master directory, as far as it was walked, has this directory, with its word and its first block.
 pub record IsDirectoryNamed (size : ℕ) (contents : Contents) (layout ppn word first : ℕ) : Type 0 where
-  pub nodes : List (Node MasterEntry)
+  pub nodes : List (Node SpecMasterEntry)
   pub last : ℕ
   pub walk : IsMasterWalk size contents layout nodes last
   pub entry : find nat_cmp ppn (items nodes) ≡ Some (word, first)
 
 -- These blocks of the directory were walked, and `last` comes next.
-pub record IsDirectoryWalk (size : ℕ) (contents : Contents) (layout ppn : ℕ) (nodes : List (Node FileEntry))
+pub record IsDirectoryWalk (size : ℕ) (contents : Contents) (layout ppn : ℕ) (nodes : List (Node SpecFileEntry))
     (last : ℕ) : Type 0 where
   pub word : ℕ
   pub first : ℕ
@@ -52,13 +53,13 @@ pub record IsDirectoryWalk (size : ℕ) (contents : Contents) (layout ppn : ℕ)
 
 -- The directory of this place, as far as it was walked, has its name, with this prime block.
 pub record IsFileNamed (size : ℕ) (contents : Contents) (layout : ℕ) (place : Place) (prime : ℕ) : Type 0 where
-  pub nodes : List (Node FileEntry)
+  pub nodes : List (Node SpecFileEntry)
   pub last : ℕ
   pub walk : IsDirectoryWalk size contents layout place.ppn nodes last
   pub entry : find name_cmp place.name (items nodes) ≡ Some prime
 
--- The prime block says this, of whatever place, and names these runs and this extension or 0.
-pub record IsPrimeRead (contents : Contents) (layout prime : ℕ) (p : Prime) (runs : List Run) (next : ℕ) : Type 0 where
+-- The prime block says this, for any place, and names these runs and this extension or 0.
+pub record IsPrimeRead (contents : Contents) (layout prime : ℕ) (p : SpecPrime) (runs : List SpecRun) (next : ℕ) : Type 0 where
   pub words : contents prime ≡ Some (prime_block p runs next)
   pub ppn_fits : IsPpn p.place.ppn
   pub ext_fits : p.place.name.ext < 2 ^ 18

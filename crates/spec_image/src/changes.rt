@@ -1,3 +1,4 @@
+//! Laws about the changes of a disk: which map and which files the new contents have.
 ghost use Rattle.std.specs.Prelude.{◌≡◌, ◌≢◌, ◌+◌, ◌<◌, ◌≤◌, ◌⊎◌, ◌++◌, ℕ, List, Option, None, Some};
 ghost use Rattle.words36.specs.declared.names.FileName.{FileName};
 ghost use Rattle.blockdisk.specs.Common.{Contents};
@@ -15,9 +16,9 @@ ghost use Rattle.spec_image.specs.Changes.{WritesFree, bare_directory, entries_o
 ghost use Rattle.spec_image.specs.Changes.{in_place_of, primes_of, reaches_in_found, with_directory, with_file};
 ghost use Rattle.spec_image.specs.Changes.{with_protection, without_directory, without_file};
 
-/// Where the new map's parts are on the disk and the table follows, the contents have the new map: the law
-/// behind all the others. The two that come with it are for directories that change with their files, and
-/// keep their protection, quota and first block.
+/// Proves that the contents have the new map if its parts are on the disk and the table follows: the law behind all the
+/// others. The two clauses after it are for directories that change with their files, and keep their protection, quota
+/// and first block.
 pub fn maps_change_by_parts()
     ensures any { (size : ℕ) (old new : Contents) (m after : DiskMap) (given_up taken : ℕ → ℕ)
         → HasMap size old m → IsMapped size new after → TableFollows size old new given_up taken
@@ -42,7 +43,7 @@ pub fn maps_change_by_parts()
         → HasMap size new (with_directory (with_directory m m.chain ppn changed) m.chain other other_changed) }
 {}
 
-/// A version is published under a name, whether the name is new or not.
+/// Proves which map and files a disk has after a version is published under a name, whether the name is new or not.
 pub fn versions_are_published()
     ensures stands { (size : ℕ) (old new : Contents) (m : DiskMap) (ppn : ℕ) (d : StoredDirectory) (name : FileName)
         (was : Option StoredFile) (f : StoredFile) (chain : List ℕ)
@@ -58,8 +59,8 @@ pub fn versions_are_published()
         ≡ insert (files_of m) ppn (file_put (directory_of d) name f.file) }
 {}
 
-/// A publication from the contents before its first write: blocks that were free are written, which changes
-/// nothing, and then a change set puts a block of the directory and blocks of the table.
+/// Proves which map a disk has after a publication, from the contents before its first write: blocks that were free are
+/// written, which changes nothing, and then a change set puts a block of the directory and blocks of the table.
 pub fn versions_are_superseded()
     ensures written { (size : ℕ) (old new : Contents) (m : DiskMap) (blocks : List ℕ) → HasMap size old m
         → WritesFree size old new blocks → HasMap size new m }
@@ -73,7 +74,7 @@ pub fn versions_are_superseded()
         → HasMap size new (with_directory m m.chain ppn (with_file d d.chain name f)) }
 {}
 
-/// A file is removed from its directory.
+/// Proves which map and files a disk has after a file is removed from its directory.
 pub fn files_are_removed()
     ensures stands { (size : ℕ) (old new : Contents) (m : DiskMap) (ppn : ℕ) (d : StoredDirectory) (name : FileName)
         (f : StoredFile) (chain : List ℕ)
@@ -87,7 +88,7 @@ pub fn files_are_removed()
         ≡ insert (files_of m) ppn (file_removed (directory_of d) name) }
 {}
 
-/// A version whose prime block is written again, for another place or with other attributes, is that of the
+/// Proves that a version whose prime block is rewritten, for another place or with other attributes, is that of the
 /// changed file.
 pub fn prime_blocks_are_rewritten()
     ensures { (layout : ℕ) (old new : Contents) (place to : Place) (f : StoredFile) (file : File)
@@ -97,7 +98,8 @@ pub fn prime_blocks_are_rewritten()
         → IsVersion layout new to (in_place_of f file) }
 {}
 
-/// The attributes of a file change, as its protection, and its version stays where it is.
+/// Proves which map and files a disk has after the attributes of a file change, such as its protection. Its version
+/// stays where it is.
 pub fn attributes_change()
     ensures stands { (size : ℕ) (old new : Contents) (m : DiskMap) (ppn : ℕ) (d : StoredDirectory) (name : FileName)
         (f : StoredFile) (file : File)
@@ -110,8 +112,8 @@ pub fn attributes_change()
         ≡ insert (files_of m) ppn (file_put (directory_of d) name file) }
 {}
 
-/// A file is renamed, within its directory or from one into another. Its prime block is written again, and
-/// its other blocks stay.
+/// Proves which map and files a disk has after a file is renamed, within its directory or from one into another. Its
+/// prime block is rewritten, and its other blocks stay.
 pub fn files_are_renamed()
     ensures within { (size : ℕ) (old new : Contents) (m : DiskMap) (ppn : ℕ) (d : StoredDirectory) (name to : FileName)
         (f : StoredFile) (file : File) (chain : List ℕ)
@@ -148,7 +150,7 @@ pub fn files_are_renamed()
         (file_put (directory_of e) to file) }
 {}
 
-/// A directory with no files is made, and the master directory names it.
+/// Proves which map and files a disk has after a directory with no files is made and the master directory names it.
 pub fn directories_are_made()
     ensures stands { (size : ℕ) (old new : Contents) (m : DiskMap) (chain : List ℕ) (ppn protection quota : ℕ)
         (blocks : List ℕ)
@@ -164,7 +166,7 @@ pub fn directories_are_made()
         ≡ insert (files_of m) ppn (record { protection = protection; quota = quota; files = empty }) }
 {}
 
-/// A directory is given another protection and another quota.
+/// Proves which map and files a disk has after a directory gets another protection and another quota.
 pub fn directories_are_protected()
     ensures stands { (size : ℕ) (old new : Contents) (m : DiskMap) (chain : List ℕ) (ppn : ℕ) (d : StoredDirectory)
         (protection quota : ℕ)
@@ -179,7 +181,7 @@ pub fn directories_are_protected()
         ≡ insert (files_of m) ppn (record { protection = protection; quota = quota; files = (directory_of d).files }) }
 {}
 
-/// A directory with no files is removed, and gives up its chain.
+/// Proves which map and files a disk has after a directory with no files is removed and its chain is freed.
 pub fn directories_are_removed()
     ensures stands { (size : ℕ) (old new : Contents) (m : DiskMap) (chain : List ℕ) (ppn : ℕ) (d : StoredDirectory)
         → HasMap size old m → get m.directories ppn ≡ Some d → d.files ≡ empty
@@ -191,8 +193,8 @@ pub fn directories_are_removed()
         ≡ remove (files_of m) ppn }
 {}
 
-/// Both home copies are written again for another layout, whose dates and quotas reach at least as far, and every other
-/// block stays: the contents stand for the same files, in that layout.
+/// Proves that the contents stand for the same files in another layout if both home copies are rewritten for that
+/// layout, its dates and quotas reach at least as far, and every other block stays.
 pub fn homes_are_raised()
     ensures stands { (size : ℕ) (old new : Contents) (m : DiskMap) (to : ℕ) → IsLayout to
         → date_limit m.layout ≤ date_limit to → quota_limit m.layout ≤ quota_limit to → HasMap size old m

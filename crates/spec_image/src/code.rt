@@ -1,3 +1,4 @@
+//! The reasons for which a call is refused.
 ghost use Rattle.std.specs.Prelude.{◌≡◌};
 ghost use Rattle.spec_image.specs.Codes.{number_of};
 
@@ -12,7 +13,7 @@ pub enum ErrorCode {
     Protection,
     /// The file is being written.
     BeingModified,
-    /// The name is there already.
+    /// The name is already there.
     NameExists,
     /// The channel's sides don't allow the call.
     Sequence,
@@ -23,7 +24,7 @@ pub enum ErrorCode {
 }
 
 impl ErrorCode {
-    /// The number by which the machine names it.
+    /// Returns the number by which the machine names this reason.
     pub fn number(self) -> u32
         ensures { result ≡ number_of self }
     {

@@ -1,10 +1,11 @@
+//! Laws about the edits of a directory's chain.
 ghost use Rattle.std.specs.Ordering.{nat_cmp};
 ghost use Rattle.spec_image.specs.Directories.{file_words, IsFileEntry, master_words, IsMasterEntry};
 ghost use Rattle.spec_image.specs.Edits.{EntryReplaced, EntryAdded, ChainGrown, EntryRemoved, EntryRemovedMoved};
 ghost use Rattle.spec_image.specs.Edits.{LastDropped, HoleFilled, HoleFilledAdjacent, HoleFilledDropped, ChainCosts};
 ghost use Rattle.spec_image.specs.Files.{name_cmp};
 
-/// A directory's chain after each edit of it is the directory with the edit made.
+/// Proves that a directory's chain, after each edit of it, is the directory with the edit made.
 pub fn directory_edits()
     ensures replaced { EntryReplaced name_cmp file_words IsFileEntry }
     ensures added { EntryAdded name_cmp file_words IsFileEntry }
@@ -18,7 +19,7 @@ pub fn directory_edits()
     ensures costs { ChainCosts name_cmp file_words IsFileEntry }
 {}
 
-/// The same for the master directory.
+/// Proves the same for the master directory.
 pub fn master_edits()
     ensures replaced { EntryReplaced nat_cmp master_words IsMasterEntry }
     ensures added { EntryAdded nat_cmp master_words IsMasterEntry }

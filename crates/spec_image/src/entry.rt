@@ -1,3 +1,4 @@
+//! A line of the list of a directory.
 use words36::FileName;
 
 /// A line of the list of a directory.
@@ -13,8 +14,8 @@ pub struct Entry {
     pub date: u32,
     /// The minute of that day.
     pub time: u32,
-    /// How many words it has.
+    /// The number of its words.
     pub length: u32,
-    /// How many blocks its words take.
+    /// The number of blocks that its words take.
     pub blocks: u32,
 }

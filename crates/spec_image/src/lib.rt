@@ -1,15 +1,16 @@
-//! What the words of an image stand for: definitions, and laws of them.
+//! What the words of an image stand for: definitions, and laws about them.
 //!
-//! The definitions stand in `specs/`, to be read in this order: `Maps` (maps and lists of numbers), `Files` (files in
-//! directories, as users see them), `Costs` (what they take), `Regions`, `Home`, `Log` and `Table` (the fixed parts of
-//! an image), `Directories` and `Retrieval` (the blocks of directories and of files), `Splices` (bodies by blocks), and
-//! `Stands` with `Layouts` (which files an image stands for, in which layout). What follows builds on these: `Walks`
-//! and `Faults` (what a start refuses), `Quiet`, `Changes` and `Edits` (what leaves or changes the files), `Counts`
-//! (how many blocks), `Published` and `Codes` (versions, and why a change of the files is refused), and `Vector`,
-//! `Readings` and `Spoiled` (images that were written by hand). `Common` passes on what other crates cite.
+//! The definitions are in `specs/`. Read them in this order: `Maps` (maps and lists of numbers), `Files` (files in
+//! directories, as users see them), `Costs` (the blocks that they take), `Regions`, `Home`, `Log` and `Table` (the
+//! fixed parts of an image), `Directories` and `Retrieval` (the blocks of directories and of files), `Splices` (bodies
+//! by blocks), and `Stands` with `Layouts` (which files an image stands for, in which layout). The others build on
+//! these: `Walks` and `Faults` (what a start refuses), `Quiet`, `Changes` and `Edits` (what leaves or changes the
+//! files), `Counts` (numbers of blocks), `Published` and `Codes` (versions, and why a change of the files is refused),
+//! and `Vector`, `Readings` and `Spoiled` (images that were written by hand). `Common` passes on what other crates
+//! cite.
 //!
-//! A law is the contract of a function without parameters. In `src/` there are besides only the plain types and the
-//! numbers of the layout that definitions and code share.
+//! A law is the contract of a function that does nothing. Besides laws, `src/` has only the plain types and the numbers
+//! of the layout that definitions and code share.
 #![tactic(auto)]
 
 mod changes;

@@ -1,3 +1,4 @@
+//! Laws about maps, lists and sums.
 ghost use Rattle.std.specs.FinMap.Entries.{find};
 ghost use Rattle.words36.specs.declared.names.FileName.{FileName};
 ghost use Rattle.std.specs.Option.{option_map};
@@ -6,7 +7,7 @@ ghost use Rattle.spec_image.specs.Files.{name_cmp};
 ghost use Rattle.spec_image.specs.Maps.{EachOnce, FinMap, empty, entries, from_entries, get, insert, map_values};
 ghost use Rattle.spec_image.specs.Maps.{remove, size, sum_over, total};
 
-/// A map is what it answers, and a change of it changes the answer at one key alone.
+/// Proves that a map is determined by its answers, and that a change of it changes the answer at one key only.
 pub fn map_laws()
     ensures same { (m n : FinMap name_cmp ℕ) → ((k : FileName) → get m k ≡ get n k) → m ≡ n }
     ensures nothing { (k : FileName) → get (empty {X = ℕ} {R = name_cmp}) k ≡ None }
@@ -16,8 +17,8 @@ pub fn map_laws()
         × (q ≢ k → get (remove m k) q ≡ get m q) }
 {}
 
-/// The map of a list answers what a scan of the list finds, and a map is the map of its own list, where no key comes
-/// twice.
+/// Proves that the map of a list answers what a scan of the list finds, and that a map is the map of its own list, in
+/// which no key comes twice.
 pub fn list_laws()
     ensures made { (es : List (FileName × ℕ)) (k : FileName) → get (from_entries {R = name_cmp} es) k
         ≡ find name_cmp k es }
@@ -26,7 +27,7 @@ pub fn list_laws()
         → get (map_values f m) k ≡ option_map f (get m k) }
 {}
 
-/// A sum over a map changes by the value that a change of the map puts in or takes out, and the size by one.
+/// Proves that a change of a map changes a sum over it by the value that is put in or taken out, and its size by one.
 pub fn sum_laws()
     ensures inserted { (f : ℕ → ℕ) (m : FinMap name_cmp ℕ) (k : FileName) (v : ℕ) → get m k ≡ None
         → sum_over f (insert m k v) ≡ f v + sum_over f m }

@@ -1,3 +1,4 @@
+//! A law about quiet writes, one after another.
 ghost use Rattle.std.specs.Prelude.{ℕ, ◌<◌, List};
 ghost use Rattle.std.specs.List.{AllByRecursion};
 ghost use Rattle.blockdisk.specs.Common.{Contents, MayLeave, SameDisk, Modifies, LeavesOnly};
@@ -8,8 +9,8 @@ ghost use Rattle.spec_image.specs.Stands.{Stands};
 
 use blockdisk::Disk;
 
-/// Between these two states of a disk only quiet blocks were written: then a crash at any moment between
-/// them left what stands for the same files.
+/// Proves that, if only quiet blocks were written between these two states of a disk, a crash at any moment between
+/// them left contents that stand for the same files.
 pub fn quiet_stretch<D: Disk>(old: &D, new: &D)
     ensures { SameDisk (D.state old.now) (D.state new.now) → (D.state new.now).honest
         → (blocks : List ℕ) (files : Files File) → AllByRecursion (IsQuiet (D.state old.now)) blocks

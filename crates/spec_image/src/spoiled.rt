@@ -1,3 +1,4 @@
+//! A law about images with one change made by hand.
 ghost use Rattle.spec_image.specs.Faults.{HasFault, NotVolume, BadHome, BadLog, BadDirectory, BadRetrieval};
 ghost use Rattle.spec_image.specs.Faults.{BlockTwice, TableWrong, BadData};
 ghost use Rattle.spec_image.specs.Files.{File, Files};
@@ -8,17 +9,17 @@ ghost use Rattle.spec_image.specs.Spoiled.{v1_shared_block, v1_closed_gate};
 ghost use Rattle.spec_image.specs.Stands.{Stands};
 ghost use Rattle.spec_image.specs.Vector.{v1_files};
 
-/// The vector V1 with one change. With its first home copy damaged, or with a gate that is open but for
-/// one word, it stands for its file, and with the last minute of a day in the prime block for the file
-/// at that time. Each other change is a fault. The last clause says of two of them that they stand for
-/// no files, as no contents with a fault do.
+/// Proves what the vector V1 is after one change. With its first home copy damaged, or with a gate that is open except
+/// for one word, it stands for its file. With the last minute of a day in the prime block it stands for the file at
+/// that time. Each other change is a fault. The last clause states for two of them that they stand for no files, as
+/// holds for all contents with a fault.
 pub fn spoiled_images()
-    // What stands for files still.
+    // What still stands for files.
     ensures untouched_copy { Stands 64 v1_untouched_copy v1_files }
     ensures latest_minute { Stands 64 v1_latest_minute latest_files }
     ensures closed_gate { Stands 64 v1_closed_gate v1_files }
 
-    // What is refused, and by which fault.
+    // What is refused, and the fault that it has.
     ensures not_volume { HasFault 64 v1_not_volume NotVolume }
     ensures bad_home { HasFault 64 v1_bad_home BadHome }
     ensures bad_log { HasFault 64 v1_bad_log BadLog }

@@ -3,11 +3,12 @@ use Rattle.std.proofs.Common.{◌≡◌, ℕ, zero, suc, ◌+◌, ◌-◌, ◌<�
 use Rattle.std.proofs.Common.{Some, option_map, refl, sym, ap, ◌∙◌, arith, append-nil}
 use Rattle.std.proofs.lemmas.List.{take_all, drop_all}
 use Rattle.words36.specs.declared.moment.Moment.{Moment}
-use Rattle.spec_image.specs.Common.{Place, Version, blocks_of, splice, block_start, words_from, Pack}
-use Rattle.spec_machine.specs.Common.{after_writes, placed, dealt, joined, word_count, Job, State, Output, job_at}
+use Rattle.spec_image.specs.Common.{Place, SpecVersion, blocks_of, splice, block_start, words_from, Pack}
+use Rattle.spec_machine.specs.Common.{after_writes, placed, dealt, joined, word_count, SpecJob, State, SpecOutput}
+use Rattle.spec_machine.specs.Common.{job_at}
 use Rattle.spec_machine.specs.Common.{channel_at, with_channel, in_answer, in_done, areas_or_none, useti_answer}
 use Rattle.spec_machine.specs.Common.{useti_done, out_answer, out_done, put_done, stopped_in, Steps}
-use Rattle.spec_language.specs.Plans.{takes, asks_out, goes_to, list_words, block_address}
+use Rattle.spec_language.specs.Plans.{in_event, out_event, useti_event, list_words, block_address}
 use Rattle.spec_machine.specs.declared.call.Call.TheVariants.{In, Out, Useti}
 use Rattle.spec_machine.specs.declared.call.Reply.TheVariants.{Done}
 use Rattle.spec_machine.proofs.Common.{window, range_window}
@@ -26,7 +27,7 @@ take_more (suc a) b (x ∷ xs) =
     let e : suc a + b ≡ suc (a + b) = omega arith in
     ap (λ k. take k (x ∷ xs)) e ∙ ap (λ ys. x ∷ ys) (take_more a b xs)
 
--- words that are put where a body ends
+-- words that are put at the end of a body
 pub put_at_end : (body : List ℕ) (block : ℕ) (ws : List ℕ) → block_start block ≡ length body
     → splice body block ws ≡ body ++ ws
 put_at_end body block [] e = sym (append-nil body)
@@ -43,11 +44,11 @@ moved core count ahead = min (word_count (part count ∷ [])) (length ahead)
 abbrev pub taken : List ℕ → ℕ → List ℕ → List ℕ
 taken core count ahead = after_writes core (placed block_address (take count ahead))
 
-module _ (pack : Pack) (s : State) (j0 : Job) (there : job_at s 1 ≡ Some j0) (moment : Moment) where
+module _ (pack : Pack) (s : State) (j0 : SpecJob) (there : job_at s 1 ≡ Some j0) (moment : Moment) where
   -- the next words of a version come into the block
-  pub takes_done : (me : ℕ) (j : Job) (place : Place) (v : Version) (n count : ℕ) (t : State) → IsJob me j
+  pub takes_done : (me : ℕ) (j : SpecJob) (place : Place) (v : SpecVersion) (n count : ℕ) (t : State) → IsJob me j
       → channel_at j 1 ≡ Some (reading place v n) → 0 < count → count ≤ 2048 → Lists count j.core
-      → Steps pack (at s j) (takes moment) Done t
+      → Steps pack (at s j) (in_event moment) Done t
       → t ≡ at s (with_open (with_core j (taken j.core count (words_from v.file.body n))) 1
       (reading place v (n + blocks_of (moved j.core count (words_from v.file.body n)))))
   takes_done me j place v n count t is held some few lists steps =
@@ -64,10 +65,10 @@ module _ (pack : Pack) (s : State) (j0 : Job) (there : job_at s 1 ≡ Some j0) (
       (reading place v (n + blocks_of (moved j.core count ahead)))))
       (append-nil (placed block_address (take count ahead)))
 
-  -- the words of the block are put behind those that were
-  pub puts_done : (me : ℕ) (j : Job) (o : Output) (count : ℕ) (t : State) → IsJob me j
+  -- the words of the block are put after those that were there
+  pub puts_done : (me : ℕ) (j : SpecJob) (o : SpecOutput) (count : ℕ) (t : State) → IsJob me j
       → channel_at j 2 ≡ Some (writing o) → 0 < count → count ≤ 2048 → Lists count j.core
-      → Steps pack (at s j) (asks_out moment) Done t
+      → Steps pack (at s j) (out_event moment) Done t
       → t ≡ at s (with_open j 2 (writing (record o {
         pending = record o.pending { body = splice o.pending.body o.next (window j.core block_address count) };
         next = o.next + blocks_of (length (window j.core block_address count));
@@ -88,8 +89,8 @@ module _ (pack : Pack) (s : State) (j0 : Job) (there : job_at s 1 ≡ Some j0) (
         next = o.next + blocks_of (length ws);
       })))) words
 
-  pub goes_done : (j : Job) (place : Place) (v : Version) (n k : ℕ) (t : State)
-      → channel_at j 1 ≡ Some (reading place v k) → Steps pack (at s j) (goes_to moment n) Done t
+  pub goes_done : (j : SpecJob) (place : Place) (v : SpecVersion) (n k : ℕ) (t : State)
+      → channel_at j 1 ≡ Some (reading place v k) → Steps pack (at s j) (useti_event moment n) Done t
       → t ≡ at s (with_open j 1 (reading place v n))
   goes_done j place v n k t held steps =
       let call = call_done pack s j0 there j (Useti 1 n) moment t steps in

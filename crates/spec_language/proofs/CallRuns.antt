@@ -3,11 +3,11 @@ use Rattle.std.proofs.Common.{◌≡◌, ◌≢◌, ℕ, zero, suc, ◌+◌, ◌
 use Rattle.std.proofs.Common.{length, Option, Some, refl, sym, ap, subst, ◌∙◌, arith}
 use Rattle.std.specs.Prelude.{nat_lt, slice_set}
 use Rattle.words36.specs.declared.moment.Moment.{Moment}
-use Rattle.spec_machine.specs.Common.{after_writes, placed, Channel, Job, State, job_at, channel_at, with_job, slot}
+use Rattle.spec_machine.specs.Common.{after_writes, placed, Channel, SpecJob, State, job_at, channel_at, with_job, slot}
 use Rattle.spec_machine.specs.Common.{Steps, settled, deposit_answer, deposit_done, last_date, on_job, on_channel}
 use Rattle.spec_machine.specs.Common.{of_job, call_of, deposit}
 use Rattle.spec_image.specs.Common.{Pack}
-use Rattle.spec_language.specs.Plans.{calls, deposits}
+use Rattle.spec_language.specs.Plans.{call_event, deposit_events}
 use Rattle.spec_machine.specs.declared.call.Call.{Call}
 use Rattle.spec_machine.specs.declared.call.Event.TheVariants.{Deposit}
 use Rattle.spec_machine.specs.declared.call.Reply.{Reply}
@@ -16,16 +16,16 @@ use Rattle.spec_machine.proofs.Common.{settled_by, slot-set_same}
 use Rattle.spec_language.proofs.PlanRuns.{AllDone}
 
 -- the state with this record of job 1
-abbrev pub at : State → Job → State
+abbrev pub at : State → SpecJob → State
 at s j = with_job s 1 j
 
 -- what stays of a job through all of its calls
-pub record IsJob (me : ℕ) (j : Job) : Type 0 where
+pub record IsJob (me : ℕ) (j : SpecJob) : Type 0 where
   pub owner : j.ppn ≡ me
   pub core : length j.core ≡ 4096
   pub channels : length j.channels ≡ 16
 
-abbrev pub with_core : Job → List ℕ → Job
+abbrev pub with_core : SpecJob → List ℕ → SpecJob
 with_core j core = record j { core = core }
 
 pub set_twice : {X : Type 0} (xs : List X) (n : ℕ) (x y : X) → slice_set (slice_set xs n x) n y ≡ slice_set xs n y
@@ -39,7 +39,7 @@ slot_set [] n x there = absurd (omega arith)
 slot_set (z ∷ xs) zero x there = refl
 slot_set (z ∷ xs) (suc n) x there = slot_set xs n x (omega arith)
 
-pub at_again : (s : State) (j k : Job) → with_job (at s j) 1 k ≡ at s k
+pub at_again : (s : State) (j k : SpecJob) → with_job (at s j) 1 k ≡ at s k
 at_again s j k = ap (λ js. record s { jobs = js }) (set_twice s.jobs 1 (Some j) (Some k))
 
 not_late : (late : Bool) (s t : State) (r : Reply × State) → (if late then (DateRange, s) else r) ≡ (Done, t)
@@ -52,12 +52,12 @@ pub settled_done : {A : Type 0} (reply : Reply) (done : A) (other : Reply → A)
 settled_done reply done other = settled_by (λ r. r.0 ≡ Done → (reply ≡ Done) × (r.1 ≡ done)) reply done other
     (λ is e. (is, refl)) (λ differs e. absurd (differs e))
 
-module _ (pack : Pack) (s : State) (j0 : Job) (there : job_at s 1 ≡ Some j0) where
-  pub job_there : (j : Job) → job_at (at s j) 1 ≡ Some j
+module _ (pack : Pack) (s : State) (j0 : SpecJob) (there : job_at s 1 ≡ Some j0) where
+  pub job_there : (j : SpecJob) → job_at (at s j) 1 ≡ Some j
   job_there j = slot-set_same s.jobs 1 j j0 there
 
   -- a call's own row
-  pub call_done : (j : Job) (call : Call) (moment : Moment) (t : State) → Steps pack (at s j) (calls moment call) Done t
+  pub call_done : (j : SpecJob) (call : Call) (moment : Moment) (t : State) → Steps pack (at s j) (call_event moment call) Done t
       → (serial : ℕ) × (call_of pack serial (at s j) 1 j call moment ≡ (Done, t))
   call_done j call moment t (serial, fresh, e) = (
     serial,
@@ -65,12 +65,12 @@ module _ (pack : Pack) (s : State) (j0 : Job) (there : job_at s 1 ≡ Some j0) w
         (job_there j) (not_late (nat_lt (last_date pack.layout) moment.date) (at s j) t _ e),
   )
 
-  pub on_open : (j : Job) (ch : ℕ) (c : Channel) (row : Channel → Reply × State) (t : State)
+  pub on_open : (j : SpecJob) (ch : ℕ) (c : Channel) (row : Channel → Reply × State) (t : State)
       → channel_at j ch ≡ Some c → on_channel (at s j) (channel_at j ch) row ≡ (Done, t) → row c ≡ (Done, t)
   on_open j ch c row t is e = subst (λ o. on_channel (at s j) o row ≡ (Done, t)) is e
 
-  -- a row that changes its own job alone
-  pub row_done : (j : Job) (answer : Reply) (done : Job) (other : Reply → Job) (t : State)
+  -- a row that changes only its own job
+  pub row_done : (j : SpecJob) (answer : Reply) (done : SpecJob) (other : Reply → SpecJob) (t : State)
       → of_job (at s j) 1 (settled answer done other) ≡ (Done, t) → (answer ≡ Done) × (t ≡ at s done)
   row_done j answer done other t e =
       let d = settled_done answer done other (ap (λ x. x.0) e) in
@@ -78,7 +78,7 @@ module _ (pack : Pack) (s : State) (j0 : Job) (there : job_at s 1 ≡ Some j0) w
 
   -- Deposits.
 
-  one_deposit : (j : Job) (a w : ℕ) (t : State) → Steps pack (at s j) (Deposit 1 a w) Done t
+  one_deposit : (j : SpecJob) (a w : ℕ) (t : State) → Steps pack (at s j) (Deposit 1 a w) Done t
       → t ≡ at s (with_core j (slice_set j.core a w))
   one_deposit j a w t (serial, fresh, e) =
       let row : deposit (at s j) 1 j a w ≡ (Done, t) =
@@ -87,9 +87,9 @@ module _ (pack : Pack) (s : State) (j0 : Job) (there : job_at s 1 ≡ Some j0) w
       (ap (λ x. x.0) row) in
       sym (ap (λ x. x.1) row) ∙ d.1 ∙ at_again s j (deposit_done j a w)
 
-  pub deposits_done : (ws : List ℕ) (j : Job) (a : ℕ) (t : State) → AllDone pack (at s j) (deposits a ws) t
+  pub deposits_done : (ws : List ℕ) (j : SpecJob) (a : ℕ) (t : State) → AllDone pack (at s j) (deposit_events a ws) t
       → t ≡ at s (with_core j (after_writes j.core (placed a ws)))
   deposits_done [] j a t all = all
   deposits_done (w ∷ ws) j a t (u, steps, rest) =
       deposits_done ws (with_core j (slice_set j.core a w)) (a + 1) t
-      (subst (λ v. AllDone pack v (deposits (a + 1) ws) t) (one_deposit j a w u steps) rest)
+      (subst (λ v. AllDone pack v (deposit_events (a + 1) ws) t) (one_deposit j a w u steps) rest)

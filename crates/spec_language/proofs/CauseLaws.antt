@@ -1,4 +1,4 @@
--- Plans that go on while they are answered as they want, and what their acts come to.
+-- Plans that continue while they are answered as they want, and what their acts come to.
 use Rattle.std.proofs.Common.{◌≡◌, ◌⊎◌, inl, inr, ⊎_elim, ℕ, zero, suc, ◌+◌, ◌*◌, ◌/◌, ◌%◌, Bool, true, false}
 use Rattle.std.proofs.Common.{if◌then◌else◌, IsTrue, IsFalse, List, [], ◌∷◌, ◌++◌, length, take, drop, replicate}
 use Rattle.std.proofs.Common.{Some, refl, sym, ap, subst, ◌∙◌}
@@ -6,14 +6,19 @@ use Rattle.std.specs.Prelude.{Option, unwrap_or}
 use Rattle.std.specs.List.{AllByRecursion}
 use Rattle.words36.specs.declared.moment.Moment.{Moment}
 use Rattle.spec_language.specs.Texts.{Spoken, prints, file_said, refuses}
-use Rattle.spec_language.specs.Plans.{Plan, Ask, Show, Say, Act, Asks, Looks, Conducts, each, calls, ends, fails, ok}
-use Rattle.spec_language.specs.Plans.{if_done, if_told, if_end, is_end, until_end, takes, asks_out, goes_to, finds}
-use Rattle.spec_language.specs.Plans.{writes, lists, deposits, examines, fetches, takes_over, counts, sizes}
+use Rattle.spec_language.specs.Plans.{Plan, Ask, Show, Say, Act, Asks, Looks, RunsPlan, each, call_event, ends, fails}
+use Rattle.spec_language.specs.Plans.{ok}
+use Rattle.spec_language.specs.Plans.{if_done, if_told, if_end, is_end, until_end, in_event, out_event, useti_event}
+use Rattle.spec_language.specs.Plans.{lookup_events}
+use Rattle.spec_language.specs.Plans.{enter_events, list_events, deposit_events, examines, fetches, takes_over, counts}
+use Rattle.spec_language.specs.Plans.{sizes}
 use Rattle.spec_language.specs.Plans.{says_words, last_said, same_words, block_address, file_words, blocks_said}
-use Rattle.spec_language.specs.Plans.{blocks_at_once, asks_quota, copies_runs, copies_blocks, copies_last}
+use Rattle.spec_language.specs.Plans.{blocks_at_once, quota_events, copies_runs, copies_blocks, copies_last}
 use Rattle.spec_language.specs.Plans.{copies_body, copies, types_runs, types_blocks, types_last, types_body}
-use Rattle.spec_language.specs.Plans.{reads_file, asks_rename, deletes, protects, asks_make_dir, shows, begins}
-use Rattle.spec_language.specs.Errands.{enters, creates, fills, announces, fills_parts, fills_all, parts_of}
+use Rattle.spec_language.specs.Plans.{reads_file, rename_events, delete_events, protect_events, make_dir_events, shows}
+use Rattle.spec_language.specs.Plans.{begins}
+use Rattle.spec_language.specs.Errands.{login_events, create_events, fill_events, size_events, fills_parts, fills_all}
+use Rattle.spec_language.specs.Errands.{parts_of}
 use Rattle.spec_language.specs.Errands.{part_words, part_address, keeps, gets}
 use Rattle.spec_language.specs.Causes.{is_done, is_word, is_wanted, GoesUntilRefused, SaysOk, ClosesAtEnd}
 use Rattle.spec_language.specs.Causes.{PrintsAtEnd, EndsSo, SaysSo, IsAsWanted, IsRefusedAt}
@@ -47,27 +52,27 @@ wants_done (Deposit n address word) here reply = refl
 wants_done (Examine n address) here reply = absurd here
 wants_done (Calls n call moment) here reply = refl
 
-want_deposits : (ws : List ℕ) (a : ℕ) → AllByRecursion WantsDone (deposits a ws)
+want_deposits : (ws : List ℕ) (a : ℕ) → AllByRecursion WantsDone (deposit_events a ws)
 want_deposits [] a = tt
 want_deposits (w ∷ ws) a = (tt, want_deposits ws (a + 1))
 
-want_finds : (moment : Moment) (spec : Spec) → AllByRecursion WantsDone (finds moment spec)
+want_finds : (moment : Moment) (spec : Spec) → AllByRecursion WantsDone (lookup_events moment spec)
 want_finds moment spec = (tt, (tt, (tt, (tt, (tt, (tt, (tt, (tt, (tt, tt)))))))))
 
-want_writes : (moment : Moment) (spec : Spec) → AllByRecursion WantsDone (writes moment spec)
+want_writes : (moment : Moment) (spec : Spec) → AllByRecursion WantsDone (enter_events moment spec)
 want_writes moment spec = (tt, (tt, (tt, (tt, (tt, (tt, (tt, (tt, (tt, tt)))))))))
 
-want_lists : (count : ℕ) → AllByRecursion WantsDone (lists count)
+want_lists : (count : ℕ) → AllByRecursion WantsDone (list_events count)
 want_lists count = (tt, (tt, tt))
 
 want_creates : (moment : Moment) (encoding : Encoding) (spec : Spec)
-    → AllByRecursion WantsDone (creates moment encoding spec)
+    → AllByRecursion WantsDone (create_events moment encoding spec)
 want_creates moment Characters spec = (tt, (tt, (tt, (tt, (tt, (tt, (tt, (tt, (tt, (tt, (tt, tt)))))))))))
 want_creates moment Words spec = want_writes moment spec
 want_creates moment Octets spec = want_writes moment spec
 
 want_announces : (moment : Moment) (encoding : Encoding) (count : ℕ)
-    → AllByRecursion WantsDone (announces moment encoding count)
+    → AllByRecursion WantsDone (size_events moment encoding count)
 want_announces moment Characters count = (tt, (tt, tt))
 want_announces moment Words count = (tt, (tt, (tt, tt)))
 want_announces moment Octets count = (tt, (tt, (tt, tt)))
@@ -128,9 +133,9 @@ module _ (moment : Moment) (IsEnd : Plan → Type 0) where
       → ((words : List ℕ) → GoesUntilRefused moment IsEnd (next words))
       → GoesUntilRefused moment IsEnd (takes_over moment n word next)
   takes_over_goes n word next g =
-      each_goes (deposits block_address (replicate 128 word) ++ goes_to moment n ∷ takes moment ∷ [])
+      each_goes (deposit_events block_address (replicate 128 word) ++ useti_event moment n ∷ in_event moment ∷ [])
       (fetches moment 128 block_address next)
-      (all_append WantsDone (deposits block_address (replicate 128 word)) (goes_to moment n ∷ takes moment ∷ [])
+      (all_append WantsDone (deposit_events block_address (replicate 128 word)) (useti_event moment n ∷ in_event moment ∷ [])
       (want_deposits (replicate 128 word) block_address) (tt, (tt, tt)))
       (fetches_goes 128 block_address next g)
 
@@ -149,20 +154,20 @@ module _ (moment : Moment) (IsEnd : Plan → Type 0) where
       → GoesUntilRefused moment IsEnd (copies_runs moment more next)
   unfolding copies_runs
   copies_runs_goes zero next g = g
-  copies_runs_goes (suc more) next g = each_goes (takes moment ∷ asks_out moment ∷ []) (copies_runs moment more next)
+  copies_runs_goes (suc more) next g = each_goes (in_event moment ∷ out_event moment ∷ []) (copies_runs moment more next)
       (tt, (tt, tt)) (copies_runs_goes more next g)
 
   copies_blocks_goes : (blocks : ℕ) (next : Plan) → GoesUntilRefused moment IsEnd next
       → GoesUntilRefused moment IsEnd (copies_blocks moment blocks next)
-  copies_blocks_goes blocks next g = each_goes (lists (blocks_at_once * 128)) _ (want_lists (blocks_at_once * 128))
-      (copies_runs_goes (blocks / blocks_at_once) _ (each_goes (lists 128) _ (want_lists 128)
+  copies_blocks_goes blocks next g = each_goes (list_events (blocks_at_once * 128)) _ (want_lists (blocks_at_once * 128))
+      (copies_runs_goes (blocks / blocks_at_once) _ (each_goes (list_events 128) _ (want_lists 128)
       (copies_runs_goes (blocks % blocks_at_once) next g)))
 
   copies_last_goes : (n size : ℕ) (next : Plan) → GoesUntilRefused moment IsEnd next
       → GoesUntilRefused moment IsEnd (copies_last moment n size next)
   copies_last_goes n size next g = sizes_goes n size
-      (λ count. each moment (lists count ++ goes_to moment n ∷ takes moment ∷ asks_out moment ∷ []) next)
-      (λ count. each_goes (lists count ++ goes_to moment n ∷ takes moment ∷ asks_out moment ∷ []) next
+      (λ count. each moment (list_events count ++ useti_event moment n ∷ in_event moment ∷ out_event moment ∷ []) next)
+      (λ count. each_goes (list_events count ++ useti_event moment n ∷ in_event moment ∷ out_event moment ∷ []) next
       (tt, (tt, (tt, (tt, (tt, tt))))) g)
 
   copies_body_goes : (blocks size : ℕ) (next : Plan) → GoesUntilRefused moment IsEnd next
@@ -178,16 +183,16 @@ module _ (moment : Moment) (IsEnd : Plan → Type 0) where
       → GoesUntilRefused moment IsEnd (types_runs moment more count next)
   unfolding types_runs
   types_runs_goes zero count next g = g []
-  types_runs_goes (suc more) count next g = each_goes (takes moment ∷ []) _ (tt, tt)
+  types_runs_goes (suc more) count next g = each_goes (in_event moment ∷ []) _ (tt, tt)
       (fetches_goes count block_address (λ words. types_runs moment more count (λ others. next (words ++ others)))
       (λ words. types_runs_goes more count (λ others. next (words ++ others)) (λ others. g (words ++ others))))
 
   types_blocks_goes : (blocks : ℕ) (next : List ℕ → Plan)
       → ((words : List ℕ) → GoesUntilRefused moment IsEnd (next words))
       → GoesUntilRefused moment IsEnd (types_blocks moment blocks next)
-  types_blocks_goes blocks next g = each_goes (lists (blocks_at_once * 128)) _ (want_lists (blocks_at_once * 128))
+  types_blocks_goes blocks next g = each_goes (list_events (blocks_at_once * 128)) _ (want_lists (blocks_at_once * 128))
       (types_runs_goes (blocks / blocks_at_once) (blocks_at_once * 128) _
-      (λ words. each_goes (lists 128) _ (want_lists 128)
+      (λ words. each_goes (list_events 128) _ (want_lists 128)
       (types_runs_goes (blocks % blocks_at_once) 128 (λ others. next (words ++ others))
       (λ others. g (words ++ others)))))
 
@@ -195,9 +200,9 @@ module _ (moment : Moment) (IsEnd : Plan → Type 0) where
       → ((words : List ℕ) → GoesUntilRefused moment IsEnd (next words))
       → GoesUntilRefused moment IsEnd (types_last moment n size next)
   types_last_goes n size next g = sizes_goes n size
-      (λ count. each moment (lists count ++ goes_to moment n ∷ takes moment ∷ [])
+      (λ count. each moment (list_events count ++ useti_event moment n ∷ in_event moment ∷ [])
       (fetches moment count block_address next))
-      (λ count. each_goes (lists count ++ goes_to moment n ∷ takes moment ∷ []) _
+      (λ count. each_goes (list_events count ++ useti_event moment n ∷ in_event moment ∷ []) _
       (tt, (tt, (tt, (tt, tt)))) (fetches_goes count block_address next g))
 
   types_body_goes : (blocks size : ℕ) (next : List ℕ → Plan)
@@ -217,23 +222,23 @@ module _ (moment : Moment) (IsEnd : Plan → Type 0) where
   fills_parts_goes encoding zero words next g = g
   fills_parts_goes encoding (suc more) words next g =
       let part = take (part_words encoding) words in
-      each_goes (fills moment encoding part)
+      each_goes (fill_events moment encoding part)
       (fills_parts moment encoding more (drop (part_words encoding) words) next)
-      (all_append WantsDone (deposits (part_address encoding) part) (announces moment encoding (length part))
+      (all_append WantsDone (deposit_events (part_address encoding) part) (size_events moment encoding (length part))
       (want_deposits part (part_address encoding)) (want_announces moment encoding (length part)))
       (fills_parts_goes encoding more (drop (part_words encoding) words) next g)
 
 -- The plans as a whole.
 
 abbrev closing : Moment → Plan
-closing moment = until_end moment (each moment (calls moment (Close 2 0) ∷ []) (ends moment ok))
+closing moment = until_end moment (each moment (call_event moment (Close 2 0) ∷ []) (ends moment ok))
 
 pub copies_go_on : (moment : Moment) (to from : Spec)
     → GoesUntilRefused moment (ClosesAtEnd moment) (copies moment to from)
-copies_go_on moment to from = each_goes moment (ClosesAtEnd moment) (finds moment from ++ writes moment to ++ lists 128)
+copies_go_on moment to from = each_goes moment (ClosesAtEnd moment) (lookup_events moment from ++ enter_events moment to ++ list_events 128)
     (examines moment (file_words + 3) (λ size. copies_body moment (blocks_said size) size (closing moment)))
-    (all_append WantsDone (finds moment from ++ writes moment to) (lists 128)
-    (all_append WantsDone (finds moment from) (writes moment to) (want_finds moment from) (want_writes moment to))
+    (all_append WantsDone (lookup_events moment from ++ enter_events moment to) (list_events 128)
+    (all_append WantsDone (lookup_events moment from) (enter_events moment to) (want_finds moment from) (want_writes moment to))
     (want_lists 128))
     (examines_goes moment (ClosesAtEnd moment) (file_words + 3)
     (λ size. copies_body moment (blocks_said size) size (closing moment))
@@ -241,9 +246,9 @@ copies_go_on moment to from = each_goes moment (ClosesAtEnd moment) (finds momen
 
 pub reads_go_on : (moment : Moment) (encoding : Encoding) (spec : Spec)
     → GoesUntilRefused moment (PrintsAtEnd moment encoding) (reads_file moment encoding spec)
-reads_go_on moment encoding spec = each_goes moment IsEnd (finds moment spec ++ lists 128)
+reads_go_on moment encoding spec = each_goes moment IsEnd (lookup_events moment spec ++ list_events 128)
     (examines moment (file_words + 3) (λ size. types_body moment (blocks_said size) size printing))
-    (all_append WantsDone (finds moment spec) (lists 128) (want_finds moment spec) (want_lists 128))
+    (all_append WantsDone (lookup_events moment spec) (list_events 128) (want_finds moment spec) (want_lists 128))
     (examines_goes moment IsEnd (file_words + 3)
     (λ size. types_body moment (blocks_said size) size printing)
     (λ size. types_body_goes moment IsEnd (blocks_said size) size printing (λ words. inl (words, refl))))
@@ -258,17 +263,17 @@ pub puts_go_on : (moment : Moment) (me : ℕ) (encoding : Encoding) (spec : Spec
     → GoesUntilRefused moment (SaysOk moment) (keeps moment me encoding spec (Some words))
 puts_go_on moment me encoding spec words =
     let is = SaysOk moment in
-    let close = each moment (calls moment (Close 2 0) ∷ []) (ends moment ok) in
-    each_goes moment is (enters me) (each moment (creates moment encoding spec) (fills_all moment encoding words close))
+    let close = each moment (call_event moment (Close 2 0) ∷ []) (ends moment ok) in
+    each_goes moment is (login_events me) (each moment (create_events moment encoding spec) (fills_all moment encoding words close))
     (tt, tt)
-    (each_goes moment is (creates moment encoding spec) (fills_all moment encoding words close)
+    (each_goes moment is (create_events moment encoding spec) (fills_all moment encoding words close)
     (want_creates moment encoding spec)
     (fills_parts_goes moment is encoding (parts_of encoding (length words)) words close
-    (each_goes moment is (calls moment (Close 2 0) ∷ []) (ends moment ok) (tt, tt) (inl refl))))
+    (each_goes moment is (call_event moment (Close 2 0) ∷ []) (ends moment ok) (tt, tt) (inl refl))))
 
 pub gets_go_on : (moment : Moment) (me : ℕ) (encoding : Encoding) (spec : Spec)
     → GoesUntilRefused moment (PrintsAtEnd moment encoding) (gets moment me encoding spec)
-gets_go_on moment me encoding spec = each_goes moment (PrintsAtEnd moment encoding) (enters me)
+gets_go_on moment me encoding spec = each_goes moment (PrintsAtEnd moment encoding) (login_events me)
     (reads_file moment encoding spec) (tt, tt) (reads_go_on moment encoding spec)
 
 pub lines_go_on : (moment : Moment) (me : ℕ) (command : Command)
@@ -276,24 +281,24 @@ pub lines_go_on : (moment : Moment) (me : ℕ) (command : Command)
 lines_go_on moment me (LoginLine owner) = refl
 lines_go_on moment me (DirectoryLine owner) = refl
 lines_go_on moment me (CopyLine to from) = copies_go_on moment to from
-lines_go_on moment me (RenameLine to from) = each_goes moment (SaysOk moment) (asks_rename moment to from)
+lines_go_on moment me (RenameLine to from) = each_goes moment (SaysOk moment) (rename_events moment to from)
     (ends moment ok) (tt, (tt, (tt, (tt, (tt, (tt, (tt, (tt, (tt, (tt, (tt, (tt, (tt, tt))))))))))))) (inl refl)
-lines_go_on moment me (DeleteLine spec) = each_goes moment (SaysOk moment) (deletes moment spec) (ends moment ok)
+lines_go_on moment me (DeleteLine spec) = each_goes moment (SaysOk moment) (delete_events moment spec) (ends moment ok)
     (tt, (tt, (tt, (tt, (tt, (tt, (tt, (tt, (tt, (tt, (tt, tt))))))))))) (inl refl)
 lines_go_on moment me (TypeLine spec) = reads_go_on moment Characters spec
 lines_go_on moment me (ProtectLine spec protection) = each_goes moment (SaysOk moment)
-    (protects moment spec protection) (ends moment ok)
+    (protect_events moment spec protection) (ends moment ok)
     (tt, (tt, (tt, (tt, (tt, (tt, (tt, (tt, (tt, (tt, (tt, (tt, (tt, (tt, tt)))))))))))))) (inl refl)
 lines_go_on moment me (MakeLine owner protection) = each_goes moment (SaysOk moment)
-    (asks_make_dir moment owner protection) (ends moment ok) (tt, (tt, (tt, tt))) (inl refl)
+    (make_dir_events moment owner protection) (ends moment ok) (tt, (tt, (tt, tt))) (inl refl)
 lines_go_on moment me (QuotaLine owner blocks) = each_goes moment (SaysOk moment)
-    (asks_quota moment owner blocks) (ends moment ok) (tt, (tt, (tt, tt))) (inl refl)
+    (quota_events moment owner blocks) (ends moment ok) (tt, (tt, (tt, tt))) (inl refl)
 
 -- Acts.
 
--- all channels are closed in the end, and this is said
-ends_by : (moment : Moment) (told said : Spoken) (acts : List Act) → Conducts (ends moment told) acts said
-    → (reset : Reply) × (acts ≡ Asks (calls moment Reset) reset ∷ []) × (said ≡ told)
+-- all channels are closed in the end, and this is printed
+ends_by : (moment : Moment) (told said : Spoken) (acts : List Act) → RunsPlan (ends moment told) acts said
+    → (reset : Reply) × (acts ≡ Asks (call_event moment Reset) reset ∷ []) × (said ≡ told)
 ends_by moment told said [] led = let wrong = led in cc
 ends_by moment told said (Looks owner answer ∷ acts) led = absurd led
 ends_by moment told said (Asks event reply ∷ []) led =
@@ -303,8 +308,8 @@ ends_by moment told said (Asks event reply ∷ act ∷ acts) led = absurd led.1
 
 -- a reply that is not wanted
 refused_here : (moment : Moment) (event : Event) (reply : Reply) (acts : List Act) (said : Spoken)
-    → IsFalse (is_wanted event reply) ⊎ ((event ≡ takes moment) × (reply ≡ Done))
-    → Conducts (fails moment reply) acts said
+    → IsFalse (is_wanted event reply) ⊎ ((event ≡ in_event moment) × (reply ≡ Done))
+    → RunsPlan (fails moment reply) acts said
     → IsRefusedAt moment (Asks event reply ∷ acts) said
 refused_here moment event reply acts said why led =
     let end = ends_by moment (refuses reply) said acts led in
@@ -332,12 +337,12 @@ refused_later moment act acts said was r = record {
   says = r.says;
 }
 
--- the acts of a plan that goes on, where those of its end are such or refused
+-- the acts of a plan that continues, if those of its end are such or refused
 module _ (moment : Moment) (IsEnd : Plan → Type 0) (IsSaid : Spoken → Type 0)
-    (at_end : (plan : Plan) (acts : List Act) (said : Spoken) → IsEnd plan → Conducts plan acts said
+    (at_end : (plan : Plan) (acts : List Act) (said : Spoken) → IsEnd plan → RunsPlan plan acts said
     → IsSaid said ⊎ IsRefusedAt moment acts said) where
   acts_go_on : (plan : Plan) (acts : List Act) (said : Spoken) → GoesUntilRefused moment IsEnd plan
-      → Conducts plan acts said
+      → RunsPlan plan acts said
       → IsSaid said ⊎ IsRefusedAt moment acts said
   acts_go_on (Say told) acts said g led = at_end (Say told) acts said g led
   acts_go_on (Show owner next) acts said g led = at_end (Show owner next) acts said g led
@@ -354,9 +359,9 @@ module _ (moment : Moment) (IsEnd : Plan → Type 0) (IsSaid : Spoken → Type 0
       by true is behind = ⊎_elim inl (λ r. inr (refused_later moment (Asks event reply) acts said (inl is) r))
           (behind ((g reply).0 is))
       by false is behind = inr (refused_here moment event reply acts said (inl is)
-          (subst (λ p. Conducts p acts said) ((g reply).1 is) led))
+          (subst (λ p. RunsPlan p acts said) ((g reply).1 is) led))
 
--- An IN that has to tell the end.
+-- An IN that has to report the end.
 
 end_or_fails : (moment : Moment) (next : Plan) (reply : Reply)
     → ((status : ℕ) × (reply ≡ Stopped status) × IsTrue (is_end status) × (if_end moment next reply ≡ next))
@@ -382,85 +387,85 @@ end_or_fails moment next Failed = inr (refl, inl refl)
 end_or_fails moment next DateRange = inr (refl, inl refl)
 
 until_by : (moment : Moment) (IsSaid : Spoken → Type 0) (next : Plan) (acts : List Act) (said : Spoken)
-    → ((acts : List Act) → Conducts next acts said → IsSaid said ⊎ IsRefusedAt moment acts said)
-    → Conducts (until_end moment next) acts said → IsSaid said ⊎ IsRefusedAt moment acts said
+    → ((acts : List Act) → RunsPlan next acts said → IsSaid said ⊎ IsRefusedAt moment acts said)
+    → RunsPlan (until_end moment next) acts said → IsSaid said ⊎ IsRefusedAt moment acts said
 until_by moment IsSaid next [] said behind led = let wrong = led in cc
 until_by moment IsSaid next (Looks owner answer ∷ acts) said behind led = absurd led
 until_by moment IsSaid next (Asks event reply ∷ acts) said behind (same, led) = ⊎_elim
     (λ (status, is, told, on). ⊎_elim inl
     (λ r. inr (refused_later moment (Asks event reply) acts said (inr (same, status, is, told)) r))
-    (behind acts (subst (λ p. Conducts p acts said) on led)))
+    (behind acts (subst (λ p. RunsPlan p acts said) on led)))
     (λ (off, why). inr (refused_here moment event reply acts said
     (⊎_elim (λ is. inl (subst (λ e. IsFalse (is_wanted e reply)) (sym same) is)) (λ is. inr (same, is)) why)
-    (subst (λ p. Conducts p acts said) off led)))
+    (subst (λ p. RunsPlan p acts said) off led)))
     (end_or_fails moment next reply)
 
 ok_at_end : (moment : Moment) (plan : Plan) (acts : List Act) (said : Spoken) → SaysOk moment plan
-    → Conducts plan acts said → (said ≡ ok) ⊎ IsRefusedAt moment acts said
+    → RunsPlan plan acts said → (said ≡ ok) ⊎ IsRefusedAt moment acts said
 ok_at_end moment plan acts said is led =
-    inl (ends_by moment ok said acts (subst (λ p. Conducts p acts said) is led)).2
+    inl (ends_by moment ok said acts (subst (λ p. RunsPlan p acts said) is led)).2
 
 closes_at_end : (moment : Moment) (plan : Plan) (acts : List Act) (said : Spoken) → ClosesAtEnd moment plan
-    → Conducts plan acts said → (said ≡ ok) ⊎ IsRefusedAt moment acts said
+    → RunsPlan plan acts said → (said ≡ ok) ⊎ IsRefusedAt moment acts said
 closes_at_end moment plan acts said is led =
-    until_by moment (λ said. said ≡ ok) (each moment (calls moment (Close 2 0) ∷ []) (ends moment ok)) acts said
+    until_by moment (λ said. said ≡ ok) (each moment (call_event moment (Close 2 0) ∷ []) (ends moment ok)) acts said
     (λ acts led. acts_go_on moment (SaysOk moment) (λ said. said ≡ ok) (ok_at_end moment)
-    (each moment (calls moment (Close 2 0) ∷ []) (ends moment ok)) acts said
-    (each_goes moment (SaysOk moment) (calls moment (Close 2 0) ∷ []) (ends moment ok) (tt, tt) (inl refl)) led)
-    (subst (λ p. Conducts p acts said) is led)
+    (each moment (call_event moment (Close 2 0) ∷ []) (ends moment ok)) acts said
+    (each_goes moment (SaysOk moment) (call_event moment (Close 2 0) ∷ []) (ends moment ok) (tt, tt) (inl refl)) led)
+    (subst (λ p. RunsPlan p acts said) is led)
 
 abbrev IsPrint : Encoding → Spoken → Type 0
 IsPrint encoding said = (words : List ℕ) × (said ≡ file_said encoding words)
 
 prints_at_end : (moment : Moment) (encoding : Encoding) (plan : Plan) (acts : List Act) (said : Spoken)
-    → PrintsAtEnd moment encoding plan → Conducts plan acts said → IsPrint encoding said ⊎ IsRefusedAt moment acts said
+    → PrintsAtEnd moment encoding plan → RunsPlan plan acts said → IsPrint encoding said ⊎ IsRefusedAt moment acts said
 prints_at_end moment encoding plan acts said (words, is) led =
     until_by moment (IsPrint encoding) (ends moment (file_said encoding words)) acts said
     (λ acts led. inl (words, (ends_by moment (file_said encoding words) said acts led).2))
-    (subst (λ p. Conducts p acts said) is led)
+    (subst (λ p. RunsPlan p acts said) is led)
 
 pub read_refusals : (moment : Moment) (encoding : Encoding) (spec : Spec) (acts : List Act) (said : Spoken)
-    → Conducts (reads_file moment encoding spec) acts said
+    → RunsPlan (reads_file moment encoding spec) acts said
     → ((words : List ℕ) × (said ≡ file_said encoding words)) ⊎ IsRefusedAt moment acts said
 read_refusals moment encoding spec acts said led = acts_go_on moment (PrintsAtEnd moment encoding) (IsPrint encoding)
     (prints_at_end moment encoding) (reads_file moment encoding spec) acts said (reads_go_on moment encoding spec) led
 
 pub put_refusals : (moment : Moment) (me : ℕ) (encoding : Encoding) (spec : Spec) (words : List ℕ) (acts : List Act)
-    (said : Spoken) → Conducts (keeps moment me encoding spec (Some words)) acts said
+    (said : Spoken) → RunsPlan (keeps moment me encoding spec (Some words)) acts said
     → (said ≡ ok) ⊎ IsRefusedAt moment acts said
 put_refusals moment me encoding spec words acts said led = acts_go_on moment (SaysOk moment) (λ said. said ≡ ok)
     (ok_at_end moment) (keeps moment me encoding spec (Some words)) acts said
     (puts_go_on moment me encoding spec words) led
 
 pub get_refusals : (moment : Moment) (me : ℕ) (encoding : Encoding) (spec : Spec) (acts : List Act) (said : Spoken)
-    → Conducts (gets moment me encoding spec) acts said
+    → RunsPlan (gets moment me encoding spec) acts said
     → ((words : List ℕ) × (said ≡ file_said encoding words)) ⊎ IsRefusedAt moment acts said
 get_refusals moment me encoding spec acts said led = acts_go_on moment (PrintsAtEnd moment encoding) (IsPrint encoding)
     (prints_at_end moment encoding) (gets moment me encoding spec) acts said
     (gets_go_on moment me encoding spec) led
 
 shows_at_end : (moment : Moment) (me : ℕ) (owner : Option ℕ) (plan : Plan) (acts : List Act) (said : Spoken)
-    → EndsSo moment me (DirectoryLine owner) plan → Conducts plan acts said
+    → EndsSo moment me (DirectoryLine owner) plan → RunsPlan plan acts said
     → SaysSo me (DirectoryLine owner) said ⊎ IsRefusedAt moment acts said
 shows_at_end moment me owner plan acts said is led =
-    inl (by acts (subst (λ p. Conducts p acts said) is led))
+    inl (by acts (subst (λ p. RunsPlan p acts said) is led))
   where
-    by : (acts : List Act) → Conducts (shows (unwrap_or owner me)) acts said → SaysSo me (DirectoryLine owner) said
+    by : (acts : List Act) → RunsPlan (shows (unwrap_or owner me)) acts said → SaysSo me (DirectoryLine owner) said
     by [] led = let wrong = led in cc
     by (Asks event reply ∷ acts) led = absurd led
     by (Looks other answer ∷ []) (same, led) = (answer, let e = led in cc)
     by (Looks other answer ∷ act ∷ acts) (same, led) = absurd led
 
 says_at_end : (moment : Moment) (told : Spoken) (plan : Plan) (acts : List Act) (said : Spoken) → plan ≡ Say told
-    → Conducts plan acts said → (said ≡ told) ⊎ IsRefusedAt moment acts said
-says_at_end moment told plan acts said is led = inl (by acts (subst (λ p. Conducts p acts said) is led))
+    → RunsPlan plan acts said → (said ≡ told) ⊎ IsRefusedAt moment acts said
+says_at_end moment told plan acts said is led = inl (by acts (subst (λ p. RunsPlan p acts said) is led))
   where
-    by : (acts : List Act) → Conducts (Say told) acts said → said ≡ told
+    by : (acts : List Act) → RunsPlan (Say told) acts said → said ≡ told
     by [] led = let e = led in cc
     by (act ∷ acts) led = absurd led
 
 line_at_end : (moment : Moment) (me : ℕ) (command : Command) (plan : Plan) (acts : List Act) (said : Spoken)
-    → EndsSo moment me command plan → Conducts plan acts said → SaysSo me command said ⊎ IsRefusedAt moment acts said
+    → EndsSo moment me command plan → RunsPlan plan acts said → SaysSo me command said ⊎ IsRefusedAt moment acts said
 line_at_end moment me (LoginLine owner) = says_at_end moment (prints [])
 line_at_end moment me (DirectoryLine owner) = shows_at_end moment me owner
 line_at_end moment me (CopyLine to from) = closes_at_end moment
@@ -472,6 +477,6 @@ line_at_end moment me (MakeLine owner protection) = ok_at_end moment
 line_at_end moment me (QuotaLine owner blocks) = ok_at_end moment
 
 pub line_refusals : (moment : Moment) (me : ℕ) (command : Command) (acts : List Act) (said : Spoken)
-    → Conducts (begins moment me command) acts said → SaysSo me command said ⊎ IsRefusedAt moment acts said
+    → RunsPlan (begins moment me command) acts said → SaysSo me command said ⊎ IsRefusedAt moment acts said
 line_refusals moment me command acts said led = acts_go_on moment (EndsSo moment me command) (SaysSo me command)
     (line_at_end moment me command) (begins moment me command) acts said (lines_go_on moment me command) led

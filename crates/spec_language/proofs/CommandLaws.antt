@@ -62,7 +62,7 @@ same_made s t p q n m e a b =
 same_argument : (w v a b text : List ℕ) → AreFields (w ∷ a ∷ []) text → AreFields (v ∷ b ∷ []) text → a ≡ b
 same_argument w v a b text f g = same_head (same_tail (same_fields (w ∷ a ∷ []) (v ∷ b ∷ []) text f g))
 
--- a word's number, by which the words of the grammar are told
+-- a word's number, by which the words of the grammar are distinguished
 abbrev number : List ℕ → ℕ
 number [] = 0
 number (c ∷ cs) = c + 3 * number cs

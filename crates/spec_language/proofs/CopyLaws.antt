@@ -1,4 +1,4 @@
--- COPY: what it says, and the files that it leaves.
+-- COPY: what it prints, and the files that it leaves.
 use Rattle.std.proofs.Common.{◌≡◌, ◌⊎◌, inl, inr, ⊎_elim, ℕ, zero, suc, ◌+◌, ◌-◌, ◌*◌, ◌/◌, ◌%◌, ◌<◌, ◌≤◌, Bool, true}
 use Rattle.std.proofs.Common.{false, if◌then◌else◌, List, [], ◌∷◌, ◌++◌, length, take, Some, refl, sym, ap, subst}
 use Rattle.std.proofs.Common.{◌∙◌, arith}
@@ -6,14 +6,16 @@ use Rattle.std.specs.Prelude.{slice_index, is_none, nat_lt}
 use Rattle.std.specs.List.{AllByRecursion}
 use Rattle.std.proofs.lemmas.List.{take_all}
 use Rattle.words36.specs.declared.moment.Moment.{Moment}
-use Rattle.spec_image.specs.Common.{get, Files, File, Place, Version, file_at, with_file, blocks_of, Pack}
-use Rattle.spec_machine.specs.Common.{after_writes, placed, Channel, Job, State, Output, Kind, job_at, channel_at}
+use Rattle.spec_image.specs.Common.{get, Files, File, Place, SpecVersion, file_at, with_file, blocks_of, Pack}
+use Rattle.spec_machine.specs.Common.{after_writes, placed, Channel, SpecJob, State, SpecOutput, Kind, job_at}
+use Rattle.spec_machine.specs.Common.{channel_at}
 use Rattle.spec_machine.specs.Common.{in_answer, in_done, reads, close_answer, close_done, files_closed, files_with}
 use Rattle.spec_machine.specs.Common.{last_buffer, words_or_none, size_word, settled, stopped_in, disk, dump_mode}
 use Rattle.spec_machine.specs.Common.{longest, put_on, Service, Serving, Broken, Answers, Steps, last_date, on_job}
 use Rattle.spec_machine.specs.Common.{on_channel, of_job, call_of}
 use Rattle.spec_language.specs.Texts.{Spoken}
-use Rattle.spec_language.specs.Plans.{Plan, each, calls, finds, writes, lists, takes, asks_out, goes_to, copies_runs}
+use Rattle.spec_language.specs.Plans.{Plan, each, call_event, lookup_events, enter_events, list_events, in_event}
+use Rattle.spec_language.specs.Plans.{out_event, useti_event, copies_runs}
 use Rattle.spec_language.specs.Plans.{copies_blocks, copies_last, copies_body, copies, until_end, if_end, is_end}
 use Rattle.spec_language.specs.Plans.{fails, ends, ok, blocks_at_once, list_words, file_words, open_words, examines}
 use Rattle.spec_language.specs.Plans.{blocks_said}
@@ -41,14 +43,14 @@ use Rattle.spec_language.proofs.CopyRuns.{by_runs, runs_of}
 use Rattle.spec_language.proofs.SizeRuns.{said_blocks, sizes_done, quiet_deposits, told}
 
 -- Job 1 with the whole body in the file that it writes.
-abbrev pub Copied : ℕ → Place → Version → Place → Kind → File → Job → Type 0
+abbrev pub Copied : ℕ → Place → SpecVersion → Place → Kind → File → SpecJob → Type 0
 Copied me from v to kind file j = IsJob me j × ((next : ℕ) × (channel_at j 1 ≡ Some (reading from v next)))
     × ((next : ℕ) × (channel_at j 2 ≡ Some (writing (side to kind (with_body file v.file.body) next))))
 
 abbrev last_events : Moment → ℕ → ℕ → List Event
-last_events moment count n = lists count ++ goes_to moment n ∷ takes moment ∷ asks_out moment ∷ []
+last_events moment count n = list_events count ++ useti_event moment n ∷ in_event moment ∷ out_event moment ∷ []
 
--- An IN behind the last block has to tell the end.
+-- An IN after the last block has to report the end.
 end_or_fails : (moment : Moment) (next : Plan) (reply : Reply)
     → ((status : ℕ) × (reply ≡ Stopped status) × (if_end moment next reply ≡ next))
     ⊎ (if_end moment next reply ≡ fails moment reply)
@@ -81,13 +83,13 @@ settled_other : {A : Type 0} (reply : Reply) (done : A) (other : Reply → A) (s
 settled_other reply done other status = settled_by (λ r. r.0 ≡ Stopped status → r.1 ≡ other (Stopped status)) reply done
     other (λ is e. let wrong : Done ≡ Stopped status = e in cc) (λ differs e. ap other e)
 
-module _ (pack : Pack) (s : State) (j0 : Job) (there : job_at s 1 ≡ Some j0) (moment : Moment) where
-  -- A run of blocks more.
-  run_copied : (me : ℕ) (from : Place) (v : Version) (to : Place) (kind : Kind) (file : File) (b count : ℕ) → 0 < b
-      → b ≤ blocks_at_once → count ≡ b * 128 → (k : ℕ) (j : Job) → Copying me from v to kind file k j
+module _ (pack : Pack) (s : State) (j0 : SpecJob) (there : job_at s 1 ≡ Some j0) (moment : Moment) where
+  -- One more run of blocks.
+  run_copied : (me : ℕ) (from : Place) (v : SpecVersion) (to : Place) (kind : Kind) (file : File) (b count : ℕ) → 0 < b
+      → b ≤ blocks_at_once → count ≡ b * 128 → (k : ℕ) (j : SpecJob) → Copying me from v to kind file k j
       → Lists count j.core → (k + b) * 128 ≤ length v.file.body
-      → (t : State) → AllDone pack (at s j) (takes moment ∷ asks_out moment ∷ []) t
-      → (j' : Job) × (t ≡ at s j') × Copying me from v to kind file (k + b) j' × Lists count j'.core
+      → (t : State) → AllDone pack (at s j) (in_event moment ∷ out_event moment ∷ []) t
+      → (j' : SpecJob) × (t ≡ at s j') × Copying me from v to kind file (k + b) j' × Lists count j'.core
   run_copied me from v to kind file b count some few size k j is named fits t all =
       let d = both_done pack s j0 there moment me j from v to kind file k b count t is (omega arith) (omega arith)
       (whole_blocks b count size) named (omega arith) all in
@@ -100,12 +102,12 @@ module _ (pack : Pack) (s : State) (j0 : Job) (there : job_at s 1 ≡ Some j0) (
       (d.0, d.1, is', d.5)
 
   -- Runs, one after the other.
-  runs_copied : (me : ℕ) (from : Place) (v : Version) (to : Place) (kind : Kind) (file : File) (said : Spoken)
+  runs_copied : (me : ℕ) (from : Place) (v : SpecVersion) (to : Place) (kind : Kind) (file : File) (said : Spoken)
       (new : Service) (b count : ℕ) → 0 < b → b ≤ blocks_at_once → count ≡ b * 128 → (more k : ℕ) (next : Plan)
-      (j : Job) → Copying me from v to kind file k j → Lists count j.core → (k + more * b) * 128 ≤ length v.file.body
+      (j : SpecJob) → Copying me from v to kind file k j → Lists count j.core → (k + more * b) * 128 ≤ length v.file.body
       → Comes pack (Serving (at s j)) (copies_runs moment more next) said new
       → IsLineRefused s.files said new
-      ⊎ ((j' : Job) × Copying me from v to kind file (k + more * b) j' × Lists count j'.core
+      ⊎ ((j' : SpecJob) × Copying me from v to kind file (k + more * b) j' × Lists count j'.core
       × Comes pack (Serving (at s j')) next said new)
   unfolding copies_runs
   runs_copied me from v to kind file said new b count some few size zero k next j is named fits c =
@@ -116,16 +118,16 @@ module _ (pack : Pack) (s : State) (j0 : Job) (there : job_at s 1 ≡ Some j0) (
       let left : (k + b + more * b) * 128 ≤ length v.file.body = omega (arith, next_blocks b more k) in
       let d = run_copied me from v to kind file b count some few size k j is named (omega arith) t all in
       subst (λ n. IsLineRefused s.files said new
-      ⊎ ((j' : Job) × Copying me from v to kind file n j' × Lists count j'.core
+      ⊎ ((j' : SpecJob) × Copying me from v to kind file n j' × Lists count j'.core
       × Comes pack (Serving (at s j')) next said new)) (next_blocks b more k)
       (runs_copied me from v to kind file said new b count some few size more (k + b) next d.0 d.2 d.3 left
       (subst (λ u. Comes pack (Serving u) (copies_runs moment more next) said new) d.1 rest)))
-      (each_done pack (at s j) moment (takes moment ∷ asks_out moment ∷ []) (copies_runs moment more next) said new
+      (each_done pack (at s j) moment (in_event moment ∷ out_event moment ∷ []) (copies_runs moment more next) said new
       (tt, (tt, tt)) c)
 
   -- The command list names another number of words.
-  pub listed_anew : (me count : ℕ) (next : Plan) (said : Spoken) (new : Service) (j : Job) → IsJob me j
-      → Comes pack (Serving (at s j)) (each moment (lists count) next) said new
+  pub listed_anew : (me count : ℕ) (next : Plan) (said : Spoken) (new : Service) (j : SpecJob) → IsJob me j
+      → Comes pack (Serving (at s j)) (each moment (list_events count) next) said new
       → IsLineRefused s.files said new
       ⊎ ((core : List ℕ) × IsJob me (with_core j core) × Lists count core
       × Comes pack (Serving (at s (with_core j core))) next said new)
@@ -138,37 +140,37 @@ module _ (pack : Pack) (s : State) (j0 : Job) (there : job_at s 1 ≡ Some j0) (
         subst (λ u. Comes pack (Serving u) next said new)
             (deposits_done pack s j0 there (list_pair count) j list_words t all) rest,
       ))
-      (each_done pack (at s j) moment (lists count) next said new (quiet_deposits (list_pair count) list_words) come)
+      (each_done pack (at s j) moment (list_events count) next said new (quiet_deposits (list_pair count) list_words) come)
 
-  relisted : (me : ℕ) (from : Place) (v : Version) (to : Place) (kind : Kind) (file : File) (k : ℕ) (j : Job)
+  relisted : (me : ℕ) (from : Place) (v : SpecVersion) (to : Place) (kind : Kind) (file : File) (k : ℕ) (j : SpecJob)
       (core : List ℕ) → Copying me from v to kind file k j → IsJob me (with_core j core)
       → Copying me from v to kind file k (with_core j core)
   relisted me from v to kind file k j core is whole =
       record { whole = whole; first = is.first; second = is.second }
 
   -- Whole blocks.
-  blocks_copied : (me : ℕ) (from : Place) (v : Version) (to : Place) (kind : Kind) (file : File) (next : Plan)
-      (said : Spoken) (new : Service) (blocks : ℕ) (j : Job) → Copying me from v to kind file 0 j
+  blocks_copied : (me : ℕ) (from : Place) (v : SpecVersion) (to : Place) (kind : Kind) (file : File) (next : Plan)
+      (said : Spoken) (new : Service) (blocks : ℕ) (j : SpecJob) → Copying me from v to kind file 0 j
       → blocks * 128 ≤ length v.file.body
       → Comes pack (Serving (at s j)) (copies_blocks moment blocks next) said new
       → IsLineRefused s.files said new
-      ⊎ ((j' : Job) × Copying me from v to kind file blocks j' × Lists 128 j'.core
+      ⊎ ((j' : SpecJob) × Copying me from v to kind file blocks j' × Lists 128 j'.core
       × Comes pack (Serving (at s j')) next said new)
   blocks_copied me from v to kind file next said new blocks j is fits come = ⊎_elim inl
       (λ (core1, is1, named1, come1). ⊎_elim inl
       (λ (j2, is2, named2, come2). ⊎_elim inl
       (λ (core3, is3, named3, come3). subst (λ n. IsLineRefused s.files said new
-      ⊎ ((j' : Job) × Copying me from v to kind file n j' × Lists 128 j'.core
+      ⊎ ((j' : SpecJob) × Copying me from v to kind file n j' × Lists 128 j'.core
       × Comes pack (Serving (at s j')) next said new)) (by_runs blocks)
       (runs_copied me from v to kind file said new 1 128 (omega arith) (omega arith) (omega arith)
       (blocks % blocks_at_once) runs next (with_core j2 core3) (relisted me from v to kind file runs j2 core3 is2 is3)
       named3 (omega (arith, by_runs blocks)) come3))
       (listed_anew me 128 singles said new j2 is2.whole come2))
       (runs_copied me from v to kind file said new blocks_at_once (blocks_at_once * 128) (omega arith) (omega arith)
-      (omega arith) (blocks / blocks_at_once) 0 (each moment (lists 128) singles) (with_core j core1)
+      (omega arith) (blocks / blocks_at_once) 0 (each moment (list_events 128) singles) (with_core j core1)
       (relisted me from v to kind file 0 j core1 is is1) named1 (omega (arith, runs_of blocks)) come1))
       (listed_anew me (blocks_at_once * 128)
-      (copies_runs moment (blocks / blocks_at_once) (each moment (lists 128) singles)) said new j is.whole come)
+      (copies_runs moment (blocks / blocks_at_once) (each moment (list_events 128) singles)) said new j is.whole come)
     where
       runs : ℕ
       runs = 0 + blocks / blocks_at_once * blocks_at_once
@@ -176,18 +178,18 @@ module _ (pack : Pack) (s : State) (j0 : Job) (there : job_at s 1 ≡ Some j0) (
       singles : Plan
       singles = copies_runs moment (blocks % blocks_at_once) next
 
-  pub last_copied : (me : ℕ) (from : Place) (v : Version) (to : Place) (kind : Kind) (file : File) (more : ℕ)
+  pub last_copied : (me : ℕ) (from : Place) (v : SpecVersion) (to : Place) (kind : Kind) (file : File) (more : ℕ)
       (next : Plan)
-      (said : Spoken) (new : Service) (j : Job) → Copying me from v to kind file more j → Lists 128 j.core
+      (said : Spoken) (new : Service) (j : SpecJob) → Copying me from v to kind file more j → Lists 128 j.core
       → length v.file.body ≤ longest → more * 128 < length v.file.body → length v.file.body ≤ (more + 1) * 128
       → Comes pack (Serving (at s j)) (copies_last moment (more + 1) (size_word (length v.file.body)) next) said new
       → IsLineRefused s.files said new
-      ⊎ ((j' : Job) × Copied me from v to kind file j' × Comes pack (Serving (at s j')) next said new)
+      ⊎ ((j' : SpecJob) × Copied me from v to kind file j' × Comes pack (Serving (at s j')) next said new)
   last_copied me from v to kind file more next said new j is named fits low high c =
       ⊎_elim inl (λ (j1, (is1, (k1, first1), second1, lists1), c1). ⊎_elim inl
       (λ (t, all, same, rest). inr (behind j1 is1 k1 first1 second1 t all rest))
       (each_done pack (at s j1) moment (last_events moment count (more + 1)) next said new
-      (all_append IsQuiet (lists count) (goes_to moment (more + 1) ∷ takes moment ∷ asks_out moment ∷ [])
+      (all_append IsQuiet (list_events count) (useti_event moment (more + 1) ∷ in_event moment ∷ out_event moment ∷ [])
       (quiet_deposits (list_pair count) list_words) (tt, (tt, (tt, tt)))) c1))
       (sizes_done pack s j0 there moment me from v more
       (λ count. each moment (last_events moment count (more + 1)) next) said new j is.whole
@@ -197,14 +199,14 @@ module _ (pack : Pack) (s : State) (j0 : Job) (there : job_at s 1 ≡ Some j0) (
       count : ℕ
       count = length v.file.body - more * 128
 
-      behind : (j1 : Job) → IsJob me j1 → (k : ℕ) → channel_at j1 1 ≡ Some (reading from v k)
+      behind : (j1 : SpecJob) → IsJob me j1 → (k : ℕ) → channel_at j1 1 ≡ Some (reading from v k)
           → channel_at j1 2 ≡ channel_at j 2
           → (t : State) → AllDone pack (at s j1) (last_events moment count (more + 1)) t
           → Comes pack (Serving t) next said new
-          → (j' : Job) × Copied me from v to kind file j' × Comes pack (Serving (at s j')) next said new
+          → (j' : SpecJob) × Copied me from v to kind file j' × Comes pack (Serving (at s j')) next said new
       behind j1 is1 k first1 second1 t all rest =
-          let parts = split_done pack (at s j1) (lists count)
-          (goes_to moment (more + 1) ∷ takes moment ∷ asks_out moment
+          let parts = split_done pack (at s j1) (list_events count)
+          (useti_event moment (more + 1) ∷ in_event moment ∷ out_event moment
           ∷ []) t all in
           let core = after_writes j1.core (placed list_words (list_pair count)) in
           let j2 = with_core j1 core in
@@ -213,7 +215,7 @@ module _ (pack : Pack) (s : State) (j0 : Job) (there : job_at s 1 ≡ Some j0) (
           let to2 = deposits_done pack s j0 there (list_pair count) j1 list_words parts.0 parts.1 in
           let j3 = with_open j2 1 (reading from v (more + 1)) in
           let to3 : parts.2.0 ≡ at s j3 = goes_done pack s j0 there moment j2 from v (more + 1) k parts.2.0 first1
-          (subst (λ u. Steps pack u (goes_to moment (more + 1)) Done parts.2.0) to2 parts.2.1) in
+          (subst (λ u. Steps pack u (useti_event moment (more + 1)) Done parts.2.0) to2 parts.2.1) in
           let is3 : Copying me from v to kind file more j3 = record {
             whole = job_open me j2 1 (reading from v (more + 1)) is2;
             first = at_own j2 me 1 (reading from v (more + 1)) is2 (omega arith);
@@ -221,7 +223,7 @@ module _ (pack : Pack) (s : State) (j0 : Job) (there : job_at s 1 ≡ Some j0) (
           } in
           let d = both_done pack s j0 there moment me j3 from v to kind file more 1 count t is3 (omega arith)
           (omega arith) (one_block count (omega arith) (omega arith)) (listing j1.core count is1.core) (omega arith)
-          (subst (λ u. AllDone pack u (takes moment ∷ asks_out moment ∷ []) t) to3 parts.2.2) in
+          (subst (λ u. AllDone pack u (in_event moment ∷ out_event moment ∷ []) t) to3 parts.2.2) in
           let all_words : take (more * 128 + count) v.file.body ≡ v.file.body =
           take_all (more * 128 + count) v.file.body
           (omega arith) in (
@@ -234,15 +236,15 @@ module _ (pack : Pack) (s : State) (j0 : Job) (there : job_at s 1 ≡ Some j0) (
             subst (λ u. Comes pack (Serving u) next said new) d.1 rest,
           )
 
-  -- The end is told, and leaves what is written.
-  pub until_done : (me : ℕ) (c : Channel) (next : Plan) (said : Spoken) (new : Service) (j : Job) → IsJob me j
+  -- The end is reported, and leaves what is written.
+  pub until_done : (me : ℕ) (c : Channel) (next : Plan) (said : Spoken) (new : Service) (j : SpecJob) → IsJob me j
       → channel_at j 1 ≡ Some c → Comes pack (Serving (at s j)) (until_end moment next) said new
       → IsLineRefused s.files said new
-      ⊎ ((j' : Job) × (channel_at j' 2 ≡ channel_at j 2) × Comes pack (Serving (at s j')) next said new)
+      ⊎ ((j' : SpecJob) × (channel_at j' 2 ≡ channel_at j 2) × Comes pack (Serving (at s j')) next said new)
   until_done me c next said new j is first come =
-      by (asked pack (Serving (at s j)) (takes moment) (if_end moment next) said new come)
+      by (asked pack (Serving (at s j)) (in_event moment) (if_end moment next) said new come)
     where
-      left : (status : ℕ) (t : State) → Steps pack (at s j) (takes moment) (Stopped status) t
+      left : (status : ℕ) (t : State) → Steps pack (at s j) (in_event moment) (Stopped status) t
           → t ≡ at s (with_open j 1 (record c { status = status }))
       left status t (serial, fresh, e) =
           let row : of_job (at s j) 1 (reads j 1 c list_words) ≡ (Stopped status, t) =
@@ -255,9 +257,9 @@ module _ (pack : Pack) (s : State) (j0 : Job) (there : job_at s 1 ≡ Some j0) (
           ∙ ap (at s) (settled_other (in_answer j c list_words) (in_done j 1 c list_words) (stopped_in j 1 c) status
           (ap (λ x. x.0) row))
 
-      stopped : (status : ℕ) (mid : Service) → Answers pack (Serving (at s j)) (takes moment) (Stopped status) mid
+      stopped : (status : ℕ) (mid : Service) → Answers pack (Serving (at s j)) (in_event moment) (Stopped status) mid
           → Comes pack mid next said new
-          → (j' : Job) × (channel_at j' 2 ≡ channel_at j 2) × Comes pack (Serving (at s j')) next said new
+          → (j' : SpecJob) × (channel_at j' 2 ≡ channel_at j 2) × Comes pack (Serving (at s j')) next said new
       stopped status Broken (device, undecided, touches) more = let wrong : Stopped status ≡ Device = device in cc
       stopped status (Serving t) (inl steps) more = (
         with_open j 1 (record c { status = status }),
@@ -267,29 +269,29 @@ module _ (pack : Pack) (s : State) (j0 : Job) (there : job_at s 1 ≡ Some j0) (
       stopped status (Serving t) (inr (none, same, undecided, wants)) more =
           let wrong : Stopped status ≡ NoMemory = none in cc
 
-      by : ((reply : Reply) × (mid : Service) × Answers pack (Serving (at s j)) (takes moment) reply mid
+      by : ((reply : Reply) × (mid : Service) × Answers pack (Serving (at s j)) (in_event moment) reply mid
           × Comes pack mid (if_end moment next reply) said new)
           → IsLineRefused s.files said new
-          ⊎ ((j' : Job) × (channel_at j' 2 ≡ channel_at j 2) × Comes pack (Serving (at s j')) next said new)
+          ⊎ ((j' : SpecJob) × (channel_at j' 2 ≡ channel_at j 2) × Comes pack (Serving (at s j')) next said new)
       by (reply, mid, answers, more) = ⊎_elim
           (λ (status, is, same). inr (stopped status mid
-          (subst (λ r. Answers pack (Serving (at s j)) (takes moment) r mid) is answers)
+          (subst (λ r. Answers pack (Serving (at s j)) (in_event moment) r mid) is answers)
           (subst (λ p. Comes pack mid p said new) same more)))
           (λ same. inl (failed pack s.files mid moment reply said new
-          (answered_files pack (at s j) (takes moment) reply mid
-          (λ t. quiet_files pack (at s j) (takes moment) reply t tt) answers)
+          (answered_files pack (at s j) (in_event moment) reply mid
+          (λ t. quiet_files pack (at s j) (in_event moment) reply t tt) answers)
           (subst (λ p. Comes pack mid p said new) same more)))
           (end_or_fails moment next reply)
 
-  -- A CLOSE makes it the file of its name, where there is no last buffer.
-  closed : (j : Job) (c : Channel) (o : Output) (t : State) → channel_at j 2 ≡ Some (outputs c o)
-      → last_buffer j (outputs c o) ≡ Some [] → Steps pack (at s j) (calls moment (Close 2 0)) Done t
+  -- A CLOSE makes it the file of its name, if there is no last buffer.
+  closed : (j : SpecJob) (c : Channel) (o : SpecOutput) (t : State) → channel_at j 2 ≡ Some (outputs c o)
+      → last_buffer j (outputs c o) ≡ Some [] → Steps pack (at s j) (call_event moment (Close 2 0)) Done t
       → (serial : ℕ) × (t.files ≡ with_file s.files o.place (record { file = o.pending; serial = serial }))
   closed j c o t second none steps =
       let call = call_done pack s j0 there j (Close 2 0) moment t steps in
       let side = outputs c o in
       let row = on_open pack s j0 there j 2 side _ t second call.1 in
-      let d = settled_done {A = Job × Files Version} (close_answer pack (at s j) j side 0)
+      let d = settled_done {A = SpecJob × Files SpecVersion} (close_answer pack (at s j) j side 0)
       (close_done call.0 j 2 side 0, files_closed call.0 s.files j side 0)
       (λ reply. (stopped_in j 2 side reply, s.files)) (ap (λ x. x.0) row) in (
         call.0,
@@ -297,23 +299,23 @@ module _ (pack : Pack) (s : State) (j0 : Job) (there : job_at s 1 ≡ Some j0) (
             ∙ ap (λ l. files_with s.files call.0 (put_on (Some o) (words_or_none l))) none,
       )
 
-  -- It is published, and OK is said.
-  pub closes_done : (c : Channel) (o : Output) (said : Spoken) (new : Service) (j : Job)
+  -- It is published, and OK is printed.
+  pub closes_done : (c : Channel) (o : SpecOutput) (said : Spoken) (new : Service) (j : SpecJob)
       → channel_at j 2 ≡ Some (outputs c o) → last_buffer j (outputs c o) ≡ Some []
       → is_none (get s.files o.place.ppn) ≡ false
-      → Comes pack (Serving (at s j)) (each moment (calls moment (Close 2 0) ∷ []) (ends moment ok)) said new
+      → Comes pack (Serving (at s j)) (each moment (call_event moment (Close 2 0) ∷ []) (ends moment ok)) said new
       → ((said ≡ ok) × IsOneChange s.files o.place o.pending new) ⊎ IsLineRefused s.files said new
   unfolding each
   closes_done c o said new j second none directory come = ⊎_elim inr
       (λ (t, steps, rest). inl (make t (closed j c o t second none steps) rest))
-      (one_done pack (at s j) moment (calls moment (Close 2 0)) (ends moment ok) said new come)
+      (one_done pack (at s j) moment (call_event moment (Close 2 0)) (ends moment ok) said new come)
     where
       make : (t : State)
           → (serial : ℕ) × (t.files ≡ with_file s.files o.place (record { file = o.pending; serial = serial }))
           → Comes pack (Serving t) (ends moment ok) said new → (said ≡ ok) × IsOneChange s.files o.place o.pending new
       make t (serial, files) rest =
           let e = goes_on pack t moment ok said new rest in
-          let v : Version = record { file = o.pending; serial = serial } in
+          let v : SpecVersion = record { file = o.pending; serial = serial } in
           let d = is_there (get s.files o.place.ppn) directory in (
             e.0,
             record {
@@ -325,24 +327,24 @@ module _ (pack : Pack) (s : State) (j0 : Job) (there : job_at s 1 ≡ Some j0) (
             },
           )
 
-  -- What was written is published, and the line says OK.
-  published : (me : ℕ) (c : Channel) (o : Output) (said : Spoken) (new : Service) (j : Job) → IsJob me j
+  -- What was written is published, and the line prints OK.
+  published : (me : ℕ) (c : Channel) (o : SpecOutput) (said : Spoken) (new : Service) (j : SpecJob) → IsJob me j
       → channel_at j 1 ≡ Some c → channel_at j 2 ≡ Some (writing o) → is_none (get s.files o.place.ppn) ≡ false
       → Comes pack (Serving (at s j))
-      (until_end moment (each moment (calls moment (Close 2 0) ∷ []) (ends moment ok))) said new
+      (until_end moment (each moment (call_event moment (Close 2 0) ∷ []) (ends moment ok))) said new
       → ((said ≡ ok) × IsOneChange s.files o.place o.pending new) ⊎ IsLineRefused s.files said new
   published me c o said new j is first second directory come = ⊎_elim inr
       (λ (j', same, more). closes_done open_channel o said new j' (same ∙ second) refl directory more)
-      (until_done me c (each moment (calls moment (Close 2 0) ∷ []) (ends moment ok)) said new j is first come)
+      (until_done me c (each moment (call_event moment (Close 2 0) ∷ []) (ends moment ok)) said new j is first come)
 
   -- The body is copied, whole blocks and the last.
-  body_copied : (me : ℕ) (from : Place) (v : Version) (to : Place) (kind : Kind) (file : File) (next : Plan)
-      (said : Spoken) (new : Service) (j : Job) → IsJob me j → channel_at j 1 ≡ Some (reading from v 1)
+  body_copied : (me : ℕ) (from : Place) (v : SpecVersion) (to : Place) (kind : Kind) (file : File) (next : Plan)
+      (said : Spoken) (new : Service) (j : SpecJob) → IsJob me j → channel_at j 1 ≡ Some (reading from v 1)
       → channel_at j 2 ≡ Some (writing (side to kind (with_body file []) 1)) → Lists 128 j.core
       → length v.file.body ≤ longest → (blocks : ℕ) → blocks ≡ blocks_of (length v.file.body)
       → Comes pack (Serving (at s j)) (copies_body moment blocks (size_word (length v.file.body)) next) said new
       → IsLineRefused s.files said new
-      ⊎ ((j' : Job) × Copied me from v to kind file j' × Comes pack (Serving (at s j')) next said new)
+      ⊎ ((j' : SpecJob) × Copied me from v to kind file j' × Comes pack (Serving (at s j')) next said new)
   body_copied me from v to kind file next said new j is first second named fits zero count come =
       let none : v.file.body ≡ [] = empty v.file.body (no_words (length v.file.body) count) in
       inr (
@@ -376,13 +378,13 @@ module _ (pack : Pack) (s : State) (j0 : Job) (there : job_at s 1 ≡ Some j0) (
 
 -- COPY as a whole.
 
-pub quiet_finds : (moment : Moment) (spec : Spec) → AllByRecursion IsQuiet (finds moment spec)
+pub quiet_finds : (moment : Moment) (spec : Spec) → AllByRecursion IsQuiet (lookup_events moment spec)
 quiet_finds moment spec = (tt, (tt, (tt, (tt, (tt, (tt, (tt, (tt, (tt, tt)))))))))
 
-pub quiet_writes : (moment : Moment) (spec : Spec) → AllByRecursion IsQuiet (writes moment spec)
+pub quiet_writes : (moment : Moment) (spec : Spec) → AllByRecursion IsQuiet (enter_events moment spec)
 quiet_writes moment spec = (tt, (tt, (tt, (tt, (tt, (tt, (tt, (tt, (tt, tt)))))))))
 
-pub at_home : (s : State) (j : Job) → job_at s 1 ≡ Some j → s ≡ at s j
+pub at_home : (s : State) (j : SpecJob) → job_at s 1 ≡ Some j → s ≡ at s j
 at_home s j there = sym (ap (λ js. record s { jobs = js }) (set-slot s.jobs 1 j there))
 
 pub copies_are_exact : (pack : Pack) (moment : Moment) (me : ℕ) (s : State) (to from : Spec) (said : Spoken)
@@ -391,27 +393,27 @@ pub copies_are_exact : (pack : Pack) (moment : Moment) (me : ℕ) (s : State) (t
     → IsCopied moment me s to from said new ⊎ IsLineRefused s.files said new
 copies_are_exact pack moment me s to from said new ready to_is from_is short come = ⊎_elim inr
     (λ (t, all, same, rest). begun t all rest)
-    (each_done pack s moment (finds moment from ++ writes moment to ++ lists 128) rests said new
-    (all_append IsQuiet (finds moment from ++ writes moment to) (lists 128)
-    (all_append IsQuiet (finds moment from) (writes moment to) (quiet_finds moment from) (quiet_writes moment to))
+    (each_done pack s moment (lookup_events moment from ++ enter_events moment to ++ list_events 128) rests said new
+    (all_append IsQuiet (lookup_events moment from ++ enter_events moment to) (list_events 128)
+    (all_append IsQuiet (lookup_events moment from) (enter_events moment to) (quiet_finds moment from) (quiet_writes moment to))
     (quiet_deposits (list_pair 128) list_words)) come)
   where
     closing : Plan
-    closing = until_end moment (each moment (calls moment (Close 2 0) ∷ []) (ends moment ok))
+    closing = until_end moment (each moment (call_event moment (Close 2 0) ∷ []) (ends moment ok))
 
     rests : Plan
     rests = examines moment (file_words + 3) (λ size. copies_body moment (blocks_said size) size closing)
 
-    j0 : Job
+    j0 : SpecJob
     j0 = ready.job
 
     whole : IsJob me j0
     whole = record { owner = ready.owner; core = ready.core; channels = ready.channels }
 
     -- the body was copied: it is published
-    finished : (v : Version) → file_at s.files (place_of me from) ≡ Some v → (kind : Kind)
+    finished : (v : SpecVersion) → file_at s.files (place_of me from) ≡ Some v → (kind : Kind)
         → is_none (get s.files (place_of me to).ppn) ≡ false
-        → (j : Job) → Copied me (place_of me from) v (place_of me to) kind
+        → (j : SpecJob) → Copied me (place_of me from) v (place_of me to) kind
         (made s.files (place_of me to) dump_mode moment []) j
         → Comes pack (Serving (at s j)) closing said new
         → IsCopied moment me s to from said new ⊎ IsLineRefused s.files said new
@@ -421,23 +423,23 @@ copies_are_exact pack moment me s to from said new ready to_is from_is short com
         (side (place_of me to) kind (made s.files (place_of me to) dump_mode moment v.file.body) n) said new j is first
         second directory more)
 
-    begun : (t : State) → AllDone pack s (finds moment from ++ writes moment to ++ lists 128) t
+    begun : (t : State) → AllDone pack s (lookup_events moment from ++ enter_events moment to ++ list_events 128) t
         → Comes pack (Serving t) rests said new
         → IsCopied moment me s to from said new ⊎ IsLineRefused s.files said new
     begun t all rest =
         let there = ready.logged_in in
-        let last = split_done pack (at s j0) (finds moment from ++ writes moment to) (lists 128) t
-        (subst (λ u. AllDone pack u (finds moment from ++ writes moment to ++ lists 128) t) (at_home s j0 there) all) in
-        let both = split_done pack (at s j0) (finds moment from) (writes moment to) last.0 last.1 in
+        let last = split_done pack (at s j0) (lookup_events moment from ++ enter_events moment to) (list_events 128) t
+        (subst (λ u. AllDone pack u (lookup_events moment from ++ enter_events moment to ++ list_events 128) t) (at_home s j0 there) all) in
+        let both = split_done pack (at s j0) (lookup_events moment from) (enter_events moment to) last.0 last.1 in
         let f : Found s me from j0 both.0 = finds_done pack s j0 there moment me j0 from both.0 whole from_is both.1 in
         let e = writes_done pack s j0 there moment me f.job to last.0 f.whole to_is
-        (subst (λ u. AllDone pack u (writes moment to) last.0) f.is both.2) in
+        (subst (λ u. AllDone pack u (enter_events moment to) last.0) f.is both.2) in
         let core = after_writes e.job.core (placed list_words (list_pair 128)) in
         let j = with_core e.job core in
         let is : IsJob me j = job_core me e.job core e.whole
         (writes_length e.job.core (placed list_words (list_pair 128))) in
         let to_j : t ≡ at s j = deposits_done pack s j0 there (list_pair 128) e.job list_words t
-        (subst (λ u. AllDone pack u (lists 128) t) e.is last.2) in
+        (subst (λ u. AllDone pack u (list_events 128) t) e.is last.2) in
         let v = f.version in
         let size : slice_index core (file_words + 3) ≡ size_word (length v.file.body) =
         spared e.job.core list_words (list_pair 128) (file_words + 3) (inl (omega arith))

@@ -3,9 +3,9 @@ use Rattle.std.proofs.Common.{◌≡◌, inl, ℕ, suc, ◌+◌, ◌*◌, ◌/�
 use Rattle.std.proofs.Common.{min, Some, sym, ap, subst, ◌∙◌, arith}
 use Rattle.std.proofs.lemmas.List.{length-take, length-drop}
 use Rattle.words36.specs.declared.moment.Moment.{Moment}
-use Rattle.spec_image.specs.Common.{File, Place, Version, blocks_of, splice, block_start, words_from, Pack}
-use Rattle.spec_machine.specs.Common.{placed, word_count, Job, State, Kind, job_at, channel_at, Steps}
-use Rattle.spec_language.specs.Plans.{takes, asks_out, list_words, block_address, blocks_at_once}
+use Rattle.spec_image.specs.Common.{File, Place, SpecVersion, blocks_of, splice, block_start, words_from, Pack}
+use Rattle.spec_machine.specs.Common.{placed, word_count, SpecJob, State, Kind, job_at, channel_at, Steps}
+use Rattle.spec_language.specs.Plans.{in_event, out_event, list_words, block_address, blocks_at_once}
 use Rattle.spec_machine.specs.declared.call.Reply.TheVariants.{Done}
 use Rattle.spec_language.proofs.PlanRuns.{AllDone}
 use Rattle.spec_machine.proofs.Common.{writes_length, spared, window, written}
@@ -17,14 +17,14 @@ use Rattle.spec_language.proofs.BlockRuns.{take_more, put_at_end, moved, taken, 
 abbrev pub with_body : File → List ℕ → File
 with_body f body = record f { body = body }
 
--- So many blocks of a version were copied.
-pub record Copying (me : ℕ) (from : Place) (v : Version) (to : Place) (kind : Kind) (file : File) (k : ℕ) (j : Job)
+-- A number of blocks of a version were copied.
+pub record Copying (me : ℕ) (from : Place) (v : SpecVersion) (to : Place) (kind : Kind) (file : File) (k : ℕ) (j : SpecJob)
     : Type 0 where
   pub whole : IsJob me j
   pub first : channel_at j 1 ≡ Some (reading from v (k + 1))
   pub second : channel_at j 2 ≡ Some (writing (side to kind (with_body file (take (k * 128) v.file.body)) (k + 1)))
 
--- A command list of so many words is there, and spares all that stands behind it.
+-- A command list of `c` words stays when words are taken into the block after it.
 pub kept_lists : (core : List ℕ) (count : ℕ) (ahead : List ℕ) (c : ℕ) → Lists c core → Lists c (taken core count ahead)
 kept_lists core count ahead c is = record {
   command = spared core block_address (take count ahead) list_words (inl (omega arith)) ∙ is.command;
@@ -35,7 +35,7 @@ kept_lists core count ahead c is = record {
 pub start_is : (k : ℕ) → block_start (k + 1) ≡ k * 128
 start_is k = grind arith
 
--- an IN leaves the file behind the blocks that it moves
+-- an IN leaves the file after the blocks that it moves
 pub blocks_moved : (core : List ℕ) (count : ℕ) (ahead : List ℕ) → count ≤ length ahead
     → blocks_of (moved core count ahead) ≡ blocks_of count
 blocks_moved core count ahead there =
@@ -51,7 +51,7 @@ one_block count some few = grind arith
 pub whole_blocks : (b count : ℕ) → count ≡ b * 128 → blocks_of count ≡ b
 whole_blocks b count size = grind arith
 
--- Blocks by runs, and those that make none one by one.
+-- Blocks in runs, and those that make no run one by one.
 
 pub next_blocks : (b more k : ℕ) → k + b + more * b ≡ k + suc more * b
 next_blocks b more k = grind arith
@@ -62,13 +62,13 @@ by_runs blocks = grind arith
 pub runs_of : (blocks : ℕ) → blocks / blocks_at_once * blocks_at_once ≤ blocks
 runs_of blocks = grind arith
 
-module _ (pack : Pack) (s : State) (j0 : Job) (there : job_at s 1 ≡ Some j0) (moment : Moment) where
-  -- words are taken and put: the file has them behind those that it had
-  pub both_done : (me : ℕ) (j : Job) (from : Place) (v : Version) (to : Place) (kind : Kind) (file : File)
+module _ (pack : Pack) (s : State) (j0 : SpecJob) (there : job_at s 1 ≡ Some j0) (moment : Moment) where
+  -- words are taken and put: the file has them after those that it had
+  pub both_done : (me : ℕ) (j : SpecJob) (from : Place) (v : SpecVersion) (to : Place) (kind : Kind) (file : File)
       (k b count : ℕ) (t : State) → Copying me from v to kind file k j → 0 < count → count ≤ 2048 → blocks_of count ≡ b
       → Lists count j.core
-      → k * 128 + count ≤ length v.file.body → AllDone pack (at s j) (takes moment ∷ asks_out moment ∷ []) t
-      → (j' : Job) × (t ≡ at s j') × IsJob me j' × (channel_at j' 1 ≡ Some (reading from v (k + b + 1)))
+      → k * 128 + count ≤ length v.file.body → AllDone pack (at s j) (in_event moment ∷ out_event moment ∷ []) t
+      → (j' : SpecJob) × (t ≡ at s j') × IsJob me j' × (channel_at j' 1 ≡ Some (reading from v (k + b + 1)))
       × (channel_at j' 2 ≡ Some (writing (side to kind (with_body file (take (k * 128 + count) v.file.body))
       (k + b + 1))))
       × Lists count j'.core
@@ -92,7 +92,7 @@ module _ (pack : Pack) (s : State) (j0 : Job) (there : job_at s 1 ≡ Some j0) (
       at_other c1 1 2 (reading from v (k + b + 1)) (λ e. cc) ∙ is.second in
       let second =
       puts_done pack s j0 there moment me j1 o count w is2 out some few (kept_lists j.core count ahead
-      count lists) (subst (λ x. Steps pack x (asks_out moment) Done w) first putting) in
+      count lists) (subst (λ x. Steps pack x (out_event moment) Done w) first putting) in
       let words : window core block_address count ≡ take count ahead = written j.core block_address count
       (take count ahead) (omega (arith, length-take count ahead)) (let l = is.whole.core in omega arith) in
       let long' : length (window core block_address count) ≡ count = ap length words ∙ omega (

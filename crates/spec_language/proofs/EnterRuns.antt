@@ -6,14 +6,16 @@ use Rattle.std.specs.Prelude.{nat_lt, nat_le, is_none, slice_index, unwrap_or, �
 use Rattle.std.proofs.lemmas.Bool.Decides.{nat_tests}
 use Rattle.words36.specs.Common.{left, right, join}
 use Rattle.words36.specs.declared.moment.Moment.{Moment}
-use Rattle.spec_image.specs.Common.{get, Files, File, Place, Version, file_at, attributes, Pack}
-use Rattle.spec_machine.specs.Common.{after_writes, placed, lies_outside, Channel, Job, State, Output, Kind, Create}
+use Rattle.spec_image.specs.Common.{get, Files, File, Place, SpecVersion, file_at, attributes, Pack}
+use Rattle.spec_machine.specs.Common.{after_writes, placed, lies_outside, Channel, SpecJob, State, SpecOutput, Kind}
+use Rattle.spec_machine.specs.Common.{Create}
 use Rattle.spec_machine.specs.Common.{Supersede, job_at, channel_at, Steps, clean, refused_at, disk, dump_mode}
 use Rattle.spec_machine.specs.Common.{place_at, has_no_directory, digit_at, high_date, enter_answer, enter_done}
 use Rattle.spec_machine.specs.Common.{entered, output_opened, dump_list, areas_from, area_of, next_command, limited}
 use Rattle.spec_machine.specs.Common.{word_count}
 use Rattle.spec_machine.specs.declared.area.Area.{Area}
-use Rattle.spec_language.specs.Plans.{calls, asks_open, names, writes, new_words, list_words, block_address}
+use Rattle.spec_language.specs.Plans.{call_event, open_events, name_events, enter_events, new_words, list_words}
+use Rattle.spec_language.specs.Plans.{block_address}
 use Rattle.spec_language.specs.Plans.{open_words}
 use Rattle.spec_language.specs.Copies.{place_of, HasHalfwordExtension, made}
 use Rattle.spec_language.specs.declared.command.Spec.{Spec}
@@ -26,11 +28,11 @@ use Rattle.spec_language.proofs.OpenRuns.{open_channel, with_open, at_own, at_ot
 use Rattle.spec_language.proofs.OpenRuns.{opens_done, naming, place_named, attributing}
 
 -- The output side of a file that is new, or supersedes one.
-abbrev pub side : Place → Kind → File → ℕ → Output
+abbrev pub side : Place → Kind → File → ℕ → SpecOutput
 side place kind file next = record { place = place; kind = kind; pending = file; next = next }
 
-output_is : (files : Files Version) (j : Job) (c : Channel) (e : ℕ) (moment : Moment) (place : Place) (digit : ℕ)
-    (o : Option Version) → file_at files place ≡ o → slice_index j.core (e + 2) ≡ 0
+output_is : (files : Files SpecVersion) (j : SpecJob) (c : Channel) (e : ℕ) (moment : Moment) (place : Place) (digit : ℕ)
+    (o : Option SpecVersion) → file_at files place ≡ o → slice_index j.core (e + 2) ≡ 0
     → (kind : Kind)
     × (output_opened j c e moment place digit None o ≡ side place kind (made files place c.mode moment []) 1)
 output_is files j c e moment place digit None is none = (Create, rw (none, is) refl)
@@ -40,13 +42,13 @@ output_is files j c e moment place digit (Some v) is none = (Supersede, rw is re
 abbrev pub idle : Channel → Channel
 idle c = record c { input = None; output = None }
 
-abbrev pub outputs : Channel → Output → Channel
+abbrev pub outputs : Channel → SpecOutput → Channel
 outputs c o = record (clean (idle c)) { output = Some o }
 
 -- job 1 with a file that it has entered on a channel that was idle
-pub record Entered (s : State) (me : ℕ) (moment : Moment) (spec : Spec) (c : Channel) (j : Job) (t : State)
+pub record Entered (s : State) (me : ℕ) (moment : Moment) (spec : Spec) (c : Channel) (j : SpecJob) (t : State)
     : Type 0 where
-  pub job : Job
+  pub job : SpecJob
   pub is : t ≡ at s job
   pub whole : IsJob me job
   pub kind : Kind
@@ -56,28 +58,28 @@ pub record Entered (s : State) (me : ℕ) (moment : Moment) (spec : Spec) (c : C
   pub kept : (k : ℕ) → (k < new_words) ⊎ (new_words + 4 ≤ k) → slice_index job.core k ≡ slice_index j.core k
   pub directory : is_none (get s.files (place_of me spec).ppn) ≡ false
 
-has_directory : (pack : Pack) (s : State) (j : Job) (c : Channel) (e : ℕ) (place : Place)
+has_directory : (pack : Pack) (s : State) (j : SpecJob) (c : Channel) (e : ℕ) (place : Place)
     → enter_answer pack s j c e place ≡ Done → is_none (get s.files place.ppn) ≡ false
 has_directory pack s j c e place is =
     let a = passed_test (lies_outside j.core e 4) AddressCheck _ (λ w. cc) is in
     let b = passed_test _ (Refused 5) _ (λ w. cc) a.1 in
     (passed_test (has_no_directory s place) (Refused 1) _ (λ w. cc) b.1).0
 
-module _ (pack : Pack) (s : State) (j0 : Job) (there : job_at s 1 ≡ Some j0) (moment : Moment) where
-  pub enter_done_by : (me : ℕ) (c : Channel) (j : Job) (spec : Spec) (t : State) → IsJob me j
+module _ (pack : Pack) (s : State) (j0 : SpecJob) (there : job_at s 1 ≡ Some j0) (moment : Moment) where
+  pub enter_done_by : (me : ℕ) (c : Channel) (j : SpecJob) (spec : Spec) (t : State) → IsJob me j
       → HasHalfwordExtension spec
       → channel_at j 2 ≡ Some (idle c)
-      → AllDone pack (at s j) (names new_words spec 0 ++ calls moment (Enter 2 new_words) ∷ []) t
+      → AllDone pack (at s j) (name_events new_words spec 0 ++ call_event moment (Enter 2 new_words) ∷ []) t
       → Entered s me moment spec c j t
   enter_done_by me c j spec t is few idle2 all =
-      let last = split_done pack (at s j) (names new_words spec 0) (calls moment (Enter 2 new_words) ∷ []) t all in
+      let last = split_done pack (at s j) (name_events new_words spec 0) (call_event moment (Enter 2 new_words) ∷ []) t all in
       let ws : List ℕ = spec.name.name ∷ join spec.name.ext 0 ∷ 0 * 2 ^ 27 ∷ unwrap_or spec.owner 0 ∷ [] in
       let j2 = naming j new_words spec in
       let is2 : IsJob me j2 = job_core me j (after_writes j.core (placed new_words ws)) is
       (writes_length j.core (placed new_words ws)) in
       let second = deposits_done pack s j0 there ws j new_words last.0 last.1 in
       let call = call_done pack s j0 there j2 (Enter 2 new_words) moment last.2.0
-      (subst (λ u. Steps pack u (calls moment (Enter 2 new_words)) Done last.2.0) second last.2.1) in
+      (subst (λ u. Steps pack u (call_event moment (Enter 2 new_words)) Done last.2.0) second last.2.1) in
       let row = row_done pack s j0 there j2
       (enter_answer pack (at s j2) j2 (idle c) new_words (place_at j2 new_words))
       (enter_done pack (at s j2) j2 2 (idle c) new_words moment (place_at j2 new_words))
@@ -115,14 +117,14 @@ module _ (pack : Pack) (s : State) (j0 : Job) (there : job_at s 1 ≡ Some j0) (
         directory = directory;
       }
 
-  pub writes_done : (me : ℕ) (j : Job) (spec : Spec) (t : State) → IsJob me j → HasHalfwordExtension spec
-      → AllDone pack (at s j) (writes moment spec) t
+  pub writes_done : (me : ℕ) (j : SpecJob) (spec : Spec) (t : State) → IsJob me j → HasHalfwordExtension spec
+      → AllDone pack (at s j) (enter_events moment spec) t
       → Entered s me moment spec open_channel (with_open (with_core j (opening j)) 2 open_channel) t
   writes_done me j spec t is few all =
-      let both = split_done pack (at s j) (asks_open moment 2)
-      (names new_words spec 0 ++ calls moment (Enter 2 new_words)
-      ∷ []) t (subst (λ es. AllDone pack (at s j) es t) (append_assoc (asks_open moment 2) (names new_words spec 0)
-      (calls moment (Enter 2 new_words) ∷ [])) all) in
+      let both = split_done pack (at s j) (open_events moment 2)
+      (name_events new_words spec 0 ++ call_event moment (Enter 2 new_words)
+      ∷ []) t (subst (λ es. AllDone pack (at s j) es t) (append_assoc (open_events moment 2) (name_events new_words spec 0)
+      (call_event moment (Enter 2 new_words) ∷ [])) all) in
       let c0 = with_core j (opening j) in
       let is0 : IsJob me c0 = job_core me j (opening j) is
       (writes_length j.core (placed open_words (dump_mode ∷ disk ∷ 0 ∷ []))) in
@@ -130,9 +132,9 @@ module _ (pack : Pack) (s : State) (j0 : Job) (there : job_at s 1 ≡ Some j0) (
       let is1 : IsJob me j1 = job_open me c0 2 open_channel is0 in
       let first = opens_done pack s j0 there moment me j 2 both.0 is both.1 in
       enter_done_by me open_channel j1 spec t is1 few (at_own c0 me 2 open_channel is0 (omega arith))
-      (subst (λ u. AllDone pack u (names new_words spec 0 ++ calls moment (Enter 2 new_words) ∷ []) t) first both.2)
+      (subst (λ u. AllDone pack u (name_events new_words spec 0 ++ call_event moment (Enter 2 new_words) ∷ []) t) first both.2)
 
--- A command list that names so many words of the block.
+-- A command list that names `count` words of the block.
 
 abbrev pub part : ℕ → Area
 part count = record { first = block_address; count = count }

@@ -8,13 +8,14 @@ use Rattle.std.proofs.Math.ListN.{length-set}
 use Rattle.std.proofs.lemmas.List.{get_or-set_same, length-replicate}
 use Rattle.words36.specs.declared.moment.Moment.{Moment}
 use Rattle.spec_image.specs.Common.{File, Pack}
-use Rattle.spec_machine.specs.Common.{first_free, rings_begin, Job, State, job_at, with_job, login_answer, new_job}
+use Rattle.spec_machine.specs.Common.{first_free, rings_begin, SpecJob, State, job_at, with_job, login_answer, new_job}
 use Rattle.spec_machine.specs.Common.{Service, Serving, Steps}
 use Rattle.spec_language.specs.Texts.{Spoken}
 use Rattle.spec_language.specs.Transcripts.{core_words}
-use Rattle.spec_language.specs.Plans.{Plan, each, calls, ends, ok, names, asks_out, reads_file, new_words, deposits}
+use Rattle.spec_language.specs.Plans.{Plan, each, call_event, ends, ok, name_events, out_event, reads_file, new_words}
+use Rattle.spec_language.specs.Plans.{deposit_events}
 use Rattle.spec_language.specs.Plans.{open_words}
-use Rattle.spec_language.specs.Errands.{enters, creates, parts_of, fills_all, keeps, gets}
+use Rattle.spec_language.specs.Errands.{login_events, create_events, parts_of, fills_all, keeps, gets}
 use Rattle.spec_language.specs.Copies.{Comes, IsJobReady, IsLineRefused, HasHalfwordExtension, AreShort, IsPrinted}
 use Rattle.spec_language.specs.Copies.{IsPut, place_of, made, put_mode}
 use Rattle.spec_language.specs.declared.command.Spec.{Spec}
@@ -77,7 +78,7 @@ logins_make_ready pack s t me there steps = subst (λ u. IsJobReady u me) (sym (
     (is_ready s me there)
 
 module _ (pack : Pack) (moment : Moment) (me : ℕ) (s : State) (said : Spoken) (new : Service) where
-  enters_done : (next : Plan) → Comes pack (Serving s) (each moment (enters me) next) said new
+  enters_done : (next : Plan) → Comes pack (Serving s) (each moment (login_events me) next) said new
       → IsLineRefused s.files said new ⊎ Comes pack (Serving (logged s me)) next said new
   unfolding each
   enters_done next come = ⊎_elim inl
@@ -93,12 +94,12 @@ gets_are_exact pack moment me s encoding spec said new there few short come = �
     (enters_done pack moment me s said new (reads_file moment encoding spec) come)
 
 pub quiet_creates : (moment : Moment) (encoding : Encoding) (spec : Spec)
-    → AllByRecursion IsQuiet (creates moment encoding spec)
+    → AllByRecursion IsQuiet (create_events moment encoding spec)
 quiet_creates moment Characters spec =
-    let rest : List Event = calls moment (Open 2 open_words) ∷ (names new_words spec 0
-    ++ calls moment (Enter 2 new_words) ∷ calls moment (Outbuf 2 1) ∷ asks_out moment ∷ []) in
+    let rest : List Event = call_event moment (Open 2 open_words) ∷ (name_events new_words spec 0
+    ++ call_event moment (Enter 2 new_words) ∷ call_event moment (Outbuf 2 1) ∷ out_event moment ∷ []) in
     let quiet : AllByRecursion IsQuiet rest = (tt, (tt, (tt, (tt, (tt, (tt, (tt, (tt, tt)))))))) in
-    all_append IsQuiet (deposits open_words opening_words) rest (quiet_deposits opening_words open_words) quiet
+    all_append IsQuiet (deposit_events open_words opening_words) rest (quiet_deposits opening_words open_words) quiet
 quiet_creates moment Words spec = quiet_writes moment spec
 quiet_creates moment Octets spec = quiet_writes moment spec
 
@@ -108,21 +109,21 @@ pub puts_are_exact : (pack : Pack) (moment : Moment) (me : ℕ) (s : State) (enc
     → IsPut moment me s encoding spec words said new ⊎ IsLineRefused s.files said new
 puts_are_exact pack moment me s encoding spec words said new there few come = ⊎_elim inr
     (λ more. ⊎_elim inr (λ (t, all, same, rest). by encoding t all rest)
-    (each_done pack base moment (creates moment encoding spec) (filling encoding) said new
+    (each_done pack base moment (create_events moment encoding spec) (filling encoding) said new
     (quiet_creates moment encoding spec) more))
-    (enters_done pack moment me s said new (each moment (creates moment encoding spec) (filling encoding)) come)
+    (enters_done pack moment me s said new (each moment (create_events moment encoding spec) (filling encoding)) come)
   where
     base : State
     base = logged s me
 
-    j0 : Job
+    j0 : SpecJob
     j0 = new_job me core_words
 
     there0 : job_at base 1 ≡ Some j0
     there0 = logged_in s me there
 
     closing : Plan
-    closing = each moment (calls moment (Close 2 0) ∷ []) (ends moment ok)
+    closing = each moment (call_event moment (Close 2 0) ∷ []) (ends moment ok)
 
     filling : Encoding → Plan
     filling encoding = fills_all moment encoding words closing
@@ -130,11 +131,11 @@ puts_are_exact pack moment me s encoding spec words said new there few come = �
     here : (encoding : Encoding) → File
     here encoding = made s.files (place_of me spec) (put_mode encoding) moment []
 
-    home : (encoding : Encoding) (t : State) → AllDone pack base (creates moment encoding spec) t
-        → AllDone pack (at base j0) (creates moment encoding spec) t
-    home encoding t all = subst (λ u. AllDone pack u (creates moment encoding spec) t) (at_home base j0 there0) all
+    home : (encoding : Encoding) (t : State) → AllDone pack base (create_events moment encoding spec) t
+        → AllDone pack (at base j0) (create_events moment encoding spec) t
+    home encoding t all = subst (λ u. AllDone pack u (create_events moment encoding spec) t) (at_home base j0 there0) all
 
-    by : (encoding : Encoding) (t : State) → AllDone pack base (creates moment encoding spec) t
+    by : (encoding : Encoding) (t : State) → AllDone pack base (create_events moment encoding spec) t
         → Comes pack (Serving t) (filling encoding) said new
         → IsPut moment me s encoding spec words said new ⊎ IsLineRefused s.files said new
     by Words t all rest =

@@ -6,11 +6,11 @@ use Rattle.std.specs.List.{AllByRecursion}
 use Rattle.std.proofs.lemmas.List.{length-take, length-drop, length-append, take-append-drop}
 use Rattle.words36.specs.declared.moment.Moment.{Moment}
 use Rattle.spec_image.specs.Common.{File, Place, blocks_of, splice, Pack}
-use Rattle.spec_machine.specs.Common.{after_writes, placed, Job, State, Kind, job_at, channel_at, Service, Serving}
+use Rattle.spec_machine.specs.Common.{after_writes, placed, SpecJob, State, Kind, job_at, channel_at, Service, Serving}
 use Rattle.spec_machine.specs.Common.{Steps}
 use Rattle.spec_language.specs.Texts.{Spoken}
-use Rattle.spec_language.specs.Plans.{Plan, lists, asks_out, deposits, list_words, block_address}
-use Rattle.spec_language.specs.Errands.{fills, fills_parts, part_address, part_words, parts_of}
+use Rattle.spec_language.specs.Plans.{Plan, list_events, out_event, deposit_events, list_words, block_address}
+use Rattle.spec_language.specs.Errands.{fill_events, fills_parts, part_address, part_words, parts_of}
 use Rattle.spec_language.specs.Copies.{Comes, IsLineRefused}
 use Rattle.spec_language.specs.declared.encoding.Encoding.{Encoding}
 use Rattle.spec_language.specs.declared.encoding.Encoding.TheVariants.{Characters, Words, Octets}
@@ -25,25 +25,25 @@ use Rattle.spec_language.proofs.BlockRuns.{put_at_end, puts_done}
 use Rattle.spec_language.proofs.CopyRuns.{with_body, start_is}
 use Rattle.spec_language.proofs.SizeRuns.{quiet_deposits}
 
--- what each part does, whatever else is so between two of them
-abbrev pub PartsAreDone : Pack → State → Moment → Encoding → (ℕ → List ℕ → Job → Type 0) → Type 0
+-- what each part does, whatever else holds between two of them
+abbrev pub PartsAreDone : Pack → State → Moment → Encoding → (ℕ → List ℕ → SpecJob → Type 0) → Type 0
 PartsAreDone pack s moment encoding W =
-    (k : ℕ) (done part : List ℕ) (j : Job) (t : State) → W k done j → length done ≡ k * 128 → 0 < length part
-    → length part ≤ part_words encoding → AllDone pack (at s j) (fills moment encoding part) t
-    → (j' : Job) × (t ≡ at s j') × W (k + blocks_of (length part)) (done ++ part) j'
+    (k : ℕ) (done part : List ℕ) (j : SpecJob) (t : State) → W k done j → length done ≡ k * 128 → 0 < length part
+    → length part ≤ part_words encoding → AllDone pack (at s j) (fill_events moment encoding part) t
+    → (j' : SpecJob) × (t ≡ at s j') × W (k + blocks_of (length part)) (done ++ part) j'
 
 quiet_fills : (moment : Moment) (encoding : Encoding) (part : List ℕ)
-    → AllByRecursion IsQuiet (fills moment encoding part)
-quiet_fills moment Characters part = all_append IsQuiet (deposits (part_address Characters) part) _
+    → AllByRecursion IsQuiet (fill_events moment encoding part)
+quiet_fills moment Characters part = all_append IsQuiet (deposit_events (part_address Characters) part) _
     (quiet_deposits part (part_address Characters)) (tt, (tt, tt))
-quiet_fills moment Words part = all_append IsQuiet (deposits (part_address Words) part) _
+quiet_fills moment Words part = all_append IsQuiet (deposit_events (part_address Words) part) _
     (quiet_deposits part (part_address Words))
-    (all_append IsQuiet (lists (length part)) (asks_out moment ∷ [])
+    (all_append IsQuiet (list_events (length part)) (out_event moment ∷ [])
     (quiet_deposits (list_pair (length part)) list_words)
     (tt, tt))
-quiet_fills moment Octets part = all_append IsQuiet (deposits (part_address Octets) part) _
+quiet_fills moment Octets part = all_append IsQuiet (deposit_events (part_address Octets) part) _
     (quiet_deposits part (part_address Octets))
-    (all_append IsQuiet (lists (length part)) (asks_out moment ∷ [])
+    (all_append IsQuiet (list_events (length part)) (out_event moment ∷ [])
     (quiet_deposits (list_pair (length part)) list_words)
     (tt, tt))
 
@@ -79,13 +79,13 @@ whole_part Octets = refl
 next_edge : (k blocks words : ℕ) → blocks * 128 ≡ words → k * 128 + words ≡ (k + blocks) * 128
 next_edge k blocks words e = grind arith
 
-module _ (pack : Pack) (s : State) (moment : Moment) (encoding : Encoding) (W : ℕ → List ℕ → Job → Type 0)
+module _ (pack : Pack) (s : State) (moment : Moment) (encoding : Encoding) (W : ℕ → List ℕ → SpecJob → Type 0)
     (part_done : PartsAreDone pack s moment encoding W) where
-  pub parts_done : (more k : ℕ) (done words : List ℕ) (next : Plan) (said : Spoken) (new : Service) (j : Job)
+  pub parts_done : (more k : ℕ) (done words : List ℕ) (next : Plan) (said : Spoken) (new : Service) (j : SpecJob)
       → more ≡ parts_of encoding (length words) → W k done j → (0 < length words → length done ≡ k * 128)
       → Comes pack (Serving (at s j)) (fills_parts moment encoding more words next) said new
       → IsLineRefused s.files said new
-      ⊎ ((n : ℕ) × (j' : Job) × W n (done ++ words) j' × Comes pack (Serving (at s j')) next said new)
+      ⊎ ((n : ℕ) × (j' : SpecJob) × W n (done ++ words) j' × Comes pack (Serving (at s j')) next said new)
   unfolding fills_parts
   parts_done zero k done words next said new j count is whole come =
       let none : words ≡ [] = empty words (no_words encoding (length words) count) in
@@ -105,7 +105,7 @@ module _ (pack : Pack) (s : State) (moment : Moment) (encoding : Encoding) (W : 
       (parts_left encoding more (length words) count ∙ ap (parts_of encoding) (sym (length-drop most words))) d.2
       (λ left. length-append done part ∙ edge left (whole some))
       (subst (λ u. Comes pack (Serving u) (fills_parts moment encoding more behind next) said new) d.1 rest)))
-      (each_done pack (at s j) moment (fills moment encoding part) (fills_parts moment encoding more behind next) said
+      (each_done pack (at s j) moment (fill_events moment encoding part) (fills_parts moment encoding more behind next) said
       new (quiet_fills moment encoding part) come)
     where
       most : ℕ
@@ -130,17 +130,17 @@ module _ (pack : Pack) (s : State) (moment : Moment) (encoding : Encoding) (W : 
           ∙ ap (λ n. (k + blocks_of n) * 128) (sym full)
 
 -- Parts that are words: the block has them, and a command list names them.
-pub record PutsWords (me : ℕ) (to : Place) (kind : Kind) (file : File) (k : ℕ) (done : List ℕ) (j : Job) : Type 0 where
+pub record PutsWords (me : ℕ) (to : Place) (kind : Kind) (file : File) (k : ℕ) (done : List ℕ) (j : SpecJob) : Type 0 where
   pub whole : IsJob me j
   pub second : channel_at j 2 ≡ Some (writing (side to kind (with_body file done) (k + 1)))
 
-module _ (pack : Pack) (s : State) (j0 : Job) (there : job_at s 1 ≡ Some j0) (moment : Moment) where
+module _ (pack : Pack) (s : State) (j0 : SpecJob) (there : job_at s 1 ≡ Some j0) (moment : Moment) where
   pub words_done : (me : ℕ) (to : Place) (kind : Kind) (file : File)
       → PartsAreDone pack s moment Words (PutsWords me to kind file)
   words_done me to kind file k done part j t is long some few all =
       let count = length part in
-      let last = split_done pack (at s j) (deposits block_address part) (lists count ++ asks_out moment ∷ []) t all in
-      let both = split_done pack last.0 (lists count) (asks_out moment ∷ []) t last.2 in
+      let last = split_done pack (at s j) (deposit_events block_address part) (list_events count ++ out_event moment ∷ []) t all in
+      let both = split_done pack last.0 (list_events count) (out_event moment ∷ []) t last.2 in
       let core1 = after_writes j.core (placed block_address part) in
       let j1 = with_core j core1 in
       let is1 : IsJob me j1 = job_core me j core1 is.whole (writes_length j.core (placed block_address part)) in
@@ -149,10 +149,10 @@ module _ (pack : Pack) (s : State) (j0 : Job) (there : job_at s 1 ≡ Some j0) (
       let j2 = with_core j1 core2 in
       let is2 : IsJob me j2 = job_core me j1 core2 is1 (writes_length core1 (placed list_words (list_pair count))) in
       let to2 = deposits_done pack s j0 there (list_pair count) j1 list_words both.0
-      (subst (λ u. AllDone pack u (lists count) both.0) to1 both.1) in
+      (subst (λ u. AllDone pack u (list_events count) both.0) to1 both.1) in
       let o = side to kind (with_body file done) (k + 1) in
       let to3 = puts_done pack s j0 there moment me j2 o count both.2.0 is2 is.second some few
-      (listing core1 count is1.core) (subst (λ u. Steps pack u (asks_out moment) Done both.2.0) to2 both.2.1) in
+      (listing core1 count is1.core) (subst (λ u. Steps pack u (out_event moment) Done both.2.0) to2 both.2.1) in
       let words : window core2 block_address count ≡ part =
       ap (take count) (passed core1 list_words block_address (list_pair count) (omega arith))
       ∙ written j.core block_address count part refl (let l = is.whole.core in omega arith) in

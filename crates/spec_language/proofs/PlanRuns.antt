@@ -3,10 +3,10 @@ use Rattle.std.proofs.Common.{◌≡◌, ◌≢◌, ◌⊎◌, inl, inr, ⊎_eli
 use Rattle.std.proofs.Common.{refl, sym, ap, subst, ◌∙◌}
 use Rattle.std.specs.List.{AllByRecursion}
 use Rattle.words36.specs.declared.moment.Moment.{Moment}
-use Rattle.spec_image.specs.Common.{Files, Version, Pack}
+use Rattle.spec_image.specs.Common.{Files, SpecVersion, Pack}
 use Rattle.spec_machine.specs.Common.{State, Service, Serving, Broken, Answers, Steps}
 use Rattle.spec_language.specs.Texts.{Spoken, refuses}
-use Rattle.spec_language.specs.Plans.{Plan, Ask, Say, Act, Asks, Looks, ends, fails, if_done, each, calls}
+use Rattle.spec_language.specs.Plans.{Plan, Ask, Say, Act, Asks, Looks, ends, fails, if_done, each, call_event}
 use Rattle.spec_language.specs.Transcripts.{Went}
 use Rattle.spec_language.specs.Copies.{Comes, HasFiles, IsLineRefused}
 use Rattle.spec_machine.specs.declared.call.Call.TheVariants.{Reset}
@@ -24,10 +24,10 @@ went_broken pack (Asks event reply ∷ acts) new (Serving t, does, rest) = absur
 went_broken pack (Looks owner answer ∷ acts) new (mid, does, rest) = went_broken pack acts new
     (subst (λ m. Went pack m acts new) does.1 rest)
 
-broken_has : (files : Files Version) (new : Service) → new ≡ Broken → HasFiles files new
+broken_has : (files : Files SpecVersion) (new : Service) → new ≡ Broken → HasFiles files new
 broken_has files new e = subst (HasFiles files) (sym e) tt
 
--- The next event of a plan, its reply, and what comes then.
+-- The next event of a plan, its reply, and what comes next.
 pub asked : (pack : Pack) (old : Service) (event : Event) (next : Reply → Plan) (said : Spoken) (new : Service)
     → Comes pack old (Ask event next) said new
     → (reply : Reply) × (mid : Service) × Answers pack old event reply mid × Comes pack mid (next reply) said new
@@ -36,7 +36,7 @@ asked pack old event next said new (Asks other reply ∷ acts, led, (mid, does, 
     (reply, mid, subst (λ e. Answers pack old e reply mid) led.0 does, (acts, led.1, went))
 asked pack old event next said new (Looks owner answer ∷ acts, led, went) = absurd led
 
--- Nothing is asked any more.
+-- Nothing more is asked.
 said_all : (pack : Pack) (old : Service) (told said : Spoken) (new : Service) → Comes pack old (Say told) said new
     → (said ≡ told) × (new ≡ old)
 said_all pack old told said new ([], led, went) = let e = led in (cc, went)
@@ -56,28 +56,28 @@ answered_files pack s event reply Broken h a = tt
 answered_files pack s event reply (Serving t) h (inl steps) = h t steps
 answered_files pack s event reply (Serving t) h (inr none) = ap (λ x. x.files) none.1
 
-answered_quiet : (pack : Pack) (files : Files Version) (old : Service) (event : Event) (reply : Reply) (new : Service)
+answered_quiet : (pack : Pack) (files : Files SpecVersion) (old : Service) (event : Event) (reply : Reply) (new : Service)
     → IsQuiet event → HasFiles files old → Answers pack old event reply new → HasFiles files new
 answered_quiet pack files Broken event reply Broken q h a = tt
 answered_quiet pack files Broken event reply (Serving t) q h a = absurd a
 answered_quiet pack files (Serving s) event reply new q h a = subst (λ f. HasFiles f new) h
     (answered_files pack s event reply new (λ t. quiet_files pack s event reply t q) a)
 
--- All channels are closed in the end, and this is said.
-pub ended : (pack : Pack) (files : Files Version) (old : Service) (moment : Moment) (told said : Spoken) (new : Service)
+-- All channels are closed in the end, and this is printed.
+pub ended : (pack : Pack) (files : Files SpecVersion) (old : Service) (moment : Moment) (told said : Spoken) (new : Service)
     → HasFiles files old → Comes pack old (ends moment told) said new → (said ≡ told) × HasFiles files new
 ended pack files old moment told said new h c =
-    let a = asked pack old (calls moment Reset) (λ reply. Say told) said new c in
+    let a = asked pack old (call_event moment Reset) (λ reply. Say told) said new c in
     let e = said_all pack a.1 told said new a.3 in
     (e.0, subst (HasFiles files) (sym e.1) (answered_quiet pack files old _ a.0 a.1 tt h a.2))
 
--- and a service that serves goes on
+-- and a service that serves continues
 reset_serves : (pack : Pack) (t : State) (moment : Moment) (reply : Reply) (mid : Service)
-    → Answers pack (Serving t) (calls moment Reset) reply mid
+    → Answers pack (Serving t) (call_event moment Reset) reply mid
     → (after : State) × (mid ≡ Serving after) × (after.files ≡ t.files)
 reset_serves pack t moment reply Broken (device, undecided, touches) = let wrong : IsTrue false = touches in cc
 reset_serves pack t moment reply (Serving after) (inl steps) =
-    (after, refl, quiet_files pack t (calls moment Reset) reply after tt steps)
+    (after, refl, quiet_files pack t (call_event moment Reset) reply after tt steps)
 reset_serves pack t moment reply (Serving after) (inr (none, same, undecided, wants)) =
     let wrong : IsTrue false = wants in cc
 
@@ -85,22 +85,22 @@ pub goes_on : (pack : Pack) (t : State) (moment : Moment) (told said : Spoken) (
     → Comes pack (Serving t) (ends moment told) said new
     → (said ≡ told) × ((after : State) × (new ≡ Serving after) × (after.files ≡ t.files))
 goes_on pack t moment told said new c =
-    let a = asked pack (Serving t) (calls moment Reset) (λ reply. Say told) said new c in
+    let a = asked pack (Serving t) (call_event moment Reset) (λ reply. Say told) said new c in
     let e = said_all pack a.1 told said new a.3 in
     let r = reset_serves pack t moment a.0 a.1 a.2 in
     (e.0, (r.0, e.1 ∙ r.1, r.2))
 
-refused : (files : Files Version) (reply : Reply) (said : Spoken) (new : Service)
+refused : (files : Files SpecVersion) (reply : Reply) (said : Spoken) (new : Service)
     → (said ≡ refuses reply) × HasFiles files new → IsLineRefused files said new
 refused files reply said new (e, h) = ((reply, e), h)
 
-pub failed : (pack : Pack) (files : Files Version) (old : Service) (moment : Moment) (reply : Reply) (said : Spoken)
+pub failed : (pack : Pack) (files : Files SpecVersion) (old : Service) (moment : Moment) (reply : Reply) (said : Spoken)
     (new : Service)
     → HasFiles files old → Comes pack old (fails moment reply) said new → IsLineRefused files said new
 failed pack files old moment reply said new h c = refused files reply said new
     (ended pack files old moment (refuses reply) said new h c)
 
--- A reply is Done, or what comes then is a refusal.
+-- A reply is Done, or what comes next is a refusal.
 done_or_fails : (moment : Moment) (next : Plan) (reply : Reply)
     → (reply ≡ Done) ⊎ ((reply ≢ Done) × (if_done moment next reply ≡ fails moment reply))
 done_or_fails moment next Done = inl refl

@@ -4,11 +4,12 @@ use Rattle.std.proofs.Common.{◌∷◌, ◌++◌, length, take, drop, Some, ref
 use Rattle.std.specs.Prelude.{slice_index}
 use Rattle.std.proofs.lemmas.List.{length-take, length-drop, take_all, take-append-drop, drop-drop}
 use Rattle.words36.specs.declared.moment.Moment.{Moment}
-use Rattle.spec_image.specs.Common.{Place, Version, file_at, blocks_of, words_from, block_start, Pack}
-use Rattle.spec_machine.specs.Common.{after_writes, placed, Job, State, job_at, channel_at, size_word, longest}
+use Rattle.spec_image.specs.Common.{Place, SpecVersion, file_at, blocks_of, words_from, block_start, Pack}
+use Rattle.spec_machine.specs.Common.{after_writes, placed, SpecJob, State, job_at, channel_at, size_word, longest}
 use Rattle.spec_machine.specs.Common.{Service, Serving, Steps}
 use Rattle.spec_language.specs.Texts.{Spoken, file_said}
-use Rattle.spec_language.specs.Plans.{Plan, each, finds, lists, takes, goes_to, fetches, list_words, block_address}
+use Rattle.spec_language.specs.Plans.{Plan, each, lookup_events, list_events, in_event, useti_event, fetches}
+use Rattle.spec_language.specs.Plans.{list_words, block_address}
 use Rattle.spec_language.specs.Plans.{file_words, blocks_at_once, types_runs, types_blocks, types_last, types_body}
 use Rattle.spec_language.specs.Plans.{reads_file, examines, blocks_said, until_end, ends}
 use Rattle.spec_language.specs.Copies.{Comes, IsJobReady, HasHalfwordExtension, AreShort, HasFiles, IsLineRefused}
@@ -30,13 +31,13 @@ use Rattle.spec_language.proofs.SizeRuns.{said_blocks, sizes_done, fetched, told
 use Rattle.spec_language.proofs.CopyLaws.{until_done, listed_anew, quiet_finds, at_home}
 
 -- Job 1 with a version that it reads, at a block.
-pub record Reads (me : ℕ) (place : Place) (v : Version) (n count : ℕ) (j : Job) : Type 0 where
+pub record Reads (me : ℕ) (place : Place) (v : SpecVersion) (n count : ℕ) (j : SpecJob) : Type 0 where
   pub whole : IsJob me j
   pub first : channel_at j 1 ≡ Some (reading place v n)
   pub named : Lists count j.core
 
 abbrev last_taken : Moment → ℕ → ℕ → List Event
-last_taken moment count n = lists count ++ goes_to moment n ∷ takes moment ∷ []
+last_taken moment count n = list_events count ++ useti_event moment n ∷ in_event moment ∷ []
 
 -- Words of a body that follow one another, by parts as long as each other.
 
@@ -58,12 +59,12 @@ words_by_runs : (blocks : ℕ)
     → blocks / blocks_at_once * (blocks_at_once * 128) + blocks % blocks_at_once * 128 ≡ blocks * 128
 words_by_runs blocks = grind arith
 
-module _ (pack : Pack) (s : State) (j0 : Job) (there : job_at s 1 ≡ Some j0) (moment : Moment) where
-  -- the words of some blocks come into core
-  blocks_taken : (me : ℕ) (place : Place) (v : Version) (k b count : ℕ) (j : Job) (t : State)
+module _ (pack : Pack) (s : State) (j0 : SpecJob) (there : job_at s 1 ≡ Some j0) (moment : Moment) where
+  -- the words of some blocks come into the core
+  blocks_taken : (me : ℕ) (place : Place) (v : SpecVersion) (k b count : ℕ) (j : SpecJob) (t : State)
       → Reads me place v (k + 1) count j → 0 < count → count ≤ 2048 → blocks_of count ≡ b
-      → k * 128 + count ≤ length v.file.body → Steps pack (at s j) (takes moment) Done t
-      → (j' : Job) × (t ≡ at s j') × Reads me place v (k + b + 1) count j'
+      → k * 128 + count ≤ length v.file.body → Steps pack (at s j) (in_event moment) Done t
+      → (j' : SpecJob) × (t ≡ at s j') × Reads me place v (k + b + 1) count j'
       × (window j'.core block_address count ≡ take count (drop (k * 128) v.file.body))
   blocks_taken me place v k b count j t is some few blocks fits steps =
       let body = v.file.body in
@@ -91,13 +92,13 @@ module _ (pack : Pack) (s : State) (j0 : Job) (there : job_at s 1 ≡ Some j0) (
         words ∙ ap (λ n. take count (drop n body)) begin,
       )
 
-  -- INs one after the other, each of so many blocks
-  runs_read : (me : ℕ) (place : Place) (v : Version) (said : Spoken) (new : Service) (b count : ℕ) → 0 < b → b ≤ 16
-      → count ≡ b * 128 → (more k : ℕ) (next : List ℕ → Plan) (j : Job) → Reads me place v (k + 1) count j
+  -- INs one after the other, each of the same number of blocks
+  runs_read : (me : ℕ) (place : Place) (v : SpecVersion) (said : Spoken) (new : Service) (b count : ℕ) → 0 < b → b ≤ 16
+      → count ≡ b * 128 → (more k : ℕ) (next : List ℕ → Plan) (j : SpecJob) → Reads me place v (k + 1) count j
       → (k + more * b) * 128 ≤ length v.file.body
       → Comes pack (Serving (at s j)) (types_runs moment more count next) said new
       → IsLineRefused s.files said new
-      ⊎ ((j' : Job) × Reads me place v (k + more * b + 1) count j'
+      ⊎ ((j' : SpecJob) × Reads me place v (k + more * b + 1) count j'
       × Comes pack (Serving (at s j')) (next (take (more * count) (drop (k * 128) v.file.body))) said new)
   unfolding types_runs
   runs_read me place v said new b count some few size zero k next j is fits come =
@@ -131,24 +132,24 @@ module _ (pack : Pack) (s : State) (j0 : Job) (there : job_at s 1 ≡ Some j0) (
       ))
       (runs_read me place v said new b count some few size more (k + b) (λ others. next (words ++ others)) d.0 d.2 left
       (subst (λ ws. Comes pack (Serving (at s d.0)) (behind ws) said new) d.3 got)))
-      (each_done pack (at s j) moment (takes moment ∷ []) (fetches moment count block_address
+      (each_done pack (at s j) moment (in_event moment ∷ []) (fetches moment count block_address
       (λ words. types_runs moment more count (λ others. next (words ++ others)))) said new (tt, tt) come)
 
   -- the command list names another number of words
-  read_anew : (me : ℕ) (place : Place) (v : Version) (said : Spoken) (new : Service) (n was count : ℕ) (next : Plan)
-      (j : Job) → Reads me place v n was j → Comes pack (Serving (at s j)) (each moment (lists count) next) said new
+  read_anew : (me : ℕ) (place : Place) (v : SpecVersion) (said : Spoken) (new : Service) (n was count : ℕ) (next : Plan)
+      (j : SpecJob) → Reads me place v n was j → Comes pack (Serving (at s j)) (each moment (list_events count) next) said new
       → IsLineRefused s.files said new
-      ⊎ ((j' : Job) × Reads me place v n count j' × Comes pack (Serving (at s j')) next said new)
+      ⊎ ((j' : SpecJob) × Reads me place v n count j' × Comes pack (Serving (at s j')) next said new)
   read_anew me place v said new n was count next j is come = ⊎_elim inl
       (λ (core, whole, named, rest).
       inr (with_core j core, record { whole = whole; first = is.first; named = named }, rest))
       (listed_anew pack s j0 there moment me count next said new j is.whole come)
 
-  blocks_read : (me : ℕ) (place : Place) (v : Version) (said : Spoken) (new : Service) (blocks : ℕ)
-      (next : List ℕ → Plan) (j : Job) → Reads me place v 1 128 j → blocks * 128 ≤ length v.file.body
+  blocks_read : (me : ℕ) (place : Place) (v : SpecVersion) (said : Spoken) (new : Service) (blocks : ℕ)
+      (next : List ℕ → Plan) (j : SpecJob) → Reads me place v 1 128 j → blocks * 128 ≤ length v.file.body
       → Comes pack (Serving (at s j)) (types_blocks moment blocks next) said new
       → IsLineRefused s.files said new
-      ⊎ ((j' : Job) × Reads me place v (blocks + 1) 128 j'
+      ⊎ ((j' : SpecJob) × Reads me place v (blocks + 1) 128 j'
       × Comes pack (Serving (at s j')) (next (take (blocks * 128) v.file.body)) said new)
   blocks_read me place v said new blocks next j is fits come = ⊎_elim inl
       (λ (j1, is1, come1). ⊎_elim inl
@@ -175,7 +176,7 @@ module _ (pack : Pack) (s : State) (j0 : Job) (there : job_at s 1 ≡ Some j0) (
       words = take (blocks / blocks_at_once * (blocks_at_once * 128)) (drop (0 * 128) v.file.body)
 
       behind : List ℕ → Plan
-      behind words = each moment (lists 128)
+      behind words = each moment (list_events 128)
           (types_runs moment (blocks % blocks_at_once) 128 (λ others. next (words ++ others)))
 
       all_words : words ++ take (blocks % blocks_at_once * 128) (drop (runs * 128) v.file.body)
@@ -184,19 +185,19 @@ module _ (pack : Pack) (s : State) (j0 : Job) (there : job_at s 1 ≡ Some j0) (
           (blocks % blocks_at_once * 128)
           (runs * 128) (blocks * 128) (omega arith) (words_by_runs blocks)
 
-  last_read : (me : ℕ) (place : Place) (v : Version) (said : Spoken) (new : Service) (more : ℕ) (next : List ℕ → Plan)
-      (j : Job) → Reads me place v (more + 1) 128 j → length v.file.body ≤ longest → more * 128 < length v.file.body
+  last_read : (me : ℕ) (place : Place) (v : SpecVersion) (said : Spoken) (new : Service) (more : ℕ) (next : List ℕ → Plan)
+      (j : SpecJob) → Reads me place v (more + 1) 128 j → length v.file.body ≤ longest → more * 128 < length v.file.body
       → length v.file.body ≤ (more + 1) * 128
       → Comes pack (Serving (at s j)) (types_last moment (more + 1) (size_word (length v.file.body)) next) said new
       → IsLineRefused s.files said new
-      ⊎ ((j' : Job) × IsJob me j' × ((n : ℕ) × (channel_at j' 1 ≡ Some (reading place v n)))
+      ⊎ ((j' : SpecJob) × IsJob me j' × ((n : ℕ) × (channel_at j' 1 ≡ Some (reading place v n)))
       × Comes pack (Serving (at s j')) (next (drop (more * 128) v.file.body)) said new)
   last_read me place v said new more next j is fits low high come =
       ⊎_elim inl (λ (j1, (is1, (k1, first1), second1, named1), c1). ⊎_elim inl
       (λ (t, all, same, rest). inr (behind j1 is1 k1 first1 t all rest))
       (each_done pack (at s j1) moment (last_taken moment count (more + 1))
       (fetches moment count block_address next) said
-      new (all_append IsQuiet (lists count) (goes_to moment (more + 1) ∷ takes moment ∷ [])
+      new (all_append IsQuiet (list_events count) (useti_event moment (more + 1) ∷ in_event moment ∷ [])
       (quiet_deposits (list_pair count) list_words) (tt, (tt, tt))) c1))
       (sizes_done pack s j0 there moment me place v more (λ count. each moment (last_taken moment count (more + 1))
       (fetches moment count block_address next)) said new j is.whole (more + 1) is.first is.named fits low high come)
@@ -204,13 +205,13 @@ module _ (pack : Pack) (s : State) (j0 : Job) (there : job_at s 1 ≡ Some j0) (
       count : ℕ
       count = length v.file.body - more * 128
 
-      behind : (j1 : Job) → IsJob me j1 → (k : ℕ) → channel_at j1 1 ≡ Some (reading place v k)
+      behind : (j1 : SpecJob) → IsJob me j1 → (k : ℕ) → channel_at j1 1 ≡ Some (reading place v k)
           → (t : State) → AllDone pack (at s j1) (last_taken moment count (more + 1)) t
           → Comes pack (Serving t) (fetches moment count block_address next) said new
-          → (j' : Job) × IsJob me j' × ((n : ℕ) × (channel_at j' 1 ≡ Some (reading place v n)))
+          → (j' : SpecJob) × IsJob me j' × ((n : ℕ) × (channel_at j' 1 ≡ Some (reading place v n)))
           × Comes pack (Serving (at s j')) (next (drop (more * 128) v.file.body)) said new
       behind j1 is1 k first1 t all rest =
-          let parts = split_done pack (at s j1) (lists count) (goes_to moment (more + 1) ∷ takes moment ∷ []) t all in
+          let parts = split_done pack (at s j1) (list_events count) (useti_event moment (more + 1) ∷ in_event moment ∷ []) t all in
           let core = after_writes j1.core (placed list_words (list_pair count)) in
           let j2 = with_core j1 core in
           let is2 : IsJob me j2 =
@@ -218,7 +219,7 @@ module _ (pack : Pack) (s : State) (j0 : Job) (there : job_at s 1 ≡ Some j0) (
           let to2 = deposits_done pack s j0 there (list_pair count) j1 list_words parts.0 parts.1 in
           let j3 = with_open j2 1 (reading place v (more + 1)) in
           let to3 : parts.2.0 ≡ at s j3 = goes_done pack s j0 there moment j2 place v (more + 1) k parts.2.0 first1
-          (subst (λ u. Steps pack u (goes_to moment (more + 1)) Done parts.2.0) to2 parts.2.1) in
+          (subst (λ u. Steps pack u (useti_event moment (more + 1)) Done parts.2.0) to2 parts.2.1) in
           let is3 : Reads me place v (more + 1) count j3 = record {
             whole = job_open me j2 1 (reading place v (more + 1)) is2;
             first = at_own j2 me 1 (reading place v (more + 1)) is2 (omega arith);
@@ -227,7 +228,7 @@ module _ (pack : Pack) (s : State) (j0 : Job) (there : job_at s 1 ≡ Some j0) (
           let taking = parts.2.2 in
           let d = blocks_taken me place v more 1 count j3 taking.0 is3 (omega arith) (omega arith)
           (one_block count (omega arith) (omega arith)) (omega arith)
-          (subst (λ u. Steps pack u (takes moment) Done taking.0) to3 taking.1) in
+          (subst (λ u. Steps pack u (in_event moment) Done taking.0) to3 taking.1) in
           let all_words : take count (drop (more * 128) v.file.body) ≡ drop (more * 128) v.file.body =
           take_all count (drop (more * 128) v.file.body) (omega (arith, length-drop (more * 128) v.file.body)) in
           let got = fetched pack s j0 there moment count d.0 block_address next said new
@@ -240,12 +241,12 @@ module _ (pack : Pack) (s : State) (j0 : Job) (there : job_at s 1 ≡ Some j0) (
             subst (λ ws. Comes pack (Serving (at s d.0)) (next ws) said new) (d.3 ∙ all_words) got,
           )
 
-  body_read : (me : ℕ) (place : Place) (v : Version) (said : Spoken) (new : Service) (blocks : ℕ)
-      (next : List ℕ → Plan) (j : Job) → Reads me place v 1 128 j → length v.file.body ≤ longest
+  body_read : (me : ℕ) (place : Place) (v : SpecVersion) (said : Spoken) (new : Service) (blocks : ℕ)
+      (next : List ℕ → Plan) (j : SpecJob) → Reads me place v 1 128 j → length v.file.body ≤ longest
       → blocks ≡ blocks_of (length v.file.body)
       → Comes pack (Serving (at s j)) (types_body moment blocks (size_word (length v.file.body)) next) said new
       → IsLineRefused s.files said new
-      ⊎ ((j' : Job) × IsJob me j' × ((n : ℕ) × (channel_at j' 1 ≡ Some (reading place v n)))
+      ⊎ ((j' : SpecJob) × IsJob me j' × ((n : ℕ) × (channel_at j' 1 ≡ Some (reading place v n)))
       × Comes pack (Serving (at s j')) (next v.file.body) said new)
   body_read me place v said new zero next j is fits count come =
       inr (
@@ -293,8 +294,8 @@ pub reads_are_exact : (pack : Pack) (moment : Moment) (me : ℕ) (s : State) (en
     → IsPrinted me s encoding spec said new ⊎ IsLineRefused s.files said new
 reads_are_exact pack moment me s encoding spec said new ready few short come = ⊎_elim inr
     (λ (t, all, same, rest). begun t all rest)
-    (each_done pack s moment (finds moment spec ++ lists 128) rests said new
-    (all_append IsQuiet (finds moment spec) (lists 128) (quiet_finds moment spec)
+    (each_done pack s moment (lookup_events moment spec ++ list_events 128) rests said new
+    (all_append IsQuiet (lookup_events moment spec) (list_events 128) (quiet_finds moment spec)
     (quiet_deposits (list_pair 128) list_words)) come)
   where
     closing : List ℕ → Plan
@@ -303,13 +304,13 @@ reads_are_exact pack moment me s encoding spec said new ready few short come = �
     rests : Plan
     rests = examines moment (file_words + 3) (λ size. types_body moment (blocks_said size) size closing)
 
-    j0 : Job
+    j0 : SpecJob
     j0 = ready.job
 
     whole : IsJob me j0
     whole = record { owner = ready.owner; core = ready.core; channels = ready.channels }
 
-    finished : (v : Version) → file_at s.files (place_of me spec) ≡ Some v → (j : Job) → IsJob me j
+    finished : (v : SpecVersion) → file_at s.files (place_of me spec) ≡ Some v → (j : SpecJob) → IsJob me j
         → ((n : ℕ) × (channel_at j 1 ≡ Some (reading (place_of me spec) v n)))
         → Comes pack (Serving (at s j)) (closing v.file.body) said new
         → IsPrinted me s encoding spec said new ⊎ IsLineRefused s.files said new
@@ -323,19 +324,19 @@ reads_are_exact pack moment me s encoding spec said new ready few short come = �
             → IsPrinted me s encoding spec said new
         shown (e, (after, serves, files)) = ((v, found, e), subst (HasFiles s.files) (sym serves) files)
 
-    begun : (t : State) → AllDone pack s (finds moment spec ++ lists 128) t → Comes pack (Serving t) rests said new
+    begun : (t : State) → AllDone pack s (lookup_events moment spec ++ list_events 128) t → Comes pack (Serving t) rests said new
         → IsPrinted me s encoding spec said new ⊎ IsLineRefused s.files said new
     begun t all rest =
         let there = ready.logged_in in
-        let both = split_done pack (at s j0) (finds moment spec) (lists 128) t
-        (subst (λ u. AllDone pack u (finds moment spec ++ lists 128) t) (at_home s j0 there) all) in
+        let both = split_done pack (at s j0) (lookup_events moment spec) (list_events 128) t
+        (subst (λ u. AllDone pack u (lookup_events moment spec ++ list_events 128) t) (at_home s j0 there) all) in
         let f : Found s me spec j0 both.0 = finds_done pack s j0 there moment me j0 spec both.0 whole few both.1 in
         let core = after_writes f.job.core (placed list_words (list_pair 128)) in
         let j = with_core f.job core in
         let is : IsJob me j = job_core me f.job core f.whole
         (writes_length f.job.core (placed list_words (list_pair 128))) in
         let to_j : t ≡ at s j = deposits_done pack s j0 there (list_pair 128) f.job list_words t
-        (subst (λ u. AllDone pack u (lists 128) t) f.is both.2) in
+        (subst (λ u. AllDone pack u (list_events 128) t) f.is both.2) in
         let v = f.version in
         let size : slice_index core (file_words + 3) ≡ size_word (length v.file.body) =
         spared f.job.core list_words (list_pair 128) (file_words + 3) (inl (omega arith)) ∙ f.size in

@@ -6,9 +6,9 @@ use Rattle.std.proofs.Math.ListN.{length-set}
 use Rattle.std.proofs.lemmas.Bool.{eqb-true, eq-eqb}
 use Rattle.words36.specs.Common.{left, join}
 use Rattle.words36.specs.declared.moment.Moment.{Moment}
-use Rattle.spec_image.specs.Common.{insert, remove, Files, Place, Version, file_at, blocks_of, Pack, files_limited}
+use Rattle.spec_image.specs.Common.{insert, remove, Files, Place, SpecVersion, file_at, blocks_of, Pack, files_limited}
 use Rattle.spec_machine.specs.Common.{after_writes, with_right, first_free, rings_begin, lies_outside, dealt, joined}
-use Rattle.spec_machine.specs.Common.{Channel, Job, State, job_at, channel_at, with_job, with_channel, cleared}
+use Rattle.spec_machine.specs.Common.{Channel, SpecJob, State, job_at, channel_at, with_job, with_channel, cleared}
 use Rattle.spec_machine.specs.Common.{settled, clean, stopped_in, refused_at, opens, open_answer, open_done}
 use Rattle.spec_machine.specs.Common.{core_opened, channel_opened, header_opened, mode_at, output_header_at}
 use Rattle.spec_machine.specs.Common.{input_header_at, ring_answer, ring_made, core_or, lookup_answer, lookup_done}
@@ -86,15 +86,15 @@ core_or_long core None h = refl
 core_or_long core (Some after) h = h
 
 -- Jobs that are alike.
-pub record Alike (job j : Job) : Type 0 where
+pub record Alike (job j : SpecJob) : Type 0 where
   pub owner : j.ppn ≡ job.ppn
   pub core : length j.core ≡ length job.core
   pub channels : length job.channels ≡ 16 → length j.channels ≡ 16
 
-itself : (job : Job) → Alike job job
+itself : (job : SpecJob) → Alike job job
 itself job = record { owner = refl; core = refl; channels = λ e. e }
 
-alike_with : (job : Job) (core : List ℕ) (ch : ℕ) (c : Option Channel) → length core ≡ length job.core
+alike_with : (job : SpecJob) (core : List ℕ) (ch : ℕ) (c : Option Channel) → length core ≡ length job.core
     → Alike job (with_channel (record job { core = core }) ch c)
 alike_with job core ch c e = record {
   owner = refl;
@@ -102,10 +102,10 @@ alike_with job core ch c e = record {
   channels = λ all. length-set job.channels ch c ∙ all;
 }
 
-alike_core : (job : Job) (core : List ℕ) → length core ≡ length job.core → Alike job (record job { core = core })
+alike_core : (job : SpecJob) (core : List ℕ) → length core ≡ length job.core → Alike job (record job { core = core })
 alike_core job core e = record { owner = refl; core = e; channels = λ all. all }
 
-refused_job : (job : Job) (e : ℕ) (r : Reply) → Alike job (refused_at job e r)
+refused_job : (job : SpecJob) (e : ℕ) (r : Reply) → Alike job (refused_at job e r)
 refused_job job e Done = itself job
 refused_job job e (Value w) = itself job
 refused_job job e (Refused code) = alike_core job (with_right job.core (e + 1) code) (length-set job.core (e + 1) _)
@@ -118,27 +118,27 @@ refused_job job e Device = itself job
 refused_job job e Failed = itself job
 refused_job job e DateRange = itself job
 
-module _ (pack : Pack) (serial : ℕ) (s : State) (n : ℕ) (job : Job) (there : job_at s n ≡ Some job) where
+module _ (pack : Pack) (serial : ℕ) (s : State) (n : ℕ) (job : SpecJob) (there : job_at s n ≡ Some job) where
   abbrev Keeps : State → Type 0
-  Keeps t = (j : Job) × (job_at t n ≡ Some j) × Alike job j
+  Keeps t = (j : SpecJob) × (job_at t n ≡ Some j) × Alike job j
 
   stays : Keeps s
   stays = (job, there, itself job)
 
-  by_record : (files : Files Version) (j : Job) → Alike job j
+  by_record : (files : Files SpecVersion) (j : SpecJob) → Alike job j
       → Keeps (record s { files = files; jobs = slice_set s.jobs n (Some j) })
   by_record files j alike = (j, slot-set_same s.jobs n j job there, alike)
 
-  by_row : (reply : Reply) (done : Job) (other : Reply → Job) → Alike job done → ((r : Reply) → Alike job (other r))
+  by_row : (reply : Reply) (done : SpecJob) (other : Reply → SpecJob) → Alike job done → ((r : Reply) → Alike job (other r))
       → Keeps (of_job s n (settled reply done other)).1
   by_row reply done other d o = settled_by (λ r. Keeps (of_job s n r).1) reply done other
       (λ is. by_record s.files done d) (λ differs. by_record s.files (other reply) (o reply))
 
-  by_files : (reply : Reply) (done : Job) (files : Files Version) (other : Reply → Job) → Alike job done
+  by_files : (reply : Reply) (done : SpecJob) (files : Files SpecVersion) (other : Reply → SpecJob) → Alike job done
       → ((r : Reply) → Alike job (other r))
       → Keeps (of_files s n (settled reply (done, files) (λ r. (other r, s.files)))).1
   by_files reply done files other d o =
-      settled_by {A = Job × Files Version} (λ r. Keeps (of_files s n r).1) reply (done, files) (λ r. (other r, s.files))
+      settled_by {A = SpecJob × Files SpecVersion} (λ r. Keeps (of_files s n r).1) reply (done, files) (λ r. (other r, s.files))
       (λ is. by_record files done d) (λ differs. by_record s.files (other reply) (o reply))
 
   stopped_alike : (ch : ℕ) (c : Channel) (r : Reply) → Alike job (stopped_in job ch c r)
@@ -148,7 +148,7 @@ module _ (pack : Pack) (serial : ℕ) (s : State) (n : ℕ) (job : Job) (there :
   refused_alike : (e : ℕ) (r : Reply) → Alike job (refused_at job e r)
   refused_alike = refused_job job
 
-  found_alike : (ch e : ℕ) (c : Channel) (place : Place) (found : Option Version)
+  found_alike : (ch e : ℕ) (c : Channel) (place : Place) (found : Option SpecVersion)
       → Alike job (looked_up pack job ch c e place found)
   found_alike ch e c place None = itself job
   found_alike ch e c place (Some v) = alike_with job
@@ -302,7 +302,7 @@ module _ (pack : Pack) (serial : ℕ) (s : State) (n : ℕ) (job : Job) (there :
 
 -- Job 1 stays ready.
 
-keeps_ready : (me : ℕ) (t : State) (job j : Job) → job.ppn ≡ me → length job.core ≡ core_words
+keeps_ready : (me : ℕ) (t : State) (job j : SpecJob) → job.ppn ≡ me → length job.core ≡ core_words
     → length job.channels ≡ 16 → job_at t 1 ≡ Some j → Alike job j → IsJobReady t me
 keeps_ready me t job j owner core channels at alike = record {
   job = j;
@@ -317,7 +317,7 @@ module _ (pack : Pack) (serial : ℕ) (s : State) (me : ℕ) (ready : IsJobReady
   own_if true r h = ready
   own_if false r h = h
 
-  own_job : (row : Job → Reply × State) → IsJobReady (row ready.job).1 me → IsJobReady (on_job s (job_at s 1) row).1 me
+  own_job : (row : SpecJob → Reply × State) → IsJobReady (row ready.job).1 me → IsJobReady (on_job s (job_at s 1) row).1 me
   own_job row h = subst (λ o. IsJobReady (on_job s o row).1 me) (sym ready.logged_in) h
 
   own_event : (event : Event) → asks_for_login event ≡ false → job_of event ≡ 1
@@ -341,7 +341,7 @@ module _ (pack : Pack) (serial : ℕ) (s : State) (me : ℕ) (ready : IsJobReady
       (own_if (nat_lt (last_date pack.layout) moment.date) _ (own_job (λ job. call_of pack serial s 1 job call moment)
       (kept (call_keeps pack serial s 1 ready.job ready.logged_in call moment))))
     where
-      kept : (j : Job) × (job_at (call_of pack serial s 1 ready.job call moment).1 1 ≡ Some j) × Alike ready.job j
+      kept : (j : SpecJob) × (job_at (call_of pack serial s 1 ready.job call moment).1 1 ≡ Some j) × Alike ready.job j
           → IsJobReady (call_of pack serial s 1 ready.job call moment).1 me
       kept (j, at, alike) = keeps_ready me (call_of pack serial s 1 ready.job call moment).1 ready.job j ready.owner
           ready.core ready.channels at alike

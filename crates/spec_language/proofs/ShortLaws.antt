@@ -4,11 +4,12 @@ use Rattle.std.proofs.Common.{Option, Some, None, refl, sym, ap, subst, ◌∙�
 use Rattle.std.specs.Prelude.{nat_lt, nat_le, ◌==◌, ◌&&◌, not, slice_set, option_map}
 use Rattle.std.proofs.lemmas.Bool.Decides.{nat_tests}
 use Rattle.words36.specs.declared.moment.Moment.{Moment}
-use Rattle.spec_image.specs.Common.{get, insert, remove, Files, File, Directory, Place, map_directory, Version}
+use Rattle.spec_image.specs.Common.{get, insert, remove, Files, File, Directory, Place, map_directory, SpecVersion}
 use Rattle.spec_image.specs.Common.{file_at, file_in, without_serials, without_file, with_protection, splice}
 use Rattle.spec_image.specs.Common.{length_after, Pack, blocks_of, files_limited, Stands, StoredFile, StoredDirectory}
 use Rattle.spec_image.specs.Common.{directory_of}
-use Rattle.spec_machine.specs.Common.{Channel, Input, Output, Update, Append, Job, State, job_at, channel_at}
+use Rattle.spec_machine.specs.Common.{Channel, SpecInput, SpecOutput, Update, Append, SpecJob, State, job_at}
+use Rattle.spec_machine.specs.Common.{channel_at}
 use Rattle.spec_machine.specs.Common.{with_job, with_channel, slot, output_of, settled, clean, stopped_in, refused_at}
 use Rattle.spec_machine.specs.Common.{opens, open_answer, open_done, ring_answer, ring_made, core_or, core_opened}
 use Rattle.spec_machine.specs.Common.{channel_opened, after_writes, lookup_answer, lookup_done, looked_up, place_at}
@@ -44,22 +45,22 @@ use Rattle.std.specs.Cmp.{nat_cmp_total}
 
 -- Sides and jobs that write nothing longer.
 
-abbrev pub ShortSide : Option Output → Type 0
-ShortSide side = (o : Output) → side ≡ Some o → length o.pending.body ≤ longest
+abbrev pub ShortSide : Option SpecOutput → Type 0
+ShortSide side = (o : SpecOutput) → side ≡ Some o → length o.pending.body ≤ longest
 
-abbrev pub ShortJob : Job → Type 0
+abbrev pub ShortJob : SpecJob → Type 0
 ShortJob job = (ch : ℕ) → ShortSide (output_of (channel_at job ch))
 
 pub nothing : ShortSide None
 nothing o e = let wrong : None ≡ Some o = e in cc
 
-pub short_with : (job : Job) → ShortJob job → (core : List ℕ) (ch : ℕ) (c : Option Channel) → ShortSide (output_of c)
+pub short_with : (job : SpecJob) → ShortJob job → (core : List ℕ) (ch : ℕ) (c : Option Channel) → ShortSide (output_of c)
     → ShortJob (with_channel (record job { core = core }) ch c)
 short_with job own core ch c side k o is = ⊎_elim
     (λ here. side o (ap output_of (sym here.0) ∙ is))
     (λ other. own k o (ap output_of (sym other) ∙ is)) (slot-set_cases job.channels ch k c)
 
-pub short_state : (s : State) → IsShort s → (n : ℕ) (job : Job) (files : Files Version) → AreShort files → ShortJob job
+pub short_state : (s : State) → IsShort s → (n : ℕ) (job : SpecJob) (files : Files SpecVersion) → AreShort files → ShortJob job
     → IsShort (record s { files = files; jobs = slice_set s.jobs n (Some job) })
 short_state s short n job files few own = record {
   files = few;
@@ -92,7 +93,7 @@ placed_few count len after b c d none few same = by (count == 0) refl
 none_after : (len next count : ℕ) → count ≡ 0 → length_after len next count ≡ len
 none_after len next count e = rw e refl
 
-pub put_short : (pack : Pack) (s : State) (o : Output) (words : List ℕ) → finds_no_place pack s o (length words) ≡ false
+pub put_short : (pack : Pack) (s : State) (o : SpecOutput) (words : List ℕ) → finds_no_place pack s o (length words) ≡ false
     → length o.pending.body ≤ longest → length (splice o.pending.body o.next words) ≤ longest
 put_short pack s o words none few =
     omega (
@@ -105,7 +106,7 @@ put_short pack s o words none few =
 
 -- An OUT that is done, and the last words of a CLOSE.
 
-put_fits : (pack : Pack) (s : State) (c : Channel) (side : Option Output) (found : Option Outgoing) (o : Output)
+put_fits : (pack : Pack) (s : State) (c : Channel) (side : Option SpecOutput) (found : Option Outgoing) (o : SpecOutput)
     (f : Outgoing) → put_answer pack s c side found ≡ Done → side ≡ Some o → found ≡ Some f
     → finds_no_place pack s o (length f.words) ≡ false
 put_fits pack s c None found o f e is at = let wrong : None ≡ Some o = is in cc
@@ -116,29 +117,29 @@ put_fits pack s c (Some p) (Some g) o f e is at =
     subst (λ q. finds_no_place pack s q (length f.words) ≡ false) (some_same is)
     (subst (λ (q : Outgoing). finds_no_place pack s p (length q.words) ≡ false) (some_same at) h)
 
-put_side : (pack : Pack) (s : State) (side : Option Output) (words : List ℕ) → ShortSide side
-    → ((o : Output) → side ≡ Some o → finds_no_place pack s o (length words) ≡ false) → ShortSide (put_on side words)
+put_side : (pack : Pack) (s : State) (side : Option SpecOutput) (words : List ℕ) → ShortSide side
+    → ((o : SpecOutput) → side ≡ Some o → finds_no_place pack s o (length words) ≡ false) → ShortSide (put_on side words)
 put_side pack s None words few fits = nothing
 put_side pack s (Some p) words few fits = λ o is.
-    subst (λ (q : Output). length q.pending.body ≤ longest) (some_same is)
+    subst (λ (q : SpecOutput). length q.pending.body ≤ longest) (some_same is)
     (put_short pack s p words (fits p refl) (few p refl))
 
-last_fits : (pack : Pack) (s : State) (c : Channel) (side : Option Output) (last : Option (List ℕ))
-    → last_answer pack s c side last ≡ Done → (o : Output) → side ≡ Some o
+last_fits : (pack : Pack) (s : State) (c : Channel) (side : Option SpecOutput) (last : Option (List ℕ))
+    → last_answer pack s c side last ≡ Done → (o : SpecOutput) → side ≡ Some o
     → finds_no_place pack s o (length (words_or_none last)) ≡ false
 last_fits pack s c None last e o is = let wrong : None ≡ Some o = is in cc
 last_fits pack s c (Some p) None e o is = let wrong : AddressCheck ≡ Done = e in cc
 last_fits pack s c (Some p) (Some words) e o is =
     subst (λ q. finds_no_place pack s q (length words) ≡ false) (some_same is) (placed_needs pack s c p words e)
 
-published_short : (serial : ℕ) (files : Files Version) (side : Option Output) → AreShort files → ShortSide side
+published_short : (serial : ℕ) (files : Files SpecVersion) (side : Option SpecOutput) → AreShort files → ShortSide side
     → AreShort (files_with files serial side)
 published_short serial files None few short = few
 published_short serial files (Some o) few short = λ q w is. ⊎_elim (few q w)
-    (λ same. subst (λ (x : Version). length x.file.body ≤ longest) (sym same) (short o refl))
+    (λ same. subst (λ (x : SpecVersion). length x.file.body ≤ longest) (sym same) (short o refl))
     (found_with_file files o.place (published serial o) q w is)
 
-closed_short : (pack : Pack) (serial : ℕ) (s : State) (job : Job) (c : Channel) (bits : ℕ) → AreShort s.files
+closed_short : (pack : Pack) (serial : ℕ) (s : State) (job : SpecJob) (c : Channel) (bits : ℕ) → AreShort s.files
     → ShortSide c.output → close_answer pack s job c bits ≡ Done → AreShort (files_closed serial s.files job c bits)
 closed_short pack serial s job c bits few short e = by (publishes c bits) refl
   where
@@ -152,15 +153,15 @@ closed_short pack serial s job c bits few short e = by (publishes c bits) refl
 
 -- Files that a RENAME and a removal leave.
 
-moved_short : (files : Files Version) (old new : Place) (protection : ℕ) (found : Option Version)
+moved_short : (files : Files SpecVersion) (old new : Place) (protection : ℕ) (found : Option SpecVersion)
     → file_at files old ≡ found → AreShort files → AreShort (files_moved files old new protection found)
 moved_short files old new protection None e few = few
 moved_short files old new protection (Some v) e few = λ q w is. ⊎_elim
     (λ was. few q w (found_without_file files old q w was))
-    (λ same. subst (λ (x : Version). length x.file.body ≤ longest) (sym same) (few old v e))
+    (λ same. subst (λ (x : SpecVersion). length x.file.body ≤ longest) (sym same) (few old v e))
     (found_with_file (without_file files old) new (with_protection v protection) q w is)
 
-from_short : (files : Files Version) (job : Job) (e : ℕ) (old : Place) → AreShort files
+from_short : (files : Files SpecVersion) (job : SpecJob) (e : ℕ) (old : Place) → AreShort files
     → AreShort (files_from files job e old)
 from_short files job e old few = by (deletes_at job e)
   where
@@ -169,17 +170,17 @@ from_short files job e old few = by (deletes_at job e)
     by true = λ q w is. few q w (found_without_file files old q w is)
     by false = moved_short files old (place_at job e) (protection_at job e) (file_at files old) refl few
 
-renamed_short : (files : Files Version) (job : Job) (e : ℕ) (input : Option Input) → AreShort files
+renamed_short : (files : Files SpecVersion) (job : SpecJob) (e : ℕ) (input : Option SpecInput) → AreShort files
     → AreShort (files_renamed files job e input)
 renamed_short files job e None few = few
 renamed_short files job e (Some i) few = from_short files job e i.place few
 
 -- What an ENTER opens.
-updating_short : (digit : ℕ) (place : Place) (v : Version) → length v.file.body ≤ longest
+updating_short : (digit : ℕ) (place : Place) (v : SpecVersion) → length v.file.body ≤ longest
     → length (output_updating digit place v).pending.body ≤ longest
 updating_short digit place v few = by (may_update digit)
   where
-    either : Bool → Output
+    either : Bool → SpecOutput
     either b = if b then record { place = place; kind = Update; pending = v.file; next = 1 }
         else record {
           place = place;
@@ -192,15 +193,15 @@ updating_short digit place v few = by (may_update digit)
     by true = few
     by false = few
 
-opened_short : (files : Files Version) (job : Job) (c : Channel) (e : ℕ) (moment : Moment) (place : Place) (digit : ℕ)
-    (input : Option Input) (found : Option Version) → file_at files place ≡ found → AreShort files
+opened_short : (files : Files SpecVersion) (job : SpecJob) (c : Channel) (e : ℕ) (moment : Moment) (place : Place) (digit : ℕ)
+    (input : Option SpecInput) (found : Option SpecVersion) → file_at files place ≡ found → AreShort files
     → length (output_opened job c e moment place digit input found).pending.body ≤ longest
 opened_short files job c e moment place digit input None is few = omega arith
 opened_short files job c e moment place digit None (Some v) is few = omega arith
 opened_short files job c e moment place digit (Some i) (Some v) is few = updating_short digit place v (few place v is)
 
 -- The rows of one job.
-module _ (pack : Pack) (serial : ℕ) (s : State) (short : IsShort s) (n : ℕ) (job : Job) (there : job_at s n
+module _ (pack : Pack) (serial : ℕ) (s : State) (short : IsShort s) (n : ℕ) (job : SpecJob) (there : job_at s n
     ≡ Some job) where
   own : ShortJob job
   own ch o is = short.pending n ch o (ap (output_for ch) there ∙ is)
@@ -208,11 +209,11 @@ module _ (pack : Pack) (serial : ℕ) (s : State) (short : IsShort s) (n : ℕ) 
   side_of : (ch : ℕ) (c : Channel) → channel_at job ch ≡ Some c → ShortSide c.output
   side_of ch c is o e = own ch o (ap output_of is ∙ e)
 
-  by_job : (j : Job) → ShortJob j → IsShort (of_job s n (Done, j)).1
+  by_job : (j : SpecJob) → ShortJob j → IsShort (of_job s n (Done, j)).1
   by_job j few = short_state s short n j s.files short.files few
 
-  -- of a settled row that changes its own job alone
-  by_row : (reply : Reply) (done : Job) (other : Reply → Job) → (reply ≡ Done → ShortJob done)
+  -- of a settled row that changes only its own job
+  by_row : (reply : Reply) (done : SpecJob) (other : Reply → SpecJob) → (reply ≡ Done → ShortJob done)
       → ((r : Reply) → ShortJob (other r)) → IsShort (of_job s n (settled reply done other)).1
   by_row reply done other d o = settled_by (λ r. IsShort (of_job s n r).1) reply done other
       (λ is. by_job done (d is)) (λ differs. by_job (other reply) (o reply))
@@ -224,7 +225,7 @@ module _ (pack : Pack) (serial : ℕ) (s : State) (short : IsShort s) (n : ℕ) 
   refused_short : (e : ℕ) (r : Reply) → ShortJob (refused_at job e r)
   refused_short e r = refused_by ShortJob job e r (λ core. own)
 
-  found_short : (ch e : ℕ) (c : Channel) (place : Place) (found : Option Version) → channel_at job ch ≡ Some c
+  found_short : (ch e : ℕ) (c : Channel) (place : Place) (found : Option SpecVersion) → channel_at job ch ≡ Some c
       → ShortJob (looked_up pack job ch c e place found)
   found_short ch e c place None is = own
   found_short ch e c place (Some v) is = short_with job own
@@ -241,20 +242,20 @@ module _ (pack : Pack) (serial : ℕ) (s : State) (short : IsShort s) (n : ℕ) 
           (put_side pack s c.output f.words (side_of ch c is)
           (λ o at. put_fits pack s c c.output (outgoing job c a) o f done at e))
 
-  at_short : (side : Option Output) (k : ℕ) → ShortSide side → ShortSide (output_at side k)
+  at_short : (side : Option SpecOutput) (k : ℕ) → ShortSide side → ShortSide (output_at side k)
   at_short None k few = nothing
-  at_short (Some o) k few = λ p is. subst (λ (q : Output). length q.pending.body ≤ longest) (some_same is) (few o refl)
+  at_short (Some o) k few = λ p is. subst (λ (q : SpecOutput). length q.pending.body ≤ longest) (some_same is) (few o refl)
 
-  by_files : (reply : Reply) (done : Job) (files : Files Version) (other : Reply → Job)
+  by_files : (reply : Reply) (done : SpecJob) (files : Files SpecVersion) (other : Reply → SpecJob)
       → (reply ≡ Done → ShortJob done × AreShort files) → ((r : Reply) → ShortJob (other r))
       → IsShort (of_files s n (settled reply (done, files) (λ r. (other r, s.files)))).1
   by_files reply done files other d o =
-      settled_by {A = Job × Files Version} (λ r. IsShort (of_files s n r).1) reply (done, files)
+      settled_by {A = SpecJob × Files SpecVersion} (λ r. IsShort (of_files s n r).1) reply (done, files)
       (λ r. (other r, s.files))
       (λ is. let both = d is in short_state s short n done files both.1 both.0)
       (λ differs. short_state s short n (other reply) s.files short.files (o reply))
 
-  kept_side : (keeps : Bool) (side : Option Output) → ShortSide side → ShortSide (if keeps then side else None)
+  kept_side : (keeps : Bool) (side : Option SpecOutput) → ShortSide side → ShortSide (if keeps then side else None)
   kept_side true side few = few
   kept_side false side few = nothing
 
@@ -265,7 +266,7 @@ module _ (pack : Pack) (serial : ℕ) (s : State) (short : IsShort s) (n : ℕ) 
       let o = output_opened job c e moment place (digit_at s job place) c.input (file_at s.files place) in
       short_with job own (with_attributes pack.layout job.core e o.pending) ch
       (Some (record (clean c) { input = input_updating c.input (file_at s.files place); output = Some o }))
-      (λ p is. subst (λ (q : Output). length q.pending.body ≤ longest) (some_same is)
+      (λ p is. subst (λ (q : SpecOutput). length q.pending.body ≤ longest) (some_same is)
       (opened_short s.files job c e moment place (digit_at s job place) c.input
       (file_at s.files place) refl short.files))
 
@@ -362,8 +363,8 @@ module _ (pack : Pack) (serial : ℕ) (s : State) (short : IsShort s) (n : ℕ) 
 
 -- Events and runs.
 
-short_on_job : (s : State) → IsShort s → (row : Job → Reply × State) (o : Option Job)
-    → ((job : Job) → o ≡ Some job → IsShort (row job).1) → IsShort (on_job s o row).1
+short_on_job : (s : State) → IsShort s → (row : SpecJob → Reply × State) (o : Option SpecJob)
+    → ((job : SpecJob) → o ≡ Some job → IsShort (row job).1) → IsShort (on_job s o row).1
 short_on_job s short row None h = short
 short_on_job s short row (Some job) h = h job refl
 
@@ -425,14 +426,14 @@ standing_short size contents files (settled, is, (m, has, same)) ppn d name f at
 with_files_short : (s : State) → HasShortFiles (without_serials s.files) → AreShort s.files
 with_files_short s few place v is = at (get s.files place.ppn) refl is
   where
-    at : (o : Option (Directory Version)) → get s.files place.ppn ≡ o → file_in o place.name ≡ Some v
+    at : (o : Option (Directory SpecVersion)) → get s.files place.ppn ≡ o → file_in o place.name ≡ Some v
         → length v.file.body ≤ longest
     at None e h = let wrong : None ≡ Some v = h in cc
-    at (Some d) e h = few place.ppn (map_directory (λ (w : Version). w.file) d) place.name v.file
-        (get-map_values nat_cmp_total (map_directory (λ (w : Version). w.file)) s.files place.ppn
-        ∙ ap (option_map (map_directory (λ (w : Version). w.file))) e)
-        (get-map_values name_total (λ (w : Version). w.file) d.files place.name
-        ∙ ap (option_map (λ (w : Version). w.file)) h)
+    at (Some d) e h = few place.ppn (map_directory (λ (w : SpecVersion). w.file) d) place.name v.file
+        (get-map_values nat_cmp_total (map_directory (λ (w : SpecVersion). w.file)) s.files place.ppn
+        ∙ ap (option_map (map_directory (λ (w : SpecVersion). w.file))) e)
+        (get-map_values name_total (λ (w : SpecVersion). w.file) d.files place.name
+        ∙ ap (option_map (λ (w : SpecVersion). w.file)) h)
 
 start_short : (found : Files File) (s : State) → HasShortFiles found → IsStart found s → IsShort s
 start_short found s few start = record {

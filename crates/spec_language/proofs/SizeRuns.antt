@@ -1,4 +1,4 @@
--- How long a body is: by the word behind its name, or by the words of its last block, of which two INs tell them.
+-- How long a body is: by the word of its LOOKUP, or by the words of its last block, which two INs determine.
 use Rattle.std.proofs.Common.{◌≡◌, ◌⊎◌, inl, inr, ⊎_elim, ℕ, zero, suc, ◌+◌, ◌-◌, ◌*◌, ◌%◌, ◌^◌, ◌<◌, ◌≤◌, Bool, true}
 use Rattle.std.proofs.Common.{false, if◌then◌else◌, IsTrue, List, [], ◌∷◌, ◌++◌, length, take, drop, replicate, Some}
 use Rattle.std.proofs.Common.{refl, sym, ap, subst, ◌∙◌, arith}
@@ -9,12 +9,13 @@ use Rattle.std.proofs.lemmas.Bool.{eq-eqb}
 use Rattle.std.proofs.lemmas.Bool.Decides.{nat_tests}
 use Rattle.words36.specs.Common.{left, join}
 use Rattle.words36.specs.declared.moment.Moment.{Moment}
-use Rattle.spec_image.specs.Common.{Place, Version, blocks_of, words_from, block_start, Pack}
-use Rattle.spec_machine.specs.Common.{after_writes, placed, Job, State, job_at, channel_at, size_word, longest}
+use Rattle.spec_image.specs.Common.{Place, SpecVersion, blocks_of, words_from, block_start, Pack}
+use Rattle.spec_machine.specs.Common.{after_writes, placed, SpecJob, State, job_at, channel_at, size_word, longest}
 use Rattle.spec_machine.specs.Common.{Service, Serving, Broken, Answers, Steps, examine_answer, on_job}
 use Rattle.spec_language.specs.Texts.{Spoken}
 use Rattle.spec_language.specs.Plans.{Plan, examines, fetches, if_told, says_words, blocks_said, last_said}
-use Rattle.spec_language.specs.Plans.{same_words, takes_over, counts, sizes, takes, goes_to, deposits, block_address}
+use Rattle.spec_language.specs.Plans.{same_words, takes_over, counts, sizes, in_event, useti_event, deposit_events}
+use Rattle.spec_language.specs.Plans.{block_address}
 use Rattle.spec_language.specs.Plans.{list_words}
 use Rattle.spec_language.specs.Copies.{Comes, IsLineRefused}
 use Rattle.spec_machine.specs.declared.call.Event.TheVariants.{Examine}
@@ -104,18 +105,18 @@ same_laid ws = same_behind ws (drop (length ws) (replicate 128 0)) (drop (length
     zero_more : (n : ℕ) → n + 0 ≡ n
     zero_more n = omega arith
 
-pub quiet_deposits : (ws : List ℕ) (a : ℕ) → AllByRecursion IsQuiet (deposits a ws)
+pub quiet_deposits : (ws : List ℕ) (a : ℕ) → AllByRecursion IsQuiet (deposit_events a ws)
 quiet_deposits [] a = tt
 quiet_deposits (w ∷ ws) a = (tt, quiet_deposits ws (a + 1))
 
 -- job 1 with a version that it reads, and what was on channel 2
-abbrev pub Between : ℕ → Place → Version → Job → Job → Type 0
+abbrev pub Between : ℕ → Place → SpecVersion → SpecJob → SpecJob → Type 0
 Between me place v j j' = IsJob me j' × ((next : ℕ) × (channel_at j' 1 ≡ Some (reading place v next)))
     × (channel_at j' 2 ≡ channel_at j 2) × Lists 128 j'.core
 
--- Words of core that are examined.
-module _ (pack : Pack) (s : State) (j0 : Job) (there : job_at s 1 ≡ Some j0) (moment : Moment) where
-  pub told : (j : Job) (a : ℕ) (next : ℕ → Plan) (said : Spoken) (new : Service) → a < length j.core
+-- Words of the core that are examined.
+module _ (pack : Pack) (s : State) (j0 : SpecJob) (there : job_at s 1 ≡ Some j0) (moment : Moment) where
+  pub told : (j : SpecJob) (a : ℕ) (next : ℕ → Plan) (said : Spoken) (new : Service) → a < length j.core
       → Comes pack (Serving (at s j)) (examines moment a next) said new
       → Comes pack (Serving (at s j)) (next (slice_index j.core a)) said new
   told j a next said new small c = by (asked pack (Serving (at s j)) (Examine 1 a) (if_told moment next) said new c)
@@ -139,7 +140,7 @@ module _ (pack : Pack) (s : State) (j0 : Job) (there : job_at s 1 ≡ Some j0) (
           subst (λ (x : Reply × State). Comes pack (Serving x.1) (if_told moment next x.0) said new) (sym e) more
       by (reply, Serving t, inr (none, same, undecided, wants), more) = let wrong : IsTrue false = wants in cc
 
-  pub fetched : (count : ℕ) (j : Job) (a : ℕ) (next : List ℕ → Plan) (said : Spoken) (new : Service)
+  pub fetched : (count : ℕ) (j : SpecJob) (a : ℕ) (next : List ℕ → Plan) (said : Spoken) (new : Service)
       → a + count ≤ length j.core → Comes pack (Serving (at s j)) (fetches moment count a next) said new
       → Comes pack (Serving (at s j)) (next (window j.core a count)) said new
   unfolding fetches
@@ -151,16 +152,16 @@ module _ (pack : Pack) (s : State) (j0 : Job) (there : job_at s 1 ≡ Some j0) (
       subst (λ ws. Comes pack (Serving (at s j)) (next ws) said new)
       (sym (window-cons j.core a count (omega arith))) rest
 
-  -- Block n is taken over words that are all the same: these show behind the words of the version.
-  takes_over_done : (me : ℕ) (place : Place) (v : Version) (n word : ℕ) (next : List ℕ → Plan) (said : Spoken)
-      (new : Service) (j : Job) → IsJob me j → (k : ℕ) → channel_at j 1 ≡ Some (reading place v k) → Lists 128 j.core
+  -- Block n is taken over words that are all the same: these remain after the words of the version.
+  takes_over_done : (me : ℕ) (place : Place) (v : SpecVersion) (n word : ℕ) (next : List ℕ → Plan) (said : Spoken)
+      (new : Service) (j : SpecJob) → IsJob me j → (k : ℕ) → channel_at j 1 ≡ Some (reading place v k) → Lists 128 j.core
       → Comes pack (Serving (at s j)) (takes_over moment n word next) said new
       → IsLineRefused s.files said new
-      ⊎ ((j' : Job) × Between me place v j j' × Comes pack (Serving (at s j'))
+      ⊎ ((j' : SpecJob) × Between me place v j j' × Comes pack (Serving (at s j'))
       (next (laid (take 128 (words_from v.file.body n)) word)) said new)
   takes_over_done me place v n word next said new j is k first lists c = ⊎_elim inl (λ (t, all, same, more).
       inr (behind t all more)) (each_done pack (at s j) moment _ _ said new (all_append IsQuiet
-      (deposits block_address (replicate 128 word)) (goes_to moment n ∷ takes moment ∷ [])
+      (deposit_events block_address (replicate 128 word)) (useti_event moment n ∷ in_event moment ∷ [])
       (quiet_deposits (replicate 128 word) block_address) (tt, (tt, tt))) c)
     where
       ahead : List ℕ
@@ -168,13 +169,13 @@ module _ (pack : Pack) (s : State) (j0 : Job) (there : job_at s 1 ≡ Some j0) (
 
       behind : (t : State)
           → AllDone pack (at s j)
-          (deposits block_address (replicate 128 word) ++ goes_to moment n ∷ takes moment ∷ []) t
+          (deposit_events block_address (replicate 128 word) ++ useti_event moment n ∷ in_event moment ∷ []) t
           → Comes pack (Serving t) (fetches moment 128 block_address next) said new
-          → (j' : Job) × Between me place v j j' × Comes pack (Serving (at s j'))
+          → (j' : SpecJob) × Between me place v j j' × Comes pack (Serving (at s j'))
           (next (laid (take 128 ahead) word)) said new
       behind t all more =
-          let parts = split_done pack (at s j) (deposits block_address (replicate 128 word))
-          (goes_to moment n ∷ takes moment ∷ []) t all in
+          let parts = split_done pack (at s j) (deposit_events block_address (replicate 128 word))
+          (useti_event moment n ∷ in_event moment ∷ []) t all in
           let ws : List ℕ = replicate 128 word in
           let core1 = after_writes j.core (placed block_address ws) in
           let j1 = with_core j core1 in
@@ -187,7 +188,7 @@ module _ (pack : Pack) (s : State) (j0 : Job) (there : job_at s 1 ≡ Some j0) (
           let j2 = with_open j1 1 (reading place v n) in
           let is2 : IsJob me j2 = job_open me j1 1 (reading place v n) is1 in
           let first2 : parts.2.0 ≡ at s j2 = goes_done pack s j0 there moment j1 place v n k parts.2.0 first
-          (subst (λ u. Steps pack u (goes_to moment n) Done parts.2.0) first1 parts.2.1) in
+          (subst (λ u. Steps pack u (useti_event moment n) Done parts.2.0) first1 parts.2.1) in
           let open2 : channel_at j2 1 ≡ Some (reading place v n) =
           at_own j1 me 1 (reading place v n) is1 (omega arith) in
           let core3 = taken core1 128 ahead in
@@ -198,7 +199,7 @@ module _ (pack : Pack) (s : State) (j0 : Job) (there : job_at s 1 ≡ Some j0) (
           let first3 : parts.2.2.0 ≡ at s j3 =
           takes_done pack s j0 there moment me j2 place v n 128 parts.2.2.0 is2 open2
           (omega arith) (omega arith) lists1
-          (subst (λ u. Steps pack u (takes moment) Done parts.2.2.0) first2 parts.2.2.1) in
+          (subst (λ u. Steps pack u (in_event moment) Done parts.2.2.0) first2 parts.2.2.1) in
           let here : window core3 block_address 128 ≡ laid (take 128 ahead) word =
           overlaid core1 block_address 128 (take 128 ahead) (omega (arith, length-take 128 ahead))
           (let l = is1.core in omega arith)
@@ -218,12 +219,12 @@ module _ (pack : Pack) (s : State) (j0 : Job) (there : job_at s 1 ≡ Some j0) (
           )
 
   -- How many words the last block has, however that is found out.
-  pub sizes_done : (me : ℕ) (place : Place) (v : Version) (more : ℕ) (next : ℕ → Plan) (said : Spoken) (new : Service)
-      (j : Job) → IsJob me j → (k : ℕ) → channel_at j 1 ≡ Some (reading place v k) → Lists 128 j.core
+  pub sizes_done : (me : ℕ) (place : Place) (v : SpecVersion) (more : ℕ) (next : ℕ → Plan) (said : Spoken) (new : Service)
+      (j : SpecJob) → IsJob me j → (k : ℕ) → channel_at j 1 ≡ Some (reading place v k) → Lists 128 j.core
       → length v.file.body ≤ longest → more * 128 < length v.file.body → length v.file.body ≤ (more + 1) * 128
       → Comes pack (Serving (at s j)) (sizes moment (more + 1) (size_word (length v.file.body)) next) said new
       → IsLineRefused s.files said new
-      ⊎ ((j' : Job) × Between me place v j j'
+      ⊎ ((j' : SpecJob) × Between me place v j j'
       × Comes pack (Serving (at s j')) (next (length v.file.body - more * 128)) said new)
   sizes_done me place v more next said new j is k first lists fits low high c = by (says_words size) refl c
     where
@@ -252,7 +253,7 @@ module _ (pack : Pack) (s : State) (j0 : Job) (there : job_at s 1 ≡ Some j0) (
       by : (b : Bool) → says_words size ≡ b
           → Comes pack (Serving (at s j)) (if b then next (last_said size) else counts moment (more + 1) next) said new
           → IsLineRefused s.files said new
-          ⊎ ((j' : Job) × Between me place v j j' × Comes pack (Serving (at s j')) (next (len - more * 128)) said new)
+          ⊎ ((j' : SpecJob) × Between me place v j j' × Comes pack (Serving (at s j')) (next (len - more * 128)) said new)
       by true says c = inr (
         j,
         (is, (k, first), refl, lists),

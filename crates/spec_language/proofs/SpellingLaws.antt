@@ -1,4 +1,4 @@
--- What is spelled by a text is spelled by it alone: fields, numbers, names and files.
+-- What a text spells is unique: fields, numbers, names and files.
 use Rattle.std.proofs.Common.{◌≡◌, ℕ, ◌<◌, Bool, true, false, not, List, [], ◌∷◌, ◌++◌, length, Option, Some, None}
 use Rattle.std.proofs.Common.{refl, sym, ap, subst, ◌∙◌, arith}
 use Rattle.std.specs.Prelude.{◌==◌}
@@ -58,7 +58,7 @@ pub are_append : (is : ℕ → Bool) (xs ys : List ℕ) → Are is xs → Are is
 are_append is [] ys a b = b
 are_append is (x ∷ xs) ys a b = (a.0, are_append is xs ys a.1 b)
 
--- all but one character
+-- all except one character
 abbrev pub other_than : ℕ → ℕ → Bool
 other_than k c = not (c == k)
 
@@ -139,7 +139,7 @@ pub same_bracketed : (s t : List ℕ) (p q : ℕ) → s ≡ t → IsBracketed s 
 same_bracketed s t p q e a b = same_pair 6 a.pair b.pair p q
     (same_but_last 93 a.pair b.pair (same_tail (sym a.spelled ∙ e ∙ b.spelled))) a.named b.named
 
--- a character that stands in no number and is no comma and no bracket
+-- a character that is in no number and is no comma and no bracket
 pub bracketed_other : (k : ℕ) (s : List ℕ) (p : ℕ) → is_octal k ≡ false → other_than k 44 ≡ true
     → other_than k 91 ≡ true → other_than k 93 ≡ true → IsBracketed s p → Are (other_than k) s
 bracketed_other k s p octal comma begun close a =
@@ -205,7 +205,7 @@ owner_other : (k : ℕ) (text : List ℕ) (o : Option ℕ) → is_octal k ≡ fa
 owner_other k text None octal comma begun close a = subst (Are (other_than k)) (sym a) tt
 owner_other k text (Some p) octal comma begun close a = bracketed_other k text p octal comma begun close a
 
--- a character that stands in no file's name
+-- a character that is in no file's name
 pub spec_other : (k : ℕ) → is_letter k ≡ false → is_octal k ≡ false → other_than k 46 ≡ true → other_than k 44 ≡ true
     → other_than k 91 ≡ true → other_than k 93 ≡ true
     → (text : List ℕ) (x : Spec) → IsSpec text x → Are (other_than k) text

@@ -1,4 +1,4 @@
--- What a file's words are told as.
+-- What is printed for a file's words.
 use Rattle.std.proofs.Common.{◌≡◌, ◌∙◌, ℕ, ◌==◌, Bool, true, false, if◌then◌else◌, nat_eq, List, Option, Some, None}
 use Rattle.std.proofs.Common.{refl, ap, sym, true≢false}
 use Rattle.std.specs.Prelude.{codes, IsTrue, slice_index}
@@ -30,7 +30,7 @@ tellings_have_causes Characters words refused = absurd (true≢false (sym refuse
 tellings_have_causes Words words refused = absurd (true≢false (sym refused))
 tellings_have_causes Octets words refused = (refl, not_found words (octets_unpacked words) refl refused)
 
--- A file that was read isn't refused as a line is, for a reply: the sixth character tells them apart.
+-- A file that was read isn't refused as a line is, for a reply: the sixth character distinguishes them.
 
 abbrev has_b : List ℕ → Bool
 has_b text = nat_eq (slice_index text 5) 98

@@ -114,20 +114,20 @@ module _ (pack : Pack) (moment : Moment) where
 
   -- Lines of a session.
 
-  same_login : (who : Option ℕ) (owner : ℕ) (s t u w : State) (acts bcts : List Act) (one other : Spoken)
-      (x y : Option ℕ) → Related s t → LogsIn who owner acts one x → LogsIn who owner bcts other y
+  same_login : (user : Option ℕ) (owner : ℕ) (s t u w : State) (acts bcts : List Act) (one other : Spoken)
+      (x y : Option ℕ) → Related s t → LogsIn user owner acts one x → LogsIn user owner bcts other y
       → Served pack s acts u → Served pack t bcts w → (one ≡ other) × (x ≡ y) × Related u w
-  same_login who owner s t u w acts bcts one other x y r a b p q =
+  same_login user owner s t u w acts bcts one other x y r a b p q =
       let p' = subst (λ z. Served pack s z u) a.1 p in
       let q' = subst (λ z. Served pack t z w) b.1 q in
       let h = related_step pack s t p'.0 q'.0 (Login 1 owner core_words) a.0 b.0 r p'.1 q'.1 in (
         a.2 ∙ ap (login_said owner) h.0 ∙ sym b.2,
-        a.3 ∙ ap (login_who who owner) h.0 ∙ sym b.3,
+        a.3 ∙ ap (login_who user owner) h.0 ∙ sym b.3,
         subst (λ z. Related z w) (sym p'.2) (subst (Related p'.0) (sym q'.2) h.1),
       )
 
-  same_acts : (who : Option ℕ) (command : Command) (s t u w : State) (acts bcts : List Act) (one other : Spoken)
-      (x y : Option ℕ) → Related s t → Acts moment who command acts one x → Acts moment who command bcts other y
+  same_acts : (user : Option ℕ) (command : Command) (s t u w : State) (acts bcts : List Act) (one other : Spoken)
+      (x y : Option ℕ) → Related s t → Acts moment user command acts one x → Acts moment user command bcts other y
       → Served pack s acts u → Served pack t bcts w → (one ≡ other) × (x ≡ y) × Related u w
   same_acts None command s t u w acts bcts one other x y r a b p q = (
     a.1 ∙ sym b.1,
@@ -139,45 +139,45 @@ module _ (pack : Pack) (moment : Moment) where
       let h = same_conduct (begins moment me command) s t u w acts bcts one other r a.0 b.0 p q in
       (h.0, a.1 ∙ sym b.1, h.1)
 
-  same_speech : (who : Option ℕ) (meant : Option Command) (s t u w : State) (acts bcts : List Act) (one other : Spoken)
-      (x y : Option ℕ) → Related s t → Speaks moment who meant acts one x → Speaks moment who meant bcts other y
+  same_speech : (user : Option ℕ) (meant : Option Command) (s t u w : State) (acts bcts : List Act) (one other : Spoken)
+      (x y : Option ℕ) → Related s t → Speaks moment user meant acts one x → Speaks moment user meant bcts other y
       → Served pack s acts u → Served pack t bcts w → (one ≡ other) × (x ≡ y) × Related u w
-  same_speech who None s t u w acts bcts one other x y r a b p q = (
+  same_speech user None s t u w acts bcts one other x y r a b p q = (
     a.1 ∙ sym b.1,
     a.2 ∙ sym b.2,
     subst (λ z. Related z w) (sym (subst (λ z. Served pack s z u) a.0 p))
         (subst (Related s) (sym (subst (λ z. Served pack t z w) b.0 q)) r),
   )
-  same_speech who (Some (LoginLine owner)) s t u w acts bcts one other x y r a b p q =
-      same_login who owner s t u w acts bcts one other x y r a b p q
-  same_speech who (Some (DirectoryLine o)) s t u w acts bcts one other x y r a b p q = same_acts who
+  same_speech user (Some (LoginLine owner)) s t u w acts bcts one other x y r a b p q =
+      same_login user owner s t u w acts bcts one other x y r a b p q
+  same_speech user (Some (DirectoryLine o)) s t u w acts bcts one other x y r a b p q = same_acts user
       (DirectoryLine o) s t u w acts bcts one other x y r a b p q
-  same_speech who (Some (CopyLine k l)) s t u w acts bcts one other x y r a b p q = same_acts who
+  same_speech user (Some (CopyLine k l)) s t u w acts bcts one other x y r a b p q = same_acts user
       (CopyLine k l) s t u w acts bcts one other x y r a b p q
-  same_speech who (Some (RenameLine k l)) s t u w acts bcts one other x y r a b p q = same_acts who
+  same_speech user (Some (RenameLine k l)) s t u w acts bcts one other x y r a b p q = same_acts user
       (RenameLine k l) s t u w acts bcts one other x y r a b p q
-  same_speech who (Some (DeleteLine k)) s t u w acts bcts one other x y r a b p q = same_acts who
+  same_speech user (Some (DeleteLine k)) s t u w acts bcts one other x y r a b p q = same_acts user
       (DeleteLine k) s t u w acts bcts one other x y r a b p q
-  same_speech who (Some (TypeLine k)) s t u w acts bcts one other x y r a b p q = same_acts who
+  same_speech user (Some (TypeLine k)) s t u w acts bcts one other x y r a b p q = same_acts user
       (TypeLine k) s t u w acts bcts one other x y r a b p q
-  same_speech who (Some (ProtectLine k n)) s t u w acts bcts one other x y r a b p q = same_acts who
+  same_speech user (Some (ProtectLine k n)) s t u w acts bcts one other x y r a b p q = same_acts user
       (ProtectLine k n) s t u w acts bcts one other x y r a b p q
-  same_speech who (Some (MakeLine k n)) s t u w acts bcts one other x y r a b p q = same_acts who
+  same_speech user (Some (MakeLine k n)) s t u w acts bcts one other x y r a b p q = same_acts user
       (MakeLine k n) s t u w acts bcts one other x y r a b p q
-  same_speech who (Some (QuotaLine k n)) s t u w acts bcts one other x y r a b p q = same_acts who
+  same_speech user (Some (QuotaLine k n)) s t u w acts bcts one other x y r a b p q = same_acts user
       (QuotaLine k n) s t u w acts bcts one other x y r a b p q
 
-  same_transcript : (lines : List Line) (who : Option ℕ) (s t u w : State) (acts bcts : List Act) (one other : Spoken)
-      (x y : Option ℕ) → Related s t → IsTranscript moment who lines acts one x
-      → IsTranscript moment who lines bcts other y
+  same_transcript : (lines : List Line) (user : Option ℕ) (s t u w : State) (acts bcts : List Act) (one other : Spoken)
+      (x y : Option ℕ) → Related s t → IsTranscript moment user lines acts one x
+      → IsTranscript moment user lines bcts other y
       → Served pack s acts u → Served pack t bcts w → (one ≡ other) × (x ≡ y) × Related u w
-  same_transcript [] who s t u w acts bcts one other x y r a b p q = (
+  same_transcript [] user s t u w acts bcts one other x y r a b p q = (
     a.1 ∙ sym b.1,
     a.2 ∙ sym b.2,
     subst (λ z. Related z w) (sym (subst (λ z. Served pack s z u) a.0 p))
         (subst (Related s) (sym (subst (λ z. Served pack t z w) b.0 q)) r),
   )
-  same_transcript (line ∷ lines) who s t u w acts bcts one other x y r (
+  same_transcript (line ∷ lines) user s t u w acts bcts one other x y r (
     meant,
     m,
     first,
@@ -193,8 +193,8 @@ module _ (pack : Pack) (moment : Moment) where
       let e = same_means line meant meant' m m' in
       let p' = served_apart pack s u first more (subst (λ z. Served pack s z u) split p) in
       let q' = served_apart pack t w first' more' (subst (λ z. Served pack t z w) split' q) in
-      let h = same_speech who meant s t p'.0 q'.0 first first' here here' mid mid' r a
-      (subst (λ z. Speaks moment who z first' here' mid') (sym e) b) p'.1 q'.1 in
+      let h = same_speech user meant s t p'.0 q'.0 first first' here here' mid mid' r a
+      (subst (λ z. Speaks moment user z first' here' mid') (sym e) b) p'.1 q'.1 in
       let k = same_transcript lines mid p'.0 q'.0 u w more more' there there' x y h.2 rest
       (subst (λ z. IsTranscript moment z lines more' there' y) (sym h.1) rest') p'.2 q'.2 in
       (text ∙ (λ i. both_said (h.0 i) (k.0 i)) ∙ sym text', k.1, k.2)
@@ -235,12 +235,12 @@ module _ (pack : Pack) (moment : Moment) where
 
 -- From one state.
 
-pub one_text : (pack : Pack) (moment : Moment) (lines : List Line) (who : Option ℕ) (s u w : State)
+pub one_text : (pack : Pack) (moment : Moment) (lines : List Line) (user : Option ℕ) (s u w : State)
     (acts bcts : List Act) (one other : Spoken) (x y : Option ℕ)
-    → IsTranscript moment who lines acts one x → Served pack s acts u → IsTranscript moment who lines bcts other y
+    → IsTranscript moment user lines acts one x → Served pack s acts u → IsTranscript moment user lines bcts other y
     → Served pack s bcts w → one ≡ other
-one_text pack moment lines who s u w acts bcts one other x y a p b q =
-    (same_transcript pack moment lines who s s u w acts bcts one other x y (itself_related s) a b p q).0
+one_text pack moment lines user s u w acts bcts one other x y a p b q =
+    (same_transcript pack moment lines user s s u w acts bcts one other x y (itself_related s) a b p q).0
 
 pub one_script : (pack : Pack) (moment : Moment) (lines : List Line) (s u w : State) (acts bcts : List Act)
     (one other : Spoken)

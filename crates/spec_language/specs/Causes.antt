@@ -1,11 +1,12 @@
--- Why a line is refused: it goes on while its replies are those that it wants, and says the first other one.
+-- Why a line is refused: it continues while its replies are those that it wants, and prints the first other one.
 use Rattle.std.specs.Prelude.{◌≡◌, ◌⊎◌, ℕ, Bool, true, false, IsTrue, IsFalse, List, [], ◌∷◌, ◌++◌, unwrap_or, Result}
 use Rattle.std.specs.List.{AllByRecursion}
 use Rattle.words36.specs.Common.{AreOctets}
 use Rattle.words36.specs.declared.moment.Moment.{Moment}
 use Rattle.spec_language.specs.Texts.{Spoken, prints, typed, file_said, refuses, list_said}
-use Rattle.spec_language.specs.Plans.{Plan, Ask, Show, Say, Act, Asks, Looks, each, calls, ends, fails, ok, until_end}
-use Rattle.spec_language.specs.Plans.{takes, is_end, shows}
+use Rattle.spec_language.specs.Plans.{Plan, Ask, Show, Say, Act, Asks, Looks, each, call_event, ends, fails, ok}
+use Rattle.spec_language.specs.Plans.{until_end}
+use Rattle.spec_language.specs.Plans.{in_event, is_end, shows}
 use Rattle.spec_language.specs.declared.command.Command.{Command}
 use Rattle.spec_language.specs.declared.command.Command.TheVariants.{Login as LoginLine, Directory as DirectoryLine}
 use Rattle.spec_language.specs.declared.command.Command.TheVariants.{Copy as CopyLine, Rename as RenameLine}
@@ -30,15 +31,15 @@ abbrev pub is_word : Reply → Bool
 is_word (Value word) = true
 is_word reply = false
 
--- the reply that is wanted: the word of core that was asked for, else Done
+-- the reply that is wanted: the word of the core that was asked for, else Done
 abbrev pub is_wanted : Event → Reply → Bool
 is_wanted (Login n ppn words) reply = is_done reply
 is_wanted (Deposit n address word) reply = is_done reply
 is_wanted (Examine n address) reply = is_word reply
 is_wanted (Calls n call moment) reply = is_done reply
 
--- The plan goes on to such an end while the replies are those wanted. After the first other one it closes the channels
--- and says that reply.
+-- The plan continues to such an end while the replies are those wanted. After the first other reply it closes the
+-- channels and prints that reply.
 abbrev pub GoesUntilRefused : Moment → (Plan → Type 0) → Plan → Type 0
 GoesUntilRefused moment IsEnd (Say said) = IsEnd (Say said)
 GoesUntilRefused moment IsEnd (Show owner next) = IsEnd (Show owner next)
@@ -47,13 +48,13 @@ GoesUntilRefused moment IsEnd (Ask event next) =
     ⊎ ((reply : Reply) → (IsTrue (is_wanted event reply) → GoesUntilRefused moment IsEnd (next reply))
     × (IsFalse (is_wanted event reply) → next reply ≡ fails moment reply))
 
--- Ends: OK; what COPY and a file that is read come to, whose IN after the last block has to tell the file's end.
+-- Ends: OK; what COPY and a file that is read come to, whose IN after the last block has to report the file's end.
 
 abbrev pub SaysOk : Moment → Plan → Type 0
 SaysOk moment plan = plan ≡ ends moment ok
 
 abbrev pub ClosesAtEnd : Moment → Plan → Type 0
-ClosesAtEnd moment plan = plan ≡ until_end moment (each moment (calls moment (Close 2 0) ∷ []) (ends moment ok))
+ClosesAtEnd moment plan = plan ≡ until_end moment (each moment (call_event moment (Close 2 0) ∷ []) (ends moment ok))
 
 abbrev pub PrintsAtEnd : Moment → Encoding → Plan → Type 0
 PrintsAtEnd moment encoding plan =
@@ -77,7 +78,7 @@ EndsSo moment me (ProtectLine spec protection) plan = SaysOk moment plan
 EndsSo moment me (MakeLine owner protection) plan = SaysOk moment plan
 EndsSo moment me (QuotaLine owner blocks) plan = SaysOk moment plan
 
--- What a line says if none of its replies is refused. The list of a directory has the refusal of its own one.
+-- What a line prints if none of its replies is refused. The list of a directory includes the refusal of its own answer.
 abbrev pub SaysSo : ℕ → Command → Spoken → Type 0
 SaysSo me (LoginLine owner) said = said ≡ prints []
 SaysSo me (DirectoryLine owner) said =
@@ -90,23 +91,23 @@ SaysSo me (ProtectLine spec protection) said = said ≡ ok
 SaysSo me (MakeLine owner protection) said = said ≡ ok
 SaysSo me (QuotaLine owner blocks) said = said ≡ ok
 
--- The same of the acts of a line.
+-- The same for the acts of a line.
 
--- its reply is the one wanted, or it is an IN that told the file's end
+-- its reply is the one wanted, or it is an IN that reported the file's end
 abbrev pub IsAsWanted : Moment → Act → Type 0
 IsAsWanted moment (Asks event reply) =
     IsTrue (is_wanted event reply)
-    ⊎ ((event ≡ takes moment) × (status : ℕ) × (reply ≡ Stopped status) × IsTrue (is_end status))
+    ⊎ ((event ≡ in_event moment) × (status : ℕ) × (reply ≡ Stopped status) × IsTrue (is_end status))
 IsAsWanted moment (Looks owner answer) = ⊥
 
--- The line is refused at the first act whose reply is not the one wanted, and says that reply; or at the IN after the
--- last block, where that was Done and did not tell the file's end.
+-- The line is refused at the first act whose reply isn't the one wanted, and prints that reply; or at the IN after the
+-- last block, if that was Done and didn't report the file's end.
 pub record IsRefusedAt (moment : Moment) (acts : List Act) (said : Spoken) : Type 0 where
   pub before : List Act
   pub event : Event
   pub reply : Reply
   pub reset : Reply
-  pub acts_are : acts ≡ before ++ Asks event reply ∷ Asks (calls moment Reset) reset ∷ []
+  pub acts_are : acts ≡ before ++ Asks event reply ∷ Asks (call_event moment Reset) reset ∷ []
   pub wanted : AllByRecursion (IsAsWanted moment) before
-  pub unwanted : IsFalse (is_wanted event reply) ⊎ ((event ≡ takes moment) × (reply ≡ Done))
+  pub unwanted : IsFalse (is_wanted event reply) ⊎ ((event ≡ in_event moment) × (reply ≡ Done))
   pub says : said ≡ refuses reply

@@ -1,4 +1,4 @@
--- What a line of a session says: the grammar, a row for each form of a line.
+-- What a line of a session means: the grammar, a row for each form of a line.
 use Rattle.std.specs.Prelude.{◌≡◌, ℕ, List, [], ◌∷◌, ◌++◌, Option, Some, None, codes}
 use Rattle.spec_language.specs.Lines.{Line, Bytes, TooLong}
 use Rattle.spec_language.specs.Spellings.{Are, is_space, AreFields, IsNumber, IsBlockCount, IsBracketed, IsSpec}
@@ -17,7 +17,7 @@ pub record IsAngled (text : List ℕ) (protection : ℕ) : Type 0 where
   pub number : IsNumber 3 digits protection
   pub spelled : text ≡ 60 ∷ (digits ++ 62 ∷ [])
 
--- nothing, which is the protection 0, or one
+-- nothing, which means the protection 0, or a protection between angle brackets
 abbrev pub IsProtection : List ℕ → ℕ → Type 0
 IsProtection [] protection = protection ≡ 0
 IsProtection (c ∷ cs) protection = IsAngled (c ∷ cs) protection
@@ -73,12 +73,12 @@ IsCommand text (MakeDir owner protection) = (argument : List ℕ) × HasArgument
 IsCommand text (Quota owner blocks) = (gap : List ℕ) × Are is_space gap × (rest : List ℕ)
     × (text ≡ codes "QUOTA" ++ 32 ∷ (gap ++ rest)) × IsLimit rest owner blocks
 
--- what a text says, where it says anything
+-- what a text means, if it means anything
 abbrev pub Says : List ℕ → Option Command → Type 0
 Says text (Some command) = IsCommand text command
 Says text None = (command : Command) → IsCommand text command → ⊥
 
--- and a line: one that is too long says nothing
+-- and what a line means: a line that is too long means nothing
 abbrev pub Means : Line → Option Command → Type 0
 Means (Bytes text) said = Says text said
 Means TooLong said = said ≡ None

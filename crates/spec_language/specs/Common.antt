@@ -14,17 +14,21 @@ pub use Rattle.spec_language.specs.Texts.{minute_field, month_text, not_null, oc
 pub use Rattle.spec_language.specs.Texts.{prints, refusal, refuses, right_fields, right_in, silent, size_fields}
 pub use Rattle.spec_language.specs.Texts.{three_digits, total_text, trimmed, two_digits, two_octal, typed}
 unfoldable pub use Rattle.spec_language.specs.Texts.{entry_text, listing, row_text, table}
-pub use Rattle.spec_language.specs.Plans.{Act, Ask, Asks, Conducts, Leads, Looks, Plan, Say, Show, asks_make_dir}
-pub use Rattle.spec_language.specs.Plans.{asks_open, asks_out, begins, block_address, blocks_at_once, blocks_said}
-pub use Rattle.spec_language.specs.Plans.{calls, copies_blocks, copies_body, copies_last, counts, deletes, deposits}
-pub use Rattle.spec_language.specs.Plans.{ends, examines, fails, file_words, finds, goes_to, if_done, if_end, if_told}
-pub use Rattle.spec_language.specs.Plans.{is_end, last_said, lists, names, new_words, ok, open_words, reads_file}
-pub use Rattle.spec_language.specs.Plans.{same_words, says_words, sizes, takes, takes_over, types, types_blocks}
-pub use Rattle.spec_language.specs.Plans.{types_body, types_last, until_end, writes}
+pub use Rattle.spec_language.specs.Plans.{Act, Ask, Asks, RunsPlan, Leads, Looks, Plan, Say, Show, make_dir_events}
+pub use Rattle.spec_language.specs.Plans.{open_events, out_event, begins, block_address, blocks_at_once, blocks_said}
+pub use Rattle.spec_language.specs.Plans.{call_event, copies_blocks, copies_body, copies_last, counts, delete_events}
+pub use Rattle.spec_language.specs.Plans.{deposit_events}
+pub use Rattle.spec_language.specs.Plans.{ends, examines, fails, file_words, lookup_events, useti_event, if_done}
+pub use Rattle.spec_language.specs.Plans.{if_end, if_told}
+pub use Rattle.spec_language.specs.Plans.{is_end, last_said, list_events, name_events, new_words, ok, open_words}
+pub use Rattle.spec_language.specs.Plans.{reads_file}
+pub use Rattle.spec_language.specs.Plans.{same_words, says_words, sizes, in_event, takes_over, types, types_blocks}
+pub use Rattle.spec_language.specs.Plans.{types_body, types_last, until_end, enter_events}
 unfoldable pub use Rattle.spec_language.specs.Plans.{copies_runs, each, fetches, types_runs}
 pub use Rattle.spec_language.specs.Transcripts.{IsTranscript, Orders, Scripts, Served, Speaks, Went, core_words}
 pub use Rattle.spec_language.specs.Transcripts.{is_success, refused_unless, reports_reply}
-pub use Rattle.spec_language.specs.Errands.{AreWords, announces, creates, enters, fills, fills_all, gets}
+pub use Rattle.spec_language.specs.Errands.{AreWords, size_events, create_events, login_events, fill_events, fills_all}
+pub use Rattle.spec_language.specs.Errands.{gets}
 pub use Rattle.spec_language.specs.Errands.{is_character, keeps, operator, own_file, part_address, part_words}
 pub use Rattle.spec_language.specs.Errands.{parts_of, surveys, surveys_of, unfit, volume_line}
 unfoldable pub use Rattle.spec_language.specs.Errands.{fills_parts, shows_all}

@@ -1,15 +1,16 @@
--- What a line of a session, or an errand of job 1, comes to: the file that a copy leaves, the text that a file is shown
--- as, the file that is put.
+-- What a line of a session, or an errand of job 1, comes to: the file that a copy leaves, the text that a file is
+-- printed as, the file that is put.
 use Rattle.std.specs.Prelude.{◌≡◌, ◌⊎◌, ◌≤◌, ◌<◌, ℕ, ◌^◌, Bool, true, false, List, length, unwrap_or, Option, Some}
 use Rattle.std.specs.Prelude.{None, codes}
 use Rattle.words36.specs.Common.{AreOctets}
 use Rattle.words36.specs.declared.moment.Moment.{Moment}
 use Rattle.blockdisk.specs.Common.{Contents}
-use Rattle.spec_image.specs.Common.{File, Files, Place, Version, file_at, with_file, Pack, Stands}
-use Rattle.spec_machine.specs.Common.{Output, Job, State, job_at, own_if_zero, longest, Service, Serving, Broken}
+use Rattle.spec_image.specs.Common.{File, Files, Place, SpecVersion, file_at, with_file, Pack, Stands}
+use Rattle.spec_machine.specs.Common.{SpecOutput, SpecJob, State, job_at, own_if_zero, longest, Service, Serving}
+use Rattle.spec_machine.specs.Common.{Broken}
 use Rattle.spec_machine.specs.Common.{Steps, Answers, AnswersAll, IsStart, writes_at, dump_mode}
 use Rattle.spec_language.specs.Texts.{Spoken, prints, file_said, complains, refuses}
-use Rattle.spec_language.specs.Plans.{Plan, Act, Conducts, ok, copies, reads_file}
+use Rattle.spec_language.specs.Plans.{Plan, Act, RunsPlan, ok, copies, reads_file}
 use Rattle.spec_language.specs.Transcripts.{Went, core_words}
 use Rattle.spec_machine.specs.declared.call.Event.{Event}
 use Rattle.spec_machine.specs.declared.call.Event.TheVariants.{Login, Deposit, Examine, Call as Calls}
@@ -20,19 +21,19 @@ use Rattle.spec_language.specs.Errands.{keeps, gets}
 use Rattle.spec_language.specs.declared.encoding.Encoding.{Encoding}
 use Rattle.spec_language.specs.declared.encoding.Encoding.TheVariants.{Characters, Words, Octets}
 
--- The service does what a plan asks, and says this in the end.
+-- The service does what a plan asks, and this is printed in the end.
 abbrev pub Comes : Pack → Service → Plan → Spoken → Service → Type 0
-Comes pack old plan said new = (acts : List Act) × Conducts plan acts said × Went pack old acts new
+Comes pack old plan said new = (acts : List Act) × RunsPlan plan acts said × Went pack old acts new
 
 -- Job 1 is logged in, with the core that a session gives it.
 pub record IsJobReady (s : State) (me : ℕ) : Type 0 where
-  pub job : Job
+  pub job : SpecJob
   pub logged_in : job_at s 1 ≡ Some job
   pub owner : job.ppn ≡ me
   pub core : length job.core ≡ core_words
   pub channels : length job.channels ≡ 16
 
--- where a file lies that is named by who is logged in
+-- the place of a file that is named by the one who is logged in
 abbrev pub place_of : ℕ → Spec → Place
 place_of me spec = record { ppn = own_if_zero (unwrap_or spec.owner 0) me; name = spec.name }
 
@@ -41,30 +42,30 @@ abbrev pub HasHalfwordExtension : Spec → Type 0
 HasHalfwordExtension spec = spec.name.ext < 2 ^ 18
 
 -- no body is longer than a file may be
-abbrev pub AreShort : Files Version → Type 0
-AreShort files = (place : Place) (v : Version) → file_at files place ≡ Some v → length v.file.body ≤ longest
+abbrev pub AreShort : Files SpecVersion → Type 0
+AreShort files = (place : Place) (v : SpecVersion) → file_at files place ≡ Some v → length v.file.body ≤ longest
 
--- In a state that a run comes to nothing is longer: no file, and nothing that is being written.
+-- In a state that a run comes to, nothing is longer: no file, and nothing that is being written.
 pub record IsShort (s : State) : Type 0 where
   pub files : AreShort s.files
-  pub pending : (n ch : ℕ) (o : Output) → writes_at s n ch ≡ Some o → length o.pending.body ≤ longest
+  pub pending : (n ch : ℕ) (o : SpecOutput) → writes_at s n ch ≡ Some o → length o.pending.body ≤ longest
 
--- the files of a service that serves; of one that has failed there is nothing to say
-abbrev pub HasFiles : Files Version → Service → Type 0
+-- a service that serves has these files; of one that has failed, nothing is required
+abbrev pub HasFiles : Files SpecVersion → Service → Type 0
 HasFiles files Broken = Unit {0}
 HasFiles files (Serving after) = after.files ≡ files
 
 -- the line is refused for a reply, and the files are those from before
-abbrev pub IsLineRefused : Files Version → Spoken → Service → Type 0
+abbrev pub IsLineRefused : Files SpecVersion → Spoken → Service → Type 0
 IsLineRefused files said new = ((reply : Reply) × (said ≡ refuses reply)) × HasFiles files new
 
 -- a superseding file keeps the protection of the one that was there
-abbrev pub kept_protection : Option Version → ℕ
+abbrev pub kept_protection : Option SpecVersion → ℕ
 kept_protection None = 0o057
 kept_protection (Some v) = v.file.protection
 
 -- a file of this moment at a place
-abbrev pub made : Files Version → Place → ℕ → Moment → List ℕ → File
+abbrev pub made : Files SpecVersion → Place → ℕ → Moment → List ℕ → File
 made files place mode moment body = record {
   protection = kept_protection (file_at files place);
   mode = mode;
@@ -73,21 +74,22 @@ made files place mode moment body = record {
   body = body;
 }
 
--- It is the one change of the files.
-pub record IsOneChange (files : Files Version) (place : Place) (file : File) (new : Service) : Type 0 where
+-- This file is the only change of the files.
+pub record IsOneChange (files : Files SpecVersion) (place : Place) (file : File) (new : Service) : Type 0 where
   pub serial : ℕ
   pub after : State
   pub serves : new ≡ Serving after
   pub files_after : after.files ≡ with_file files place (record { file = file; serial = serial })
   pub there : file_at after.files place ≡ Some (record { file = file; serial = serial })
 
--- COPY says OK where the new file has the body that was found, and else refuses and leaves the files.
+-- COPY prints OK, and the new file has the body that was found.
 abbrev pub IsCopied : Moment → ℕ → State → Spec → Spec → Spoken → Service → Type 0
 IsCopied moment me s to from said new =
     (said ≡ ok)
-    × ((v : Version) × (file_at s.files (place_of me from) ≡ Some v)
+    × ((v : SpecVersion) × (file_at s.files (place_of me from) ≡ Some v)
     × IsOneChange s.files (place_of me to) (made s.files (place_of me to) dump_mode moment v.file.body) new)
 
+-- Either that, or COPY is refused and the files are those from before.
 abbrev pub CopiesAreExact : Type 0
 CopiesAreExact =
     (pack : Pack) (moment : Moment) (me : ℕ) (s : State) (to from : Spec) (said : Spoken) (new : Service)
@@ -95,13 +97,13 @@ CopiesAreExact =
     → Comes pack (Serving s) (copies moment to from) said new
     → IsCopied moment me s to from said new ⊎ IsLineRefused s.files said new
 
--- A file that is read is printed, or its words are refused, or the line is; the files stay.
+-- A file that is read is printed, or its words are refused; the files stay.
 abbrev pub IsPrinted : ℕ → State → Encoding → Spec → Spoken → Service → Type 0
 IsPrinted me s encoding spec said new =
-    ((v : Version) × (file_at s.files (place_of me spec) ≡ Some v) × (said ≡ file_said encoding v.file.body))
+    ((v : SpecVersion) × (file_at s.files (place_of me spec) ≡ Some v) × (said ≡ file_said encoding v.file.body))
     × HasFiles s.files new
 
--- As bytes of eight bits those are printed whose words these are. If there are none, the file is refused.
+-- As bytes of eight bits, those bytes are printed whose words these are. If there are none, the file is refused.
 abbrev pub OctetsAreTold : Type 0
 OctetsAreTold = (words bytes : List ℕ) → AreOctets words bytes → file_said Octets words ≡ prints bytes
 
@@ -110,6 +112,7 @@ NoOctetsAreTold =
     (words : List ℕ) → ((bytes : List ℕ) → AreOctets words bytes → ⊥)
     → file_said Octets words ≡ complains (codes "?Not bytes")
 
+-- Either that, or the line is refused and the files stay.
 abbrev pub ReadsAreExact : Type 0
 ReadsAreExact =
     (pack : Pack) (moment : Moment) (me : ℕ) (s : State) (encoding : Encoding) (spec : Spec) (said : Spoken)
@@ -145,14 +148,14 @@ GetsAreExact =
     → Comes pack (Serving s) (gets moment me encoding spec) said new
     → IsPrinted me s encoding spec said new ⊎ IsLineRefused s.files said new
 
--- What these laws ask of a state is so of each that a run comes to which began with the files of a disk.
+-- What these laws require of a state holds for each state of a run that began with the files of a disk.
 abbrev pub BodiesStayShort : Type 0
 BodiesStayShort =
     (pack : Pack) (size : ℕ) (contents : Contents) (found : Files File) (s t : State) (events : List Event)
     (replies : List Reply) → Stands size contents found → IsStart found s
     → AnswersAll pack (Serving s) events replies (Serving t) → IsShort t
 
--- Job 1 is ready once its LOGIN is done, and stays so through whatever else is asked.
+-- Job 1 is ready after its LOGIN is done, and stays ready in every event that isn't a login.
 
 abbrev pub asks_for_login : Event → Bool
 asks_for_login (Login n ppn words) = true

@@ -1,4 +1,4 @@
--- Errands: what job 1 asks of the service where it logs in for one thing. A file is got, or put, or directories are
+-- Errands: what job 1 asks of the service if it logs in for one thing. A file is got, or put, or directories are
 -- listed.
 use Rattle.std.specs.Prelude.{◌≡◌, ℕ, ℤ, zero, suc, ◌+◌, ◌-◌, ◌*◌, ◌/◌, ◌&&◌, nat_le, Bool, List, [], ◌∷◌, ◌++◌}
 use Rattle.std.specs.Prelude.{length, take, drop, All, Option, Some, None, Result, Ok, Err, codes, flat_map}
@@ -9,7 +9,8 @@ use Rattle.words36.specs.declared.names.FileName.{FileName}
 use Rattle.spec_machine.specs.Common.{disk}
 use Rattle.spec_language.specs.Spellings.{Are}
 use Rattle.spec_language.specs.Texts.{Spoken, line, silent, both_said, complains, refuses, list_said}
-use Rattle.spec_language.specs.Plans.{Plan, Show, Say, each, calls, deposits, names, writes, lists, asks_out}
+use Rattle.spec_language.specs.Plans.{Plan, Show, Say, each, call_event, deposit_events, name_events, enter_events}
+use Rattle.spec_language.specs.Plans.{list_events, out_event}
 use Rattle.spec_language.specs.Plans.{reads_file, ends, ok, open_words, new_words, block_address, blocks_at_once}
 use Rattle.spec_language.specs.Transcripts.{core_words}
 use Rattle.spec_machine.specs.declared.call.Call.TheVariants.{Open, Enter, Outbuf, Close}
@@ -26,14 +27,14 @@ abbrev pub own_file : FileName → Spec
 own_file name = record { name = name; owner = None }
 
 -- the job logs in
-abbrev pub enters : ℕ → List Event
-enters owner = Login 1 owner core_words ∷ []
+abbrev pub login_events : ℕ → List Event
+login_events owner = Login 1 owner core_words ∷ []
 
 -- A file is got: it is read whole, and then printed or refused.
 abbrev pub gets : Moment → ℕ → Encoding → Spec → Plan
-gets moment owner encoding spec = each moment (enters owner) (reads_file moment encoding spec)
+gets moment owner encoding spec = each moment (login_events owner) (reads_file moment encoding spec)
 
--- Directories are listed, one after the other, by who may look into all of them.
+-- Directories are listed, one after the other, by the job that may look into all of them.
 
 abbrev pub operator : ℕ
 operator = join 1 2
@@ -44,15 +45,15 @@ shows_all style (owner ∷ owners) said =
     Show owner (λ answer. shows_all style owners (both_said said (list_said style owner answer)))
 
 abbrev pub surveys : Moment → Style → List ℕ → Plan
-surveys moment style owners = each moment (enters operator) (shows_all style owners silent)
+surveys moment style owners = each moment (login_events operator) (shows_all style owners silent)
 
--- the same where it had to be asked which there are
+-- the same, after it was asked which directories there are
 abbrev pub surveys_of : Moment → Style → Result (List ℕ) Reply → Plan
 surveys_of moment style (Ok owners) = surveys moment style owners
 surveys_of moment style (Err reply) = Say (refuses reply)
 
--- A file is put. Its bytes say which words it has, or that they are none: a character is a byte from 1 to 127, since a
--- null would be lost, and a word has 36 bits. Any bytes of eight bits make words.
+-- A file is put. Its bytes determine which words it has, or that they make no words: a character is a byte from 1 to
+-- 127, since a null would be lost, and a word has 36 bits. Any bytes of eight bits make words.
 
 abbrev pub is_character : ℕ → Bool
 is_character byte = nat_le 1 byte && nat_le byte 127
@@ -70,7 +71,7 @@ unfit Characters = codes "?Not ASCII"
 unfit Words = codes "?Bad words"
 unfit Octets = codes "?Bad bytes"
 
--- Addresses in job 1's core: the header of a ring, and the data of its one buffer, which lies where the rings of a job
+-- Addresses in job 1's core: the header of a ring, and the data of its only buffer, which is where the rings of a job
 -- begin that has logged in.
 
 abbrev pub header_address : ℕ
@@ -81,29 +82,29 @@ data_address = 0o143
 
 -- The new file is entered on channel 2: for characters in mode 0, with a ring of one buffer that an OUT brings into
 -- use, else in dump mode.
-abbrev pub creates : Moment → Encoding → Spec → List Event
-creates moment Characters spec =
-    deposits open_words (0 ∷ disk ∷ join header_address 0 ∷ []) ++ calls moment (Open 2 open_words)
-    ∷ (names new_words spec 0 ++ calls moment (Enter 2 new_words) ∷ calls moment (Outbuf 2 1) ∷ asks_out moment ∷ [])
-creates moment Words spec = writes moment spec
-creates moment Octets spec = writes moment spec
+abbrev pub create_events : Moment → Encoding → Spec → List Event
+create_events moment Characters spec =
+    deposit_events open_words (0 ∷ disk ∷ join header_address 0 ∷ []) ++ call_event moment (Open 2 open_words)
+    ∷ (name_events new_words spec 0 ++ call_event moment (Enter 2 new_words) ∷ call_event moment (Outbuf 2 1) ∷ out_event moment ∷ [])
+create_events moment Words spec = enter_events moment spec
+create_events moment Octets spec = enter_events moment spec
 
--- So many words are the next that are put: the header's byte pointer is at the last character of the last of them, or
--- the command list names them.
-abbrev pub announces : Moment → Encoding → ℕ → List Event
-announces moment Characters count =
-    Deposit 1 (header_address + 1) (join 0o010700 (data_address - 1 + count)) ∷ asks_out moment ∷ []
-announces moment Words count = lists count ++ asks_out moment ∷ []
-announces moment Octets count = lists count ++ asks_out moment ∷ []
+-- The next `count` words are put: the header's byte pointer is at the last character of the last of them, or the
+-- command list names them.
+abbrev pub size_events : Moment → Encoding → ℕ → List Event
+size_events moment Characters count =
+    Deposit 1 (header_address + 1) (join 0o010700 (data_address - 1 + count)) ∷ out_event moment ∷ []
+size_events moment Words count = list_events count ++ out_event moment ∷ []
+size_events moment Octets count = list_events count ++ out_event moment ∷ []
 
--- where they stand in core
+-- their address in the core
 abbrev pub part_address : Encoding → ℕ
 part_address Characters = data_address
 part_address Words = block_address
 part_address Octets = block_address
 
-abbrev pub fills : Moment → Encoding → List ℕ → List Event
-fills moment encoding part = deposits (part_address encoding) part ++ announces moment encoding (length part)
+abbrev pub fill_events : Moment → Encoding → List ℕ → List Event
+fill_events moment encoding part = deposit_events (part_address encoding) part ++ size_events moment encoding (length part)
 
 -- how many words a part has at most: those of a buffer, or of 16 blocks that a command list names
 abbrev pub part_words : Encoding → ℕ
@@ -111,7 +112,7 @@ part_words Characters = 128
 part_words Words = blocks_at_once * 128
 part_words Octets = blocks_at_once * 128
 
--- how many parts so many words make
+-- how many parts `count` words make
 abbrev pub parts_of : Encoding → ℕ → ℕ
 parts_of encoding count = (count + part_words encoding - 1) / part_words encoding
 
@@ -119,19 +120,19 @@ parts_of encoding count = (count + part_words encoding - 1) / part_words encodin
 unfoldable pub fills_parts : Moment → Encoding → ℕ → List ℕ → Plan → Plan
 fills_parts moment encoding zero words next = next
 fills_parts moment encoding (suc more) words next = each moment
-    (fills moment encoding (take (part_words encoding) words))
+    (fill_events moment encoding (take (part_words encoding) words))
     (fills_parts moment encoding more (drop (part_words encoding) words) next)
 
 abbrev pub fills_all : Moment → Encoding → List ℕ → Plan → Plan
 fills_all moment encoding words next = fills_parts moment encoding (parts_of encoding (length words)) words next
 
--- nothing is asked where the bytes are none that a file can have
+-- nothing is asked if a file can't have these bytes
 abbrev pub keeps : Moment → ℕ → Encoding → Spec → Option (List ℕ) → Plan
 keeps moment owner encoding spec None = Say (complains (unfit encoding))
 keeps moment owner encoding spec (Some words) =
-    each moment (enters owner) (each moment (creates moment encoding spec)
-    (fills_all moment encoding words (each moment (calls moment (Close 2 0) ∷ []) (ends moment ok))))
+    each moment (login_events owner) (each moment (create_events moment encoding spec)
+    (fills_all moment encoding words (each moment (call_event moment (Close 2 0) ∷ []) (ends moment ok))))
 
--- What a volume is said to have: so many blocks, and so many that are left, which may be below 0.
+-- What is printed for a volume: the number of its blocks, and the number of those that are left, which may be below 0.
 abbrev pub volume_line : ℕ → ℤ → List ℕ
 volume_line blocks room = line (codes "Volume of " ++ decimal blocks ++ codes " blocks, room " ++ signed_decimal room)

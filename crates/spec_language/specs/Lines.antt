@@ -1,8 +1,8 @@
 -- The lines of an input. A line ends with a line feed, and a carriage return just before that isn't part of it; an
--- empty line is none. A last line without a line feed counts, and all of it is part of it.
+-- empty line doesn't count. A last line without a line feed counts, with all its bytes.
 use Rattle.std.specs.Prelude.{ℕ, ◌-◌, ◌==◌, ◌&&◌, nat_lt, nat_le, if◌then◌else◌, List, [], ◌∷◌, ◌++◌, length, map}
 
--- a line: its bytes, or more than fit in one
+-- a line: its bytes, or more bytes than fit in one
 pub data Line : Type 0 where
   Bytes : List ℕ → Line
   TooLong : Line
@@ -13,7 +13,7 @@ feed = 10
 abbrev pub return : ℕ
 return = 13
 
--- without a return at the end
+-- the bytes without a carriage return at the end
 abbrev pub without_return : List ℕ → List ℕ
 without_return [] = []
 without_return (b ∷ []) = if b == return then [] else b ∷ []
@@ -27,7 +27,7 @@ abbrev pub line_of : List ℕ → List Line
 line_of [] = []
 line_of (b ∷ bs) = Bytes (map upper (b ∷ bs)) ∷ []
 
--- of at most 255 bytes, a return counted
+-- a line of at most 255 bytes, a carriage return included
 abbrev pub fitting : List ℕ → List ℕ → List Line
 fitting raw bytes = if nat_lt 255 (length raw) then TooLong ∷ [] else line_of bytes
 

@@ -1,5 +1,6 @@
--- What a line of a session asks of the service, one after the other, each by the replies so far; and what it says
--- in the end. It acts as job 1, in dump mode, by channels, addresses and sizes that are always the same.
+-- What a line of a session asks of the service, one event after the other, each depending on the replies so far; and
+-- what it prints in the end. It acts as job 1, in dump mode, with channels, addresses and sizes that are always the
+-- same.
 use Rattle.std.specs.Prelude.{◌≡◌, ℕ, zero, suc, ◌+◌, ◌*◌, ◌-◌, ◌/◌, ◌%◌, ◌^◌, ◌==◌, Bool, nat_le, if◌then◌else◌}
 use Rattle.std.specs.Prelude.{List, [], ◌∷◌, ◌++◌, replicate, unwrap_or, codes, Result}
 use Rattle.words36.specs.Common.{left, join}
@@ -49,85 +50,85 @@ block_address = 0o200
 
 -- Events.
 
-abbrev pub calls : Moment → Call → Event
-calls moment call = Calls 1 call moment
+abbrev pub call_event : Moment → Call → Event
+call_event moment call = Calls 1 call moment
 
-abbrev pub deposits : ℕ → List ℕ → List Event
-deposits address [] = []
-deposits address (w ∷ ws) = Deposit 1 address w ∷ deposits (address + 1) ws
+abbrev pub deposit_events : ℕ → List ℕ → List Event
+deposit_events address [] = []
+deposit_events address (w ∷ ws) = Deposit 1 address w ∷ deposit_events (address + 1) ws
 
 -- the four words that name a file, with a protection
-abbrev pub names : ℕ → Spec → ℕ → List Event
-names address spec protection = deposits address (spec.name.name ∷ join spec.name.ext 0 ∷ protection * 2 ^ 27
+abbrev pub name_events : ℕ → Spec → ℕ → List Event
+name_events address spec protection = deposit_events address (spec.name.name ∷ join spec.name.ext 0 ∷ protection * 2 ^ 27
     ∷ unwrap_or spec.owner 0 ∷ [])
 
 -- a channel is opened in dump mode
-abbrev pub asks_open : Moment → ℕ → List Event
-asks_open moment channel = deposits open_words (dump_mode ∷ disk ∷ 0 ∷ []) ++ calls moment (Open channel open_words)
+abbrev pub open_events : Moment → ℕ → List Event
+open_events moment channel = deposit_events open_words (dump_mode ∷ disk ∷ 0 ∷ []) ++ call_event moment (Open channel open_words)
     ∷ []
 
 -- the file is looked up on channel 1
-abbrev pub finds : Moment → Spec → List Event
-finds moment spec = asks_open moment 1 ++ names file_words spec 0 ++ calls moment (Lookup 1 file_words) ∷ []
+abbrev pub lookup_events : Moment → Spec → List Event
+lookup_events moment spec = open_events moment 1 ++ name_events file_words spec 0 ++ call_event moment (Lookup 1 file_words) ∷ []
 
 -- the new file is entered on channel 2
-abbrev pub writes : Moment → Spec → List Event
-writes moment spec = asks_open moment 2 ++ names new_words spec 0 ++ calls moment (Enter 2 new_words) ∷ []
+abbrev pub enter_events : Moment → Spec → List Event
+enter_events moment spec = open_events moment 2 ++ name_events new_words spec 0 ++ call_event moment (Enter 2 new_words) ∷ []
 
--- the command list names so many words of the block
-abbrev pub lists : ℕ → List Event
-lists count = deposits list_words (join ((2 ^ 18 - count) % 2 ^ 18) (block_address - 1) ∷ 0 ∷ [])
+-- the command list names `count` words from the address of the block
+abbrev pub list_events : ℕ → List Event
+list_events count = deposit_events list_words (join ((2 ^ 18 - count) % 2 ^ 18) (block_address - 1) ∷ 0 ∷ [])
 
-abbrev pub takes : Moment → Event
-takes moment = calls moment (In 1 list_words)
+abbrev pub in_event : Moment → Event
+in_event moment = call_event moment (In 1 list_words)
 
-abbrev pub asks_out : Moment → Event
-asks_out moment = calls moment (Out 2 list_words)
+abbrev pub out_event : Moment → Event
+out_event moment = call_event moment (Out 2 list_words)
 
 -- block n is the next that is taken
-abbrev pub goes_to : Moment → ℕ → Event
-goes_to moment n = calls moment (Useti 1 n)
+abbrev pub useti_event : Moment → ℕ → Event
+useti_event moment n = call_event moment (Useti 1 n)
 
 -- The new name and place, with the protection that LOOKUP has put into the third word.
-abbrev pub asks_rename : Moment → Spec → Spec → List Event
-asks_rename moment to from =
-    finds moment from ++ Deposit 1 file_words to.name.name ∷ Deposit 1 (file_words + 1) (join to.name.ext 0)
+abbrev pub rename_events : Moment → Spec → Spec → List Event
+rename_events moment to from =
+    lookup_events moment from ++ Deposit 1 file_words to.name.name ∷ Deposit 1 (file_words + 1) (join to.name.ext 0)
     ∷ Deposit 1 (file_words + 3) (unwrap_or to.owner 0)
-    ∷ calls moment (Rename 1 file_words) ∷ []
+    ∷ call_event moment (Rename 1 file_words) ∷ []
 
-abbrev pub deletes : Moment → Spec → List Event
-deletes moment spec = finds moment spec ++ Deposit 1 file_words 0 ∷ calls moment (Rename 1 file_words) ∷ []
+abbrev pub delete_events : Moment → Spec → List Event
+delete_events moment spec = lookup_events moment spec ++ Deposit 1 file_words 0 ∷ call_event moment (Rename 1 file_words) ∷ []
 
-abbrev pub protects : Moment → Spec → ℕ → List Event
-protects moment spec protection = finds moment spec ++ names file_words spec protection
-    ++ calls moment (Rename 1 file_words) ∷ []
+abbrev pub protect_events : Moment → Spec → ℕ → List Event
+protect_events moment spec protection = lookup_events moment spec ++ name_events file_words spec protection
+    ++ call_event moment (Rename 1 file_words) ∷ []
 
-abbrev pub asks_make_dir : Moment → ℕ → ℕ → List Event
-asks_make_dir moment owner protection = deposits file_words (owner ∷ protection * 2 ^ 27 ∷ [])
-    ++ calls moment (MakeDir file_words) ∷ []
+abbrev pub make_dir_events : Moment → ℕ → ℕ → List Event
+make_dir_events moment owner protection = deposit_events file_words (owner ∷ protection * 2 ^ 27 ∷ [])
+    ++ call_event moment (MakeDir file_words) ∷ []
 
-abbrev pub asks_quota : Moment → ℕ → ℕ → List Event
-asks_quota moment owner blocks = deposits file_words (owner ∷ join blocks 0 ∷ [])
-    ++ calls moment (Quota file_words) ∷ []
+abbrev pub quota_events : Moment → ℕ → ℕ → List Event
+quota_events moment owner blocks = deposit_events file_words (owner ∷ join blocks 0 ∷ [])
+    ++ call_event moment (Quota file_words) ∷ []
 
 -- Plans.
 
 pub data Plan : Type 0 where
-  -- an event is asked, and its reply says what comes then
+  -- an event is asked, and its reply determines what comes next
   Ask : Event → (Reply → Plan) → Plan
-  -- the list of a directory is asked for, and the answer says what comes then
+  -- the list of a directory is read, and the answer determines what comes next
   Show : ℕ → (Result (List Entry) Reply → Plan) → Plan
-  -- nothing is asked any more
+  -- nothing more is asked, and this is printed
   Say : Spoken → Plan
 
 -- all channels are closed, whatever is answered
 abbrev pub ends : Moment → Spoken → Plan
-ends moment said = Ask (calls moment Reset) (λ reply. Say said)
+ends moment said = Ask (call_event moment Reset) (λ reply. Say said)
 
 abbrev pub fails : Moment → Reply → Plan
 fails moment reply = ends moment (refuses reply)
 
--- what comes behind an event that has to be done, and behind one that tells a word
+-- what comes after an event that has to be done, and after one that returns a word
 abbrev pub if_done : Moment → Plan → Reply → Plan
 if_done moment next Done = next
 if_done moment next reply = fails moment reply
@@ -144,14 +145,14 @@ each moment (event ∷ events) next = Ask event (if_done moment (each moment eve
 abbrev pub examines : Moment → ℕ → (ℕ → Plan) → Plan
 examines moment address next = Ask (Examine 1 address) (if_told moment next)
 
--- so many words of core from an address on
+-- this number of words of the core, from an address
 unfoldable pub fetches : Moment → ℕ → ℕ → (List ℕ → Plan) → Plan
 fetches moment zero address next = next []
 fetches moment (suc more) address next = examines moment address
     (λ word. fetches moment more (address + 1) (λ words. next (word ∷ words)))
 
--- How long a body is, by the word that LOOKUP has put behind the file's name: left is minus its words, or, of a longer
--- one, how many blocks it has.
+-- The length of a body, by the file's fourth word, which LOOKUP has written: its left half is minus the number of words
+-- or, for a longer body, the number of blocks.
 
 abbrev pub says_words : ℕ → Bool
 says_words size = nat_le (2 ^ 17) (left size)
@@ -159,8 +160,9 @@ says_words size = nat_le (2 ^ 17) (left size)
 abbrev pub blocks_said : ℕ → ℕ
 blocks_said size = if says_words size then blocks_of (2 ^ 18 - left size) else left size
 
--- How many words the last block has where only the blocks are said: an IN leaves the words of core behind the body's
--- end as they are, so that of two INs over different words those that were moved are the same, and no others.
+-- How many words the last block has, if only the number of blocks is given: an IN leaves the words of the core after
+-- the body's end unchanged. After two INs over different words, the words that were moved are therefore the same, and
+-- no others.
 
 abbrev pub same_words : List ℕ → List ℕ → ℕ
 same_words [] ys = 0
@@ -169,20 +171,20 @@ same_words (x ∷ xs) (y ∷ ys) = (if x == y then 1 else 0) + same_words xs ys
 
 -- block n is taken over words that are all this one
 abbrev pub takes_over : Moment → ℕ → ℕ → (List ℕ → Plan) → Plan
-takes_over moment n word next = each moment (deposits block_address (replicate 128 word)
-    ++ goes_to moment n ∷ takes moment ∷ []) (fetches moment 128 block_address next)
+takes_over moment n word next = each moment (deposit_events block_address (replicate 128 word)
+    ++ useti_event moment n ∷ in_event moment ∷ []) (fetches moment 128 block_address next)
 
 abbrev pub counts : Moment → ℕ → (ℕ → Plan) → Plan
 counts moment n next = takes_over moment n 0 (λ zeros. takes_over moment n 1 (λ ones. next (same_words zeros ones)))
 
--- the number of words of the last block, n
+-- the number of words of the last block, if the number of words is given
 abbrev pub last_said : ℕ → ℕ
 last_said size = (2 ^ 18 - left size - 1) % 128 + 1
 
 abbrev pub sizes : Moment → ℕ → ℕ → (ℕ → Plan) → Plan
 sizes moment n size next = if says_words size then next (last_said size) else counts moment n next
 
--- An IN behind the last block tells the body's end.
+-- An IN after the last block reports the body's end.
 
 abbrev pub is_end : ℕ → Bool
 is_end status = status / 2 ^ 13 % 2 == 1
@@ -192,7 +194,7 @@ if_end moment next (Stopped status) = if is_end status then next else fails mome
 if_end moment next reply = fails moment reply
 
 abbrev pub until_end : Moment → Plan → Plan
-until_end moment next = Ask (takes moment) (if_end moment next)
+until_end moment next = Ask (in_event moment) (if_end moment next)
 
 -- Copying: whole blocks, then the words of the last.
 
@@ -206,17 +208,17 @@ blocks_at_once = 16
 -- INs, each followed by an OUT of the words that it moved
 unfoldable pub copies_runs : Moment → ℕ → Plan → Plan
 copies_runs moment zero next = next
-copies_runs moment (suc more) next = each moment (takes moment ∷ asks_out moment ∷ []) (copies_runs moment more next)
+copies_runs moment (suc more) next = each moment (in_event moment ∷ out_event moment ∷ []) (copies_runs moment more next)
 
--- whole blocks: by runs, and those that make none one by one
+-- whole blocks: in runs, and those that make no run one by one
 abbrev pub copies_blocks : Moment → ℕ → Plan → Plan
-copies_blocks moment blocks next = each moment (lists (blocks_at_once * 128))
-    (copies_runs moment (blocks / blocks_at_once) (each moment (lists 128)
+copies_blocks moment blocks next = each moment (list_events (blocks_at_once * 128))
+    (copies_runs moment (blocks / blocks_at_once) (each moment (list_events 128)
     (copies_runs moment (blocks % blocks_at_once) next)))
 
 abbrev pub copies_last : Moment → ℕ → ℕ → Plan → Plan
 copies_last moment n size next = sizes moment n size
-    (λ count. each moment (lists count ++ goes_to moment n ∷ takes moment ∷ asks_out moment ∷ []) next)
+    (λ count. each moment (list_events count ++ useti_event moment n ∷ in_event moment ∷ out_event moment ∷ []) next)
 
 abbrev pub copies_body : Moment → ℕ → ℕ → Plan → Plan
 copies_body moment zero size next = next
@@ -224,9 +226,9 @@ copies_body moment (suc more) size next = copies_blocks moment more (copies_last
 
 abbrev pub copies : Moment → Spec → Spec → Plan
 copies moment to from =
-    each moment (finds moment from ++ writes moment to ++ lists 128)
+    each moment (lookup_events moment from ++ enter_events moment to ++ list_events 128)
     (examines moment (file_words + 3) (λ size. copies_body moment (blocks_said size) size
-    (until_end moment (each moment (calls moment (Close 2 0) ∷ []) (ends moment ok)))))
+    (until_end moment (each moment (call_event moment (Close 2 0) ∷ []) (ends moment ok)))))
 
 -- the list of one directory
 abbrev pub shows : ℕ → Plan
@@ -234,21 +236,21 @@ shows owner = Show owner (λ answer. Say (list_said Columns owner answer))
 
 -- Typing: the words of whole blocks, then those of the last.
 
--- so many INs, each of which moves as many words
+-- a number of INs, each of which moves `count` words
 unfoldable pub types_runs : Moment → ℕ → ℕ → (List ℕ → Plan) → Plan
 types_runs moment zero count next = next []
-types_runs moment (suc more) count next = each moment (takes moment ∷ [])
+types_runs moment (suc more) count next = each moment (in_event moment ∷ [])
     (fetches moment count block_address (λ words. types_runs moment more count (λ others. next (words ++ others))))
 
--- so many whole blocks: by runs, and those that make none one by one
+-- `blocks` whole blocks: in runs, and those that make no run one by one
 abbrev pub types_blocks : Moment → ℕ → (List ℕ → Plan) → Plan
-types_blocks moment blocks next = each moment (lists (blocks_at_once * 128))
-    (types_runs moment (blocks / blocks_at_once) (blocks_at_once * 128) (λ words. each moment (lists 128)
+types_blocks moment blocks next = each moment (list_events (blocks_at_once * 128))
+    (types_runs moment (blocks / blocks_at_once) (blocks_at_once * 128) (λ words. each moment (list_events 128)
     (types_runs moment (blocks % blocks_at_once) 128 (λ others. next (words ++ others)))))
 
 abbrev pub types_last : Moment → ℕ → ℕ → (List ℕ → Plan) → Plan
 types_last moment n size next = sizes moment n size
-    (λ count. each moment (lists count ++ goes_to moment n ∷ takes moment ∷ [])
+    (λ count. each moment (list_events count ++ useti_event moment n ∷ in_event moment ∷ [])
     (fetches moment count block_address next))
 
 abbrev pub types_body : Moment → ℕ → ℕ → (List ℕ → Plan) → Plan
@@ -259,31 +261,31 @@ types_body moment (suc more) size next = types_blocks moment more
 -- a file is read whole, and then printed
 abbrev pub reads_file : Moment → Encoding → Spec → Plan
 reads_file moment encoding spec =
-    each moment (finds moment spec ++ lists 128)
+    each moment (lookup_events moment spec ++ list_events 128)
     (examines moment (file_words + 3) (λ size. types_body moment (blocks_said size) size
     (λ words. until_end moment (ends moment (file_said encoding words)))))
 
 abbrev pub types : Moment → Spec → Plan
 types moment spec = reads_file moment Characters spec
 
--- what a line plans, of a session that is logged in as `me`
+-- the plan of a line, in a session that is logged in as `me`
 abbrev pub begins : Moment → ℕ → Command → Plan
 begins moment me (LoginLine owner) = Say (prints [])
 begins moment me (DirectoryLine owner) = shows (unwrap_or owner me)
 begins moment me (CopyLine to from) = copies moment to from
-begins moment me (RenameLine to from) = each moment (asks_rename moment to from) (ends moment ok)
-begins moment me (DeleteLine spec) = each moment (deletes moment spec) (ends moment ok)
+begins moment me (RenameLine to from) = each moment (rename_events moment to from) (ends moment ok)
+begins moment me (DeleteLine spec) = each moment (delete_events moment spec) (ends moment ok)
 begins moment me (TypeLine spec) = types moment spec
-begins moment me (ProtectLine spec protection) = each moment (protects moment spec protection) (ends moment ok)
-begins moment me (MakeLine owner protection) = each moment (asks_make_dir moment owner protection) (ends moment ok)
-begins moment me (QuotaLine owner blocks) = each moment (asks_quota moment owner blocks) (ends moment ok)
+begins moment me (ProtectLine spec protection) = each moment (protect_events moment spec protection) (ends moment ok)
+begins moment me (MakeLine owner protection) = each moment (make_dir_events moment owner protection) (ends moment ok)
+begins moment me (QuotaLine owner blocks) = each moment (quota_events moment owner blocks) (ends moment ok)
 
 -- What is asked of the service, with the answer.
 pub data Act : Type 0 where
   Asks : Event → Reply → Act
   Looks : ℕ → Result (List Entry) Reply → Act
 
--- By these acts a plan comes to what is left of it.
+-- With these acts a plan comes to what is left of it.
 abbrev pub Leads : Plan → List Act → Plan → Type 0
 Leads plan [] left = left ≡ plan
 Leads (Ask event next) (Asks asked reply ∷ acts) left = (asked ≡ event) × Leads (next reply) acts left
@@ -292,6 +294,6 @@ Leads (Show owner next) (Asks asked reply ∷ acts) left = ⊥
 Leads (Show owner next) (Looks shown answer ∷ acts) left = (shown ≡ owner) × Leads (next answer) acts left
 Leads (Say said) (act ∷ acts) left = ⊥
 
--- From a plan on these are the acts, and this is said in the end.
-abbrev pub Conducts : Plan → List Act → Spoken → Type 0
-Conducts plan acts said = Leads plan acts (Say said)
+-- These are the acts of a plan to its end, and this is printed then.
+abbrev pub RunsPlan : Plan → List Act → Spoken → Type 0
+RunsPlan plan acts said = Leads plan acts (Say said)

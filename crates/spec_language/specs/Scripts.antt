@@ -1,4 +1,4 @@
--- What a line of a call script says: an event. And what is written for its reply. All numbers are octal.
+-- What a line of a call script means, which is an event, and what is written for its reply. All numbers are octal.
 use Rattle.std.specs.Prelude.{◌≡◌, ℕ, ◌-◌, ◌==◌, ◌&&◌, Bool, true, false, if◌then◌else◌, List, [], ◌∷◌, ◌++◌, length}
 use Rattle.std.specs.Prelude.{replicate, Option, Some, None, codes}
 use Rattle.std.specs.Fmt.{digits}
@@ -78,19 +78,19 @@ IsEventText fields moment (Calls n call at) =
 abbrev pub IsEvent : List ℕ → Moment → Event → Type 0
 IsEvent text moment event = (fields : List (List ℕ)) × AreFields fields text × IsEventText fields moment event
 
--- what a text says, where it says anything
+-- what a text means, if it means anything
 abbrev pub SaysEvent : List ℕ → Moment → Option Event → Type 0
 SaysEvent text moment (Some event) = IsEvent text moment event
 SaysEvent text moment None = (event : Event) → IsEvent text moment event → ⊥
 
--- and a line: one that is too long says nothing
+-- and what a line means: a line that is too long means nothing
 abbrev pub MeansEvent : Line → Moment → Option Event → Type 0
 MeansEvent (Bytes text) moment said = SaysEvent text moment said
 MeansEvent TooLong moment said = said ≡ None
 
 -- What is written, without the line feed.
 
--- a number in so many octal digits
+-- a number in octal, of at least `places` digits
 abbrev pub octal_in : ℕ → ℕ → List ℕ
 octal_in places n = replicate (places - length (digits 8 false n)) 48 ++ digits 8 false n
 
@@ -107,6 +107,6 @@ words_given Device = codes "DEVICE"
 words_given Failed = codes "FAILED"
 words_given DateRange = codes "DATE"
 
--- for a line that is none of the grammar
+-- what is written for a line that isn't in the grammar
 abbrev pub wrong : List ℕ
 wrong = codes "SYNTAX"

@@ -44,14 +44,14 @@ octal_after high (c ∷ cs) = octal_after (high * 8 + (c - 48)) cs
 abbrev pub octal : List ℕ → ℕ
 octal text = octal_after 0 text
 
--- a number of at most so many digits
+-- a number of at most `most` digits
 pub record IsNumber (most : ℕ) (text : List ℕ) (n : ℕ) : Type 0 where
   pub some : 0 < length text
   pub few : length text ≤ most
   pub digits : Are is_octal text
   pub value : n ≡ octal text
 
--- one that fits in a half word
+-- a number that fits in a half word
 pub record IsSmall (most : ℕ) (text : List ℕ) (n : ℕ) : Type 0 where
   pub number : IsNumber most text n
   pub small : n < 2 ^ 18
@@ -73,7 +73,7 @@ pub record IsBlockCount (text : List ℕ) (n : ℕ) : Type 0 where
   pub value : n ≡ decimal_after 0 text
   pub small : n < 2 ^ 18
 
--- p,n, neither 0
+-- p,n, of which neither is 0
 pub record IsPair (most : ℕ) (text : List ℕ) (ppn : ℕ) : Type 0 where
   pub project : ℕ
   pub programmer : ℕ
@@ -92,7 +92,7 @@ pub record IsBracketed (text : List ℕ) (ppn : ℕ) : Type 0 where
   pub named : IsPair 6 pair ppn
   pub spelled : text ≡ 91 ∷ (pair ++ 93 ∷ [])
 
--- Files: NAME or NAME.EXT, and [p,n] or nothing behind it.
+-- Files: NAME or NAME.EXT, and [p,n] or nothing after it.
 
 -- one to six letters and digits
 pub record IsName (text : List ℕ) (name : ℕ) : Type 0 where
@@ -101,7 +101,7 @@ pub record IsName (text : List ℕ) (name : ℕ) : Type 0 where
   pub letters : Are is_letter text
   pub value : name ≡ sixbit text
 
--- nothing, or a full stop and up to three
+-- nothing, or a full stop and up to three letters and digits
 abbrev pub IsExtension : List ℕ → ℕ → Type 0
 IsExtension [] ext = ext ≡ 0
 IsExtension (c ∷ cs) ext = (c ≡ 46) × (length cs ≤ 3) × Are is_letter cs × (ext ≡ left (sixbit cs))

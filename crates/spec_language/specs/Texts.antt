@@ -51,7 +51,7 @@ code_text code =
     else if code == 0o22 then codes "?Directory not empty"
     else codes "?Illegal sequence"
 
--- A line meets no NoChannel and no AddressCheck, since its channels and addresses are there.
+-- A line never gets NoChannel or AddressCheck, since its channels and addresses are there.
 abbrev pub refusal : Reply → List ℕ
 refusal Done = codes "?Illegal sequence"
 refusal (Value word) = codes "?Illegal sequence"
@@ -81,7 +81,7 @@ is_broken DateRange = false
 abbrev pub refuses : Reply → Spoken
 refuses reply = record { text = line (refusal reply); refused = true; broke = is_broken reply }
 
--- What is printed of what is done.
+-- What is printed for what is done.
 
 abbrev pub greeting : ℕ → List ℕ
 greeting owner = line (codes "Job 1 " ++ ppn_text owner)
@@ -93,13 +93,13 @@ not_null c = if c == 0 then [] else c ∷ []
 abbrev pub typed : List ℕ → List ℕ
 typed words = flat_map not_null (unpacked words)
 
--- the bytes of words, if there are some, or that there are none
+-- the bytes of words, if they have bytes, or that they have none
 abbrev pub octets_said : Option (List ℕ) → Spoken
 octets_said (Some bytes) = prints bytes
 octets_said None = complains (codes "?Not bytes")
 
--- what is said of a file of words: its characters; eight bytes for each word, the most significant first; or its bytes
--- of eight bits
+-- what is printed for a file of words: its characters; eight bytes for each word, the most significant first; or its
+-- bytes of eight bits
 abbrev pub file_said : Encoding → List ℕ → Spoken
 file_said Characters words = prints (typed words)
 file_said Words words = prints (flat_map word_bytes words)
@@ -107,7 +107,7 @@ file_said Octets words = octets_said (octets_unpacked words)
 
 -- The list of a directory.
 
--- a text right in so many places
+-- a text, filled with spaces at the left to `places` characters
 abbrev pub right_in : ℕ → List ℕ → List ℕ
 right_in places text = replicate (places - length text) 32 ++ text
 
@@ -156,8 +156,8 @@ total_text owner (e ∷ es) =
 unfoldable pub listing : ℕ → List Entry → List ℕ
 listing owner entries = flat_map entry_text entries ++ total_text owner entries
 
--- The list of a directory as a table: a line for each file, whose fields are apart by a tab. They are its owner, name
--- and extension, protection and mode in octal, day and minute, words and blocks.
+-- The list of a directory as a table: a line for each file, whose fields are separated by tabs. They are its owner,
+-- name and extension, protection and mode in octal, day and minute, words and blocks.
 
 abbrev pub tab : List ℕ
 tab = 9 ∷ []

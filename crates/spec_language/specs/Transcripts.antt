@@ -8,7 +8,7 @@ use Rattle.spec_language.specs.Commands.{Means}
 use Rattle.spec_language.specs.Scripts.{MeansEvent, words_given, wrong}
 use Rattle.spec_language.specs.Texts.{Spoken, both_said, silent, prints, complains, refuses, greeting, is_broken}
 use Rattle.spec_language.specs.Texts.{line}
-use Rattle.spec_language.specs.Plans.{Act, Asks, Looks, Conducts, begins}
+use Rattle.spec_language.specs.Plans.{Act, Asks, Looks, RunsPlan, begins}
 use Rattle.spec_language.specs.declared.command.Command.{Command}
 use Rattle.spec_language.specs.declared.command.Command.TheVariants.{Login as LoginLine}
 use Rattle.spec_machine.specs.declared.call.Event.{Event}
@@ -24,36 +24,36 @@ login_said owner Done = prints (greeting owner)
 login_said owner reply = refuses reply
 
 abbrev pub login_who : Option ℕ → ℕ → Reply → Option ℕ
-login_who who owner Done = Some owner
-login_who who owner reply = who
+login_who user owner Done = Some owner
+login_who user owner reply = user
 
--- how many words job 1's core has
+-- the number of words of job 1's core
 abbrev pub core_words : ℕ
 core_words = 0o10000
 
--- job 1 logs in, also a second time
+-- job 1 logs in, or logs in again
 abbrev pub LogsIn : Option ℕ → ℕ → List Act → Spoken → Option ℕ → Type 0
-LogsIn who owner acts said then_who = (reply : Reply) × (acts ≡ Asks (Login 1 owner core_words) reply ∷ [])
-    × (said ≡ login_said owner reply) × (then_who ≡ login_who who owner reply)
+LogsIn user owner acts said then_who = (reply : Reply) × (acts ≡ Asks (Login 1 owner core_words) reply ∷ [])
+    × (said ≡ login_said owner reply) × (then_who ≡ login_who user owner reply)
 
 -- any other line, which needs a job
 abbrev pub Acts : Moment → Option ℕ → Command → List Act → Spoken → Option ℕ → Type 0
 Acts moment None command acts said then_who = (acts ≡ []) × (said ≡ complains (codes "?Not logged in"))
     × (then_who ≡ None)
-Acts moment (Some me) command acts said then_who = Conducts (begins moment me command) acts said × (then_who ≡ Some me)
+Acts moment (Some me) command acts said then_who = RunsPlan (begins moment me command) acts said × (then_who ≡ Some me)
 
--- What a line that means this asks, says, and who is logged in then.
+-- What a line of this meaning asks and prints, and who is logged in after it.
 abbrev pub Speaks : Moment → Option ℕ → Option Command → List Act → Spoken → Option ℕ → Type 0
-Speaks moment who None acts said then_who = (acts ≡ []) × (said ≡ complains (codes "?Command error")) × (then_who ≡ who)
-Speaks moment who (Some (LoginLine owner)) acts said then_who = LogsIn who owner acts said then_who
-Speaks moment who (Some command) acts said then_who = Acts moment who command acts said then_who
+Speaks moment user None acts said then_who = (acts ≡ []) × (said ≡ complains (codes "?Command error")) × (then_who ≡ user)
+Speaks moment user (Some (LoginLine owner)) acts said then_who = LogsIn user owner acts said then_who
+Speaks moment user (Some command) acts said then_who = Acts moment user command acts said then_who
 
 abbrev pub IsTranscript : Moment → Option ℕ → List Line → List Act → Spoken → Option ℕ → Type 0
-IsTranscript moment who [] acts said then_who = (acts ≡ []) × (said ≡ silent) × (then_who ≡ who)
-IsTranscript moment who (line ∷ lines) acts said then_who =
+IsTranscript moment user [] acts said then_who = (acts ≡ []) × (said ≡ silent) × (then_who ≡ user)
+IsTranscript moment user (line ∷ lines) acts said then_who =
     (meant : Option Command) × Means line meant × (first : List Act) × (more : List Act) × (here : Spoken)
     × (there : Spoken) × (mid : Option ℕ)
-    × Speaks moment who meant first here mid × IsTranscript moment mid lines more there then_who
+    × Speaks moment user meant first here mid × IsTranscript moment mid lines more there then_who
     × (acts ≡ first ++ more) × (said ≡ both_said here there)
 
 -- Lines of a call script.
@@ -103,7 +103,7 @@ abbrev pub Went : Pack → Service → List Act → Service → Type 0
 Went pack old [] new = new ≡ old
 Went pack old (act ∷ acts) new = (mid : Service) × Does pack old act mid × Went pack mid acts new
 
--- The same where no act met want of memory or a fault of the disk.
+-- The same, if memory sufficed and the disk had no fault in each act.
 abbrev pub Served : Pack → State → List Act → State → Type 0
 Served pack s [] after = after ≡ s
 Served pack s (Asks event reply ∷ acts) after = (mid : State) × Steps pack s event reply mid

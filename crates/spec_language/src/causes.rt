@@ -1,16 +1,17 @@
+//! Laws about the plan of a line, and why a line is refused.
 ghost use Rattle.std.specs.Prelude.{◌≡◌, ◌⊎◌, ℕ, List, Some};
 ghost use Rattle.words36.specs.declared.moment.Moment.{Moment};
 ghost use Rattle.spec_language.specs.Causes.{GoesUntilRefused, SaysOk, PrintsAtEnd, EndsSo, SaysSo, IsRefusedAt};
 ghost use Rattle.spec_language.specs.Causes.{TellingsHaveCauses};
 ghost use Rattle.spec_language.specs.Errands.{gets, keeps};
-ghost use Rattle.spec_language.specs.Plans.{Act, Conducts, begins, ok, reads_file};
+ghost use Rattle.spec_language.specs.Plans.{Act, RunsPlan, begins, ok, reads_file};
 ghost use Rattle.spec_language.specs.Texts.{Spoken, file_said};
 ghost use Rattle.spec_language.specs.declared.command.Command.{Command};
 ghost use Rattle.spec_language.specs.declared.command.Spec.{Spec};
 ghost use Rattle.spec_language.specs.declared.encoding.Encoding.{Encoding};
 
-/// What a line, a file that is read or an errand asks goes on while each reply is the one wanted, and comes to its end;
-/// after the first other reply it is refused, and says that reply.
+/// Proves that the plan of a line, of a file that is read or of an errand continues while each reply is the one wanted,
+/// and comes to its end; after the first other reply it is refused, and prints that reply.
 pub fn plans_go_on()
     ensures lines { (moment : Moment) (me : ℕ) (command : Command)
         → GoesUntilRefused moment (EndsSo moment me command) (begins moment me command) }
@@ -22,19 +23,19 @@ pub fn plans_go_on()
         → GoesUntilRefused moment (PrintsAtEnd moment encoding) (gets moment me encoding spec) }
 {}
 
-/// A line is refused only at a reply that it did not want, and prints the text of the first one. A file that was read
-/// is refused only if its bytes were asked for, and no bytes have its words.
+/// Proves that a line is refused only at a reply that it didn't want, and prints the text of the first one; and that a
+/// file that was read is refused only if its bytes were asked for and no bytes have its words.
 pub fn refusals_have_causes()
     ensures lines { (moment : Moment) (me : ℕ) (command : Command) (acts : List Act) (said : Spoken)
-        → Conducts (begins moment me command) acts said → SaysSo me command said ⊎ IsRefusedAt moment acts said }
+        → RunsPlan (begins moment me command) acts said → SaysSo me command said ⊎ IsRefusedAt moment acts said }
     ensures reads { (moment : Moment) (encoding : Encoding) (spec : Spec) (acts : List Act) (said : Spoken)
-        → Conducts (reads_file moment encoding spec) acts said
+        → RunsPlan (reads_file moment encoding spec) acts said
         → ((words : List ℕ) × (said ≡ file_said encoding words)) ⊎ IsRefusedAt moment acts said }
     ensures puts { (moment : Moment) (me : ℕ) (encoding : Encoding) (spec : Spec) (words : List ℕ) (acts : List Act)
-        (said : Spoken) → Conducts (keeps moment me encoding spec (Some words)) acts said
+        (said : Spoken) → RunsPlan (keeps moment me encoding spec (Some words)) acts said
         → (said ≡ ok) ⊎ IsRefusedAt moment acts said }
     ensures gets { (moment : Moment) (me : ℕ) (encoding : Encoding) (spec : Spec) (acts : List Act) (said : Spoken)
-        → Conducts (gets moment me encoding spec) acts said
+        → RunsPlan (gets moment me encoding spec) acts said
         → ((words : List ℕ) × (said ≡ file_said encoding words)) ⊎ IsRefusedAt moment acts said }
     ensures tells { TellingsHaveCauses }
 {}

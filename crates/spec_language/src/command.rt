@@ -1,3 +1,4 @@
+//! The commands of a session.
 use words36::{FileName, Ppn};
 
 /// How a line of a session names a file.
@@ -5,18 +6,18 @@ use words36::{FileName, Ppn};
 pub struct Spec {
     /// The file's name and extension.
     pub name: FileName,
-    /// Whose directory it is in: none is the job's own.
+    /// The owner of the directory that it is in: `None` is the job's own.
     pub owner: Option<Ppn>,
 }
 
-/// What a line of a session says.
+/// What a line of a session means.
 #[derive(Clone, Copy, Debug, PartialEq, Eq)]
 pub enum Command {
     /// Job 1 logs in.
     Login(Ppn),
-    /// Lists a directory, or without a number the job's own.
+    /// Lists a directory, or the job's own if there is no number.
     Directory(Option<Ppn>),
-    /// Copies a file: the new one, and the one that is copied.
+    /// Copies a file: the new file, and the one that is copied.
     Copy(Spec, Spec),
     /// Renames a file: its new name, and the old one. Its protection stays.
     Rename(Spec, Spec),

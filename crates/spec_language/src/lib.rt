@@ -1,11 +1,12 @@
-//! What lines say, ask and print: the languages of commands and of call scripts, as definitions, and laws of them.
+//! The languages of commands and of call scripts, which determine what lines mean, ask and print: definitions, and laws
+//! about them.
 //!
-//! The definitions stand in `specs/`, to be read in this order: `Lines` and `Spellings` (characters, and what they
-//! spell), `Commands` and `Scripts` (the two grammars), `Texts` (what is printed), `Plans` (what a line asks of the
-//! machine), `Transcripts` (lines, one after the other), and `Errands`, `Copies` and `Causes` (what comes of a line, and
-//! why it is refused). `Common` passes on what other crates cite.
+//! The definitions are in `specs/`. Read them in this order: `Lines` and `Spellings` (characters, and what they spell),
+//! `Commands` and `Scripts` (the two grammars), `Texts` (what is printed), `Plans` (what a line asks of the machine),
+//! `Transcripts` (lines, one after the other), and `Errands`, `Copies` and `Causes` (what comes of a line, and why it
+//! is refused). `Common` passes on what other crates cite.
 //!
-//! A law is the contract of a function without parameters. In `src/` there are besides only the plain types that
+//! A law is the contract of a function that does nothing. Besides laws, `src/` has only the plain types that
 //! definitions and code share.
 #![tactic(auto)]
 

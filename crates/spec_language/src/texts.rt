@@ -1,3 +1,4 @@
+//! Laws about what lines mean and print.
 ghost use Rattle.std.specs.Prelude.{◌≡◌, ℕ, List, Option};
 ghost use Rattle.words36.specs.declared.moment.Moment.{Moment};
 ghost use Rattle.spec_machine.specs.declared.call.Event.{Event};
@@ -11,26 +12,26 @@ ghost use Rattle.spec_language.specs.Scripts.{IsEvent};
 ghost use Rattle.spec_language.specs.Transcripts.{IsTranscript, Scripts, Served, Went};
 ghost use Rattle.spec_language.specs.Texts.{Spoken};
 
-/// A line says one thing at most: it has at most one reading in the grammar of sessions, and at most one in
-/// that of call scripts.
+/// Proves that a line means one thing at most: it has at most one reading in the grammar of sessions, and at most one
+/// in that of call scripts.
 pub fn lines_have_one_reading()
     ensures session { (text : List ℕ) (one other : Command) → IsCommand text one → IsCommand text other → one ≡ other }
     ensures script { (text : List ℕ) (moment : Moment) (one other : Event) → IsEvent text moment one
         → IsEvent text moment other → one ≡ other }
 {}
 
-/// Acts that met no want of memory and no fault of the disk are acts of the service.
+/// Proves that acts in which memory sufficed and the disk had no fault are acts of the service.
 pub fn served_acts_are_acts()
     ensures { (pack : Pack) (s t : State) (acts : List Act) → Served pack s acts t
         → Went pack (Serving s) acts (Serving t) }
 {}
 
-/// The text of lines, and what is counted of them, is a function of the lines, the state and the moment, where
-/// no act met want of memory or a fault of the disk: whatever serials were chosen, the same is printed.
+/// Proves that the text of lines, and what is counted of them, is a function of the lines, the state and the moment, if
+/// memory sufficed and the disk had no fault in each act: whatever serials were chosen, the same is printed.
 pub fn texts_are_functions()
-    ensures session { (pack : Pack) (moment : Moment) (lines : List Line) (who : Option ℕ) (s t u : State)
+    ensures session { (pack : Pack) (moment : Moment) (lines : List Line) (user : Option ℕ) (s t u : State)
         (acts others : List Act) (one other : Spoken) (x y : Option ℕ)
-        → IsTranscript moment who lines acts one x → Served pack s acts t → IsTranscript moment who lines others other y
+        → IsTranscript moment user lines acts one x → Served pack s acts t → IsTranscript moment user lines others other y
         → Served pack s others u → one ≡ other }
     ensures script { (pack : Pack) (moment : Moment) (lines : List Line) (s t u : State) (acts others : List Act)
         (one other : Spoken)

@@ -1,12 +1,13 @@
--- Sums over output sides, and what is booked, where a job's record changes.
+-- Sums over output sides, and what is booked, if a job's record changes.
 use Rattle.std.proofs.Common.{◌≡◌, ℕ, zero, suc, ◌+◌, ◌≤◌, Bool, true, false, List, [], ◌∷◌, ◌++◌, length, Option}
 use Rattle.std.proofs.Common.{Some, None, refl, sym, ap, subst, ◌∙◌, ◌⊎◌, inl, inr, arith}
 use Rattle.std.specs.List.{AllByRecursion, cons_option}
 use Rattle.std.specs.Prelude.{slice_set, flat_map, filter_map, ◌==◌, ◌||◌}
 use Rattle.std.proofs.lemmas.Bool.{eq-eqb}
-use Rattle.spec_image.specs.Common.{total, Files, Version, version_cost}
-use Rattle.spec_machine.specs.Jobs.{Channel, Job, Output, State, slot, channel_at, job_at, with_channel, all_closed}
-use Rattle.spec_machine.specs.Room.{output_of, outputs_of, outputs, distinct_cost, current_versions, held_versions}
+use Rattle.spec_image.specs.Common.{total, Files, SpecVersion, version_cost}
+use Rattle.spec_machine.specs.Jobs.{Channel, SpecJob, SpecOutput, State, slot, channel_at, job_at, with_channel}
+use Rattle.spec_machine.specs.Jobs.{all_closed}
+use Rattle.spec_machine.specs.Room.{output_of, outputs_of, outputs, distinct_cost, current_versions, pinned_versions}
 use Rattle.spec_machine.specs.Room.{has_serial}
 use Rattle.spec_machine.specs.Runs.{IsFresh}
 use Rattle.spec_machine.specs.Sound.{Exists, AreAlike, IsSound}
@@ -57,30 +58,30 @@ total-set_le g (z ∷ xs) (suc n) x = let r = total-set_le g xs n x in omega ari
 
 -- Sums over output sides.
 
-module _ (f : Output → ℕ) where
+module _ (f : SpecOutput → ℕ) where
   abbrev pub sum_of : State → ℕ
   sum_of s = total f (outputs s)
 
-  of_job : Option Job → ℕ
+  of_job : Option SpecJob → ℕ
   of_job j = total f (outputs_of j)
 
   of_jobs : (s : State) → sum_of s ≡ total of_job s.jobs
   unfolding of_job
   of_jobs s = total-flat_map f outputs_of s.jobs
 
-  of_channels : (job : Job) → of_job (Some job) ≡ total (λ c. item f (output_of c)) job.channels
+  of_channels : (job : SpecJob) → of_job (Some job) ≡ total (λ c. item f (output_of c)) job.channels
   unfolding of_job
   of_channels job = total-filter_map f output_of job.channels
 
-  -- a job that is there gets another record
-  replaced : (s : State) (files : Files Version) (n : ℕ) (job new : Job) → job_at s n ≡ Some job
+  -- a job that exists gets another record
+  replaced : (s : State) (files : Files SpecVersion) (n : ℕ) (job new : SpecJob) → job_at s n ≡ Some job
       → sum_of (record s { files = files; jobs = slice_set s.jobs n (Some new) }) + of_job (Some job)
       ≡ sum_of s + of_job (Some new)
   replaced s files n job new there =
       ap (λ k. k + of_job (Some job)) (of_jobs (record s { files = files; jobs = slice_set s.jobs n (Some new) }))
       ∙ total-set of_job s.jobs n (Some new) job there ∙ ap (λ k. k + of_job (Some new)) (sym (of_jobs s))
 
-  replaced_le : (s : State) (n : ℕ) (new : Job) → sum_of (record s { jobs = slice_set s.jobs n (Some new) })
+  replaced_le : (s : State) (n : ℕ) (new : SpecJob) → sum_of (record s { jobs = slice_set s.jobs n (Some new) })
       ≤ sum_of s + of_job (Some new)
   replaced_le s n new =
       let a = of_jobs (record s { jobs = slice_set s.jobs n (Some new) }) in
@@ -88,7 +89,7 @@ module _ (f : Output → ℕ) where
       let c = total-set_le of_job s.jobs n (Some new) in
       omega (arith, a, b, c)
 
-  channel_replaced : (job : Job) (core : List ℕ) (ch : ℕ) (c : Channel) (x : Option Channel)
+  channel_replaced : (job : SpecJob) (core : List ℕ) (ch : ℕ) (c : Channel) (x : Option Channel)
       → channel_at job ch ≡ Some c
       → of_job (Some (with_channel (record job { core = core }) ch x)) + item f c.output
       ≡ of_job (Some job) + item f (output_of x)
@@ -97,7 +98,7 @@ module _ (f : Output → ℕ) where
       ∙ total-set (λ c. item f (output_of c)) job.channels ch x c is
       ∙ ap (λ k. k + item f (output_of x)) (sym (of_channels job))
 
-  channel_le : (job : Job) (core : List ℕ) (ch : ℕ) (x : Option Channel)
+  channel_le : (job : SpecJob) (core : List ℕ) (ch : ℕ) (x : Option Channel)
       → of_job (Some (with_channel (record job { core = core }) ch x)) ≤ of_job (Some job) + item f (output_of x)
   channel_le job core ch x =
       let a = of_channels (with_channel (record job { core = core }) ch x) in
@@ -106,7 +107,7 @@ module _ (f : Output → ℕ) where
       omega (arith, a, b, c)
 
   -- a channel that is open becomes another one, or is closed
-  pub sum_channel : (s : State) (files : Files Version) (n : ℕ) (job : Job) (core : List ℕ) (ch : ℕ) (c : Channel)
+  pub sum_channel : (s : State) (files : Files SpecVersion) (n : ℕ) (job : SpecJob) (core : List ℕ) (ch : ℕ) (c : Channel)
       (x : Option Channel) → job_at s n ≡ Some job → channel_at job ch ≡ Some c
       → sum_of (record s {
         files = files;
@@ -118,7 +119,7 @@ module _ (f : Output → ℕ) where
       omega (arith, a, b)
 
   -- a channel with no output side is opened
-  pub sum_opened : (s : State) (n : ℕ) (job : Job) (core : List ℕ) (ch : ℕ) (d : Channel) → job_at s n ≡ Some job
+  pub sum_opened : (s : State) (n : ℕ) (job : SpecJob) (core : List ℕ) (ch : ℕ) (d : Channel) → job_at s n ≡ Some job
       → d.output ≡ None
       → sum_of (record s { jobs = slice_set s.jobs n (Some (with_channel (record job { core = core }) ch (Some d))) })
       ≤ sum_of s
@@ -145,42 +146,42 @@ module _ (f : Output → ℕ) where
 -- What versions cost.
 
 module _ (s s' : State) (sound : IsSound s) where
-  serial_there : (w : Version) → Exists s w → has_serial w.serial (current_versions s ++ held_versions s) ≡ true
-  serial_there w there = decide (has_serial w.serial (current_versions s ++ held_versions s)) refl
+  serial_there : (w : SpecVersion) → Exists s w → has_serial w.serial (current_versions s ++ pinned_versions s) ≡ true
+  serial_there w there = decide (has_serial w.serial (current_versions s ++ pinned_versions s)) refl
     where
-      decide : (b : Bool) → has_serial w.serial (current_versions s ++ held_versions s) ≡ b → b ≡ true
+      decide : (b : Bool) → has_serial w.serial (current_versions s ++ pinned_versions s) ≡ b → b ≡ true
       decide true e = refl
       decide false e =
           let h = version_of_all s (λ v. (v.serial == w.serial) ≡ false)
-          (none_passes (λ v. v.serial == w.serial) (current_versions s ++ held_versions s) e) w there in
+          (none_passes (λ v. v.serial == w.serial) (current_versions s ++ pinned_versions s) e) w there in
           let wrong = sym h ∙ eq-eqb w.serial w.serial refl in cc
 
-  cost_alike : (v w : Version) → AreAlike v w → cost v ≡ cost w
+  cost_alike : (v w : SpecVersion) → AreAlike v w → cost v ≡ cost w
   cost_alike v w a = ap (λ body. version_cost (length body)) a.body
 
-  same_cost : (w : Version) → Known s w
-      → AllByRecursion (λ y. y.serial ≡ w.serial → cost y ≡ cost w) (current_versions s ++ held_versions s)
+  same_cost : (w : SpecVersion) → Known s w
+      → AllByRecursion (λ y. y.serial ≡ w.serial → cost y ≡ cost w) (current_versions s ++ pinned_versions s)
   same_cost w at = all_versions s (λ y. y.serial ≡ w.serial → cost y ≡ cost w)
       (λ y is e. cost_alike y at.0 (sound.serials y at.0 is at.1 (e ∙ sym at.2)) ∙ cost_alike at.0 w at.3)
 
-  serial_known : (w : Version) → Known s w → has_serial w.serial (current_versions s ++ held_versions s) ≡ true
-  serial_known w at = subst (λ k. has_serial k (current_versions s ++ held_versions s) ≡ true) at.2
+  serial_known : (w : SpecVersion) → Known s w → has_serial w.serial (current_versions s ++ pinned_versions s) ≡ true
+  serial_known w at = subst (λ k. has_serial k (current_versions s ++ pinned_versions s) ≡ true) at.2
       (serial_there at.0 at.1)
 
-  pub costs_kept : ((w : Version) → Exists s' w → Known s w) → distinct_cost (current_versions s' ++ held_versions s')
-      ≤ distinct_cost (current_versions s ++ held_versions s)
-  costs_kept was = distinct_le (current_versions s' ++ held_versions s') (current_versions s ++ held_versions s)
-      (all_versions s' (Fits (current_versions s ++ held_versions s))
+  pub costs_kept : ((w : SpecVersion) → Exists s' w → Known s w) → distinct_cost (current_versions s' ++ pinned_versions s')
+      ≤ distinct_cost (current_versions s ++ pinned_versions s)
+  costs_kept was = distinct_le (current_versions s' ++ pinned_versions s') (current_versions s ++ pinned_versions s)
+      (all_versions s' (Fits (current_versions s ++ pinned_versions s))
       (λ w there. (serial_known w (was w there), same_cost w (was w there))))
 
-  module _ (v : Version) (fresh : IsFresh s v.serial) where
-    another : (w : Version) → Exists s w → w.serial ≡ v.serial → ⊥
+  module _ (v : SpecVersion) (fresh : IsFresh s v.serial) where
+    another : (w : SpecVersion) → Exists s w → w.serial ≡ v.serial → ⊥
     another w there e =
         let h = version_of_all s (λ u. (u.serial == v.serial) ≡ false)
-        (none_passes (λ u. u.serial == v.serial) (current_versions s ++ held_versions s) fresh) w there in
+        (none_passes (λ u. u.serial == v.serial) (current_versions s ++ pinned_versions s) fresh) w there in
         let wrong = sym h ∙ eq-eqb w.serial v.serial e in cc
 
-    fits_new : (w : Version) → Known s w ⊎ (w ≡ v) → Fits (v ∷ (current_versions s ++ held_versions s)) w
+    fits_new : (w : SpecVersion) → Known s w ⊎ (w ≡ v) → Fits (v ∷ (current_versions s ++ pinned_versions s)) w
     fits_new w (inl at) = (
       passes (v.serial == w.serial) (serial_known w at),
       ((λ e. absurd (another at.0 at.1 (at.2 ∙ sym e))), same_cost w at),
@@ -190,23 +191,23 @@ module _ (s s' : State) (sound : IsSound s) where
         passes true e = refl
         passes false e = e
     fits_new w (inr same) = (
-      subst (λ u. has_serial u.serial (v ∷ (current_versions s ++ held_versions s)) ≡ true) (sym same)
-          (first v (current_versions s ++ held_versions s)),
+      subst (λ u. has_serial u.serial (v ∷ (current_versions s ++ pinned_versions s)) ≡ true) (sym same)
+          (first v (current_versions s ++ pinned_versions s)),
       (
         (λ e. ap cost (sym same)),
         all_versions s (λ y. y.serial ≡ w.serial
-            → cost y ≡ cost w) (λ y is e. absurd (another y is (e ∙ ap (λ (u : Version). u.serial) same))),
+            → cost y ≡ cost w) (λ y is e. absurd (another y is (e ∙ ap (λ (u : SpecVersion). u.serial) same))),
       ),
     )
       where
-        first : (v : Version) (vs : List Version) → has_serial v.serial (v ∷ vs) ≡ true
+        first : (v : SpecVersion) (vs : List SpecVersion) → has_serial v.serial (v ∷ vs) ≡ true
         first v vs = let e = eq-eqb v.serial v.serial refl in rw e refl
 
-    pub costs_new : ((w : Version) → Exists s' w → Known s w ⊎ (w ≡ v))
-        → distinct_cost (current_versions s' ++ held_versions s') ≤ cost v + distinct_cost
-        (current_versions s ++ held_versions s)
+    pub costs_new : ((w : SpecVersion) → Exists s' w → Known s w ⊎ (w ≡ v))
+        → distinct_cost (current_versions s' ++ pinned_versions s') ≤ cost v + distinct_cost
+        (current_versions s ++ pinned_versions s)
     costs_new was =
-        let a = distinct_le (current_versions s' ++ held_versions s') (v ∷ (current_versions s ++ held_versions s))
-        (all_versions s' (Fits (v ∷ (current_versions s ++ held_versions s))) (λ w there. fits_new w (was w there))) in
-        let b = distinct_more v (current_versions s ++ held_versions s) in
+        let a = distinct_le (current_versions s' ++ pinned_versions s') (v ∷ (current_versions s ++ pinned_versions s))
+        (all_versions s' (Fits (v ∷ (current_versions s ++ pinned_versions s))) (λ w there. fits_new w (was w there))) in
+        let b = distinct_more v (current_versions s ++ pinned_versions s) in
         omega (arith, a, b)

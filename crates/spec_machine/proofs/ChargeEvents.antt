@@ -4,19 +4,19 @@ use Rattle.std.proofs.Common.{◌∙◌, ◌⊎◌, inl, inr, ⊎_elim, arith}
 use Rattle.std.specs.Prelude.{nat_lt, nat_le}
 use Rattle.words36.specs.declared.moment.Moment.{Moment}
 use Rattle.spec_image.specs.Common.{insert, remove, Pack, files_limited}
-use Rattle.spec_machine.specs.Jobs.{Channel, Job, State, channel_at, job_at, with_channel}
+use Rattle.spec_machine.specs.Jobs.{Channel, SpecJob, State, channel_at, job_at, with_channel}
 use Rattle.spec_machine.specs.Charges.{charge, quota_of, is_limited}
 use Rattle.spec_machine.specs.Runs.{Steps}
 use Rattle.spec_machine.specs.Sound.{IsSound}
 use Rattle.spec_machine.specs.Outcomes.{stopped_in, refused_at}
-use Rattle.spec_machine.specs.Opening.{opens}
-use Rattle.spec_machine.specs.Looking.{place_at}
-use Rattle.spec_machine.specs.Entering.{enter_answer, enter_done}
+use Rattle.spec_machine.specs.Open.{opens}
+use Rattle.spec_machine.specs.Lookup.{place_at}
+use Rattle.spec_machine.specs.Enter.{enter_answer, enter_done}
 use Rattle.spec_machine.specs.Outputs.{out_answer, out_done}
-use Rattle.spec_machine.specs.Closing.{close_answer, close_done, core_closed, files_closed, closes, releases}
-use Rattle.spec_machine.specs.Renaming.{renames, rename_answer, rename_done, files_renamed}
-use Rattle.spec_machine.specs.Making.{makes, make_answer, removes, remove_answer, owner_at, directory_made, limits}
-use Rattle.spec_machine.specs.Making.{limit_answer, quota_at}
+use Rattle.spec_machine.specs.Close.{close_answer, close_done, core_closed, files_closed, closes, releases}
+use Rattle.spec_machine.specs.Rename.{renames, rename_answer, rename_done, files_renamed}
+use Rattle.spec_machine.specs.MakeDir.{makes, make_answer, removes, remove_answer, owner_at, directory_made, limits}
+use Rattle.spec_machine.specs.MakeDir.{limit_answer, quota_at}
 use Rattle.spec_machine.specs.Sessions.{login_answer, deposit_answer, deposit_done}
 use Rattle.spec_machine.specs.Undone.{call_undone, job_undone, undone}
 use Rattle.spec_machine.specs.Step.{step, last_date, on_job, on_channel, of_job, of_files, call_of}
@@ -54,7 +54,7 @@ done_or_not DateRange = inr (λ e. cc)
 
 -- What isn't done charges what was charged before.
 
-call_undone_charge : (s : State) (p n : ℕ) (o : Option Job) (call : Call) (reply : Reply) → job_at s n ≡ o
+call_undone_charge : (s : State) (p n : ℕ) (o : Option SpecJob) (call : Call) (reply : Reply) → job_at s n ≡ o
     → charge (call_undone s n o call reply) p ≡ charge s p
 call_undone_charge s p n None call reply e = refl
 call_undone_charge s p n (Some job) call reply e =
@@ -75,7 +75,7 @@ module _ (s : State) (p : ℕ) (limited : is_limited s p ≡ true) where
   channel_event row None h done = let wrong = done in cc
   channel_event row (Some c) h done = h c refl done
 
-  job_event : (row : Job → Reply × State) (o : Option Job) → ((job : Job) → o ≡ Some job → WithinEvent (row job))
+  job_event : (row : SpecJob → Reply × State) (o : Option SpecJob) → ((job : SpecJob) → o ≡ Some job → WithinEvent (row job))
       → WithinEvent (on_job s o row)
   job_event row None h done = let wrong = done in cc
   job_event row (Some job) h done = h job refl done
@@ -84,7 +84,7 @@ module _ (s : State) (p : ℕ) (limited : is_limited s p ≡ true) where
   timely_event true r h done = let wrong = done in cc
   timely_event false r h done = h done
 
-  module _ (pack : Pack) (serial : ℕ) (sound : IsSound s) (n : ℕ) (job : Job) (there : job_at s n ≡ Some job) where
+  module _ (pack : Pack) (serial : ℕ) (sound : IsSound s) (n : ℕ) (job : SpecJob) (there : job_at s n ≡ Some job) where
     open_event : (ch a : ℕ) (b : Bool) → WithinEvent (if b then of_job s n (opens job ch a) else (NoChannel, s))
     open_event ch a true done = within_open s p limited pack sound n job there ch a done
     open_event ch a false done = let wrong = done in cc

@@ -6,21 +6,22 @@ use Rattle.std.proofs.lemmas.Bool.{eqb-true}
 use Rattle.std.proofs.lemmas.Bool.Decides.{nat_tests}
 use Rattle.words36.specs.declared.moment.Moment.{Moment}
 use Rattle.spec_image.specs.Common.{size, get, total, Directory, Place, version_cost, directory_cost, length_after}
-use Rattle.spec_image.specs.Common.{Version, file_at, Pack, growth}
+use Rattle.spec_image.specs.Common.{SpecVersion, file_at, Pack, growth}
 use Rattle.spec_machine.specs.Rights.{may_update}
-use Rattle.spec_machine.specs.Jobs.{Channel, Job, Input, Output, State, is_create, all_closed, channel_at, job_at}
+use Rattle.spec_machine.specs.Jobs.{Channel, SpecJob, SpecInput, SpecOutput, State, is_create, all_closed, channel_at}
+use Rattle.spec_machine.specs.Jobs.{job_at}
 use Rattle.spec_machine.specs.Jobs.{with_job, with_channel}
 use Rattle.spec_machine.specs.Room.{output_of, outputs_of, names_in, entry_count, pending_creations, exceeds_room}
 use Rattle.spec_machine.specs.Charges.{charge, charge_in, pending_cost_in, quota_of, is_limited, exceeds_left}
 use Rattle.spec_machine.specs.Sound.{IsSound}
 use Rattle.spec_machine.specs.Outcomes.{settled, clean, stopped_in, refused_at}
-use Rattle.spec_machine.specs.Opening.{opens, open_answer, open_done, core_opened, channel_opened, ring_answer}
-use Rattle.spec_machine.specs.Opening.{sets_up}
-use Rattle.spec_machine.specs.Looking.{lookup, lookup_answer, lookup_done, looked_up, place_at, is_absent, digit_at}
-use Rattle.spec_machine.specs.Looking.{with_attributes}
-use Rattle.spec_machine.specs.Updating.{present_cost, output_updating, input_updating}
-use Rattle.spec_machine.specs.Entering.{enter_answer, enter_done, entered, begin_answer, create_answer}
-use Rattle.spec_machine.specs.Entering.{supersede_answer, output_opened}
+use Rattle.spec_machine.specs.Open.{opens, open_answer, open_done, core_opened, channel_opened, ring_answer}
+use Rattle.spec_machine.specs.Open.{sets_up}
+use Rattle.spec_machine.specs.Lookup.{lookup, lookup_answer, lookup_done, looked_up, place_at, is_absent, digit_at}
+use Rattle.spec_machine.specs.Lookup.{with_attributes}
+use Rattle.spec_machine.specs.Update.{present_cost, output_updating, input_updating}
+use Rattle.spec_machine.specs.Enter.{enter_answer, enter_done, entered, begin_answer, create_answer}
+use Rattle.spec_machine.specs.Enter.{supersede_answer, output_opened}
 use Rattle.spec_machine.specs.Inputs.{reads, in_answer, in_done, useti, useti_answer, useti_done}
 use Rattle.spec_machine.specs.Outputs.{put_on, put_done, out_answer, out_done, outgoing, finds_no_place, rise}
 use Rattle.spec_machine.specs.Outputs.{is_before_end, longest, useto, useto_answer, useto_done, outgrows}
@@ -37,15 +38,15 @@ use Rattle.spec_machine.proofs.RoomSteps.{itself, same_le, less_item, at_output,
 use Rattle.words36.proofs.OctetReaderLaws.{is_zero}
 
 -- what an output side charges a directory with
-abbrev pub pending_in : ℕ → Output → ℕ
+abbrev pub pending_in : ℕ → SpecOutput → ℕ
 pending_in p o = if o.place.ppn == p then version_cost (length o.pending.body) else 0
 
-charge_in_le : (d : Option (Directory Version)) (a b : ℕ) → a ≤ b → charge_in d a ≤ charge_in d b
+charge_in_le : (d : Option (Directory SpecVersion)) (a b : ℕ) → a ≤ b → charge_in d a ≤ charge_in d b
 charge_in_le None a b h = omega arith
 charge_in_le (Some d) a b h = let m = directory_cost_le (size d.files + a) (size d.files + b) (omega (arith, h)) in
     omega (arith, m)
 
-charge_in_more : (d : Option (Directory Version)) (a b : ℕ) → b ≤ a + 1
+charge_in_more : (d : Option (Directory SpecVersion)) (a b : ℕ) → b ≤ a + 1
     → charge_in d b ≤ charge_in d a + growth (names_in d + a)
 charge_in_more None a b h = omega arith
 charge_in_more (Some d) a b h = let m = grows (size d.files) a b h in omega (arith, m)
@@ -80,7 +81,7 @@ split_outgrows true over e = inl refl
 split_outgrows false over e = inr e
 
 module _ (s : State) (p : ℕ) where
-  -- the directory is as it was, and what is pending in it costs so much more
+  -- the directory is unchanged, and what is pending in it costs `more` more
   pub heavier_in : (s' : State) (more : ℕ) → get s'.files p ≡ get s.files p
       → sum_of (creation p) s' ≤ sum_of (creation p) s → sum_of (pending_in p) s' ≤ sum_of (pending_in p) s + more
       → charge s' p ≤ charge s p + more
@@ -93,7 +94,7 @@ module _ (s : State) (p : ℕ) where
       → sum_of (pending_in p) s' ≤ sum_of (pending_in p) s → charge s' p ≤ charge s p
   lighter_in s' same few less = let h = heavier_in s' 0 same few (omega (arith, less)) in omega (arith, h)
 
-  -- one creation more in it
+  -- one more creation in it
   created_in : (s' : State) (more : ℕ) → get s'.files p ≡ get s.files p
       → sum_of (creation p) s' ≤ sum_of (creation p) s + 1
       → sum_of (pending_in p) s' ≤ sum_of (pending_in p) s + more
@@ -104,7 +105,7 @@ module _ (s : State) (p : ℕ) where
       ≤ charge s p + (more + growth (entry_count s p))) (sym same) (omega (arith, a, less))
 
   -- the same output sides
-  pub charge-same_sides : (n : ℕ) (new old : Job) → job_at s n ≡ Some old → SameSides new old
+  pub charge-same_sides : (n : ℕ) (new old : SpecJob) → job_at s n ≡ Some old → SameSides new old
       → charge (with_job s n new) p ≡ charge s p
   charge-same_sides n new old e h =
       ap (λ outs. charge_in (get s.files p) (total (creation p) outs) + total (pending_in p) outs)
@@ -126,7 +127,7 @@ module _ (s : State) (p : ℕ) (limited : is_limited s p ≡ true) where
       at_most false is q n h = let wrong = is in cc
 
   -- words that find a place
-  pub put_within : (pack : Pack) (o : Output) (count now : ℕ) → finds_no_place pack s o count ≡ false
+  pub put_within : (pack : Pack) (o : SpecOutput) (count now : ℕ) → finds_no_place pack s o count ≡ false
       → now ≤ charge s p + (if o.place.ppn == p
       then version_cost (length_after (length o.pending.body) o.next count) - version_cost (length o.pending.body)
       else 0)
@@ -160,10 +161,10 @@ module _ (s : State) (p : ℕ) (limited : is_limited s p ≡ true) where
       (record { ppn = ppn; core = core; channels = all_closed })) refl (sum_closed (creation p) s n ppn core)
       (sum_closed (pending_in p) s n ppn core))
 
-  module _ (pack : Pack) (sound : IsSound s) (n : ℕ) (job : Job) (there : job_at s n ≡ Some job) where
+  module _ (pack : Pack) (sound : IsSound s) (n : ℕ) (job : SpecJob) (there : job_at s n ≡ Some job) where
     -- a channel becomes another one, with no more on its output side
     pub within_channel : (ch : ℕ) (c : Channel) (x : Option Channel) (core : List ℕ) → channel_at job ch ≡ Some c
-        → ((f : Output → ℕ) → ((o : Output) (k : ℕ) → f (record o { next = k }) ≡ f o)
+        → ((f : SpecOutput → ℕ) → ((o : SpecOutput) (k : ℕ) → f (record o { next = k }) ≡ f o)
         → item f (output_of x) ≤ item f c.output)
         → Within (with_job s n (with_channel (record job { core = core }) ch x))
     within_channel ch c x core is few = inl
@@ -173,10 +174,10 @@ module _ (s : State) (p : ℕ) (limited : is_limited s p ≡ true) where
         (less_item _ _ _ _ (sum_channel (pending_in p) s s.files n job core ch c x there is)
         (few (pending_in p) (λ o k. refl))))
 
-    abbrev pub WithinRow : Reply × Job → Type 0
+    abbrev pub WithinRow : Reply × SpecJob → Type 0
     WithinRow r = r.0 ≡ Done → Within (with_job s n r.1)
 
-    pub within_row : (reply : Reply) (done : Job) (other : Reply → Job)
+    pub within_row : (reply : Reply) (done : SpecJob) (other : Reply → SpecJob)
         → (reply ≡ Done → Within (with_job s n done)) → WithinRow (settled reply done other)
     within_row reply done other h = settled_by (λ r. r.0 ≡ Done → Within (with_job s n r.1)) reply done other
         (λ is done. h is) (λ differs done. absurd (differs done))
@@ -192,7 +193,7 @@ module _ (s : State) (p : ℕ) (limited : is_limited s p ≡ true) where
     within_ring ch c header k is = within_row (ring_answer job c header k) _ (λ r. job)
         (λ done. within_channel ch c (Some (clean c)) _ is (λ f same. itself _))
 
-    within_looked : (ch : ℕ) (c : Channel) (e : ℕ) (place : Place) (found : Option Version)
+    within_looked : (ch : ℕ) (c : Channel) (e : ℕ) (place : Place) (found : Option SpecVersion)
         → channel_at job ch ≡ Some c → Within (with_job s n (looked_up pack job ch c e place found))
     within_looked ch c e place None is =
         subst (λ t. Within t) (put_back s n job there) (inl (itself (charge s p)))
@@ -222,7 +223,7 @@ module _ (s : State) (p : ℕ) (limited : is_limited s p ≡ true) where
     module _ (ch : ℕ) (c : Channel) (is : channel_at job ch ≡ Some c) where
       -- OUT
 
-      put_heavier_in : (o : Output) (core words : List ℕ) → c.output ≡ Some o
+      put_heavier_in : (o : SpecOutput) (core words : List ℕ) → c.output ≡ Some o
           → charge (with_job s n (with_channel (record job { core = core }) ch
           (Some (record (clean c) { output = put_on c.output words })))) p
           ≤ charge s p + (if o.place.ppn == p
@@ -256,7 +257,7 @@ module _ (s : State) (p : ℕ) (limited : is_limited s p ≡ true) where
       -- ENTER
 
       -- a new side that the quota leaves as much for as it costs, with the entry that it makes
-      within_side : (core : List ℕ) (input : Option Input) (o : Output) (more : ℕ)
+      within_side : (core : List ℕ) (input : Option SpecInput) (o : SpecOutput) (more : ℕ)
           → exceeds_left s o.place.ppn more ≡ false
           → version_cost (length o.pending.body) + (if is_create o.kind then growth (entry_count s o.place.ppn) else 0)
           ≤ more
@@ -307,7 +308,7 @@ module _ (s : State) (p : ℕ) (limited : is_limited s p ≡ true) where
                   inr (omega (arith, h, all, m, fits))
 
       -- an update begins with the whole of its version, and creates no name
-      within_update : (core : List ℕ) (input : Option Input) (place : Place) (digit : ℕ) (w : Version)
+      within_update : (core : List ℕ) (input : Option SpecInput) (place : Place) (digit : ℕ) (w : SpecVersion)
           → exceeds_left s place.ppn (version_cost (length w.file.body)) ≡ false
           → Within (with_job s n (with_channel (record job { core = core }) ch
           (Some (record (clean c) { input = input; output = Some (output_updating digit place w) }))))
@@ -322,7 +323,7 @@ module _ (s : State) (p : ℕ) (limited : is_limited s p ≡ true) where
           decide true e = rw e (within_side core input _ _ left (some _))
           decide false e = rw e (within_side core input _ _ left (some _))
 
-      within_entered : (e : ℕ) (moment : Moment) (place : Place) (input : Option Input) (found : Option Version)
+      within_entered : (e : ℕ) (moment : Moment) (place : Place) (input : Option SpecInput) (found : Option SpecVersion)
           → file_at s.files place ≡ found → begin_answer pack s job input place ≡ Done
           → Within (with_job s n (entered pack job ch c e (input_updating input found)
           (output_opened job c e moment place (digit_at s job place) input found)))

@@ -7,22 +7,22 @@ use Rattle.std.specs.Cmp.{nat_cmp_total}
 use Rattle.std.specs.FinMap.{nat_cmp-IsAntisymmetric}
 use Rattle.std.proofs.lemmas.Bool.{eq-eqb, ne_eqb}
 use Rattle.spec_image.specs.Common.{size, get, insert, remove, sum_over, total, Files, Directory, Place, version_cost}
-use Rattle.spec_image.specs.Common.{directory_cost, length_after, Version, file_at, with_file, with_file_in}
+use Rattle.spec_image.specs.Common.{directory_cost, length_after, SpecVersion, file_at, with_file, with_file_in}
 use Rattle.spec_image.specs.Common.{without_file, without_file_in, with_protection, Pack, growth, with_quota}
 use Rattle.spec_image.specs.Common.{files_limited}
-use Rattle.spec_machine.specs.Jobs.{Channel, Job, Output, State, channel_at, job_at, with_channel}
+use Rattle.spec_machine.specs.Jobs.{Channel, SpecJob, SpecOutput, State, channel_at, job_at, with_channel}
 use Rattle.spec_machine.specs.Room.{output_of, outputs_of, names_in, entry_count, pending_creations}
 use Rattle.spec_machine.specs.Charges.{charge, charge_in, quota_in, is_limited, exceeds_left}
 use Rattle.spec_machine.specs.Sound.{output_for, writes_at, IsSound}
-use Rattle.spec_machine.specs.Updating.{present_cost}
-use Rattle.spec_machine.specs.Looking.{place_at, has_no_directory}
+use Rattle.spec_machine.specs.Update.{present_cost}
+use Rattle.spec_machine.specs.Lookup.{place_at, has_no_directory}
 use Rattle.spec_machine.specs.Outputs.{put_on, finds_no_place}
-use Rattle.spec_machine.specs.Closing.{published, files_with, files_closed, last_buffer, words_or_none, output_put}
-use Rattle.spec_machine.specs.Closing.{last_answer, close_answer, close_done, core_closed, channel_closed}
-use Rattle.spec_machine.specs.Closing.{keeps_output, discards, publishes}
-use Rattle.spec_machine.specs.Renaming.{deletes_at, protection_at, overfills, rename_answer, files_moved}
-use Rattle.spec_machine.specs.Renaming.{files_renamed}
-use Rattle.spec_machine.specs.Making.{make_answer, owner_at, directory_made}
+use Rattle.spec_machine.specs.Close.{published, files_with, files_closed, last_buffer, words_or_none, output_put}
+use Rattle.spec_machine.specs.Close.{last_answer, close_answer, close_done, core_closed, channel_closed}
+use Rattle.spec_machine.specs.Close.{keeps_output, discards, publishes}
+use Rattle.spec_machine.specs.Rename.{deletes_at, protection_at, overfills, rename_answer, files_moved}
+use Rattle.spec_machine.specs.Rename.{files_renamed}
+use Rattle.spec_machine.specs.MakeDir.{make_answer, owner_at, directory_made}
 use Rattle.spec_machine.specs.declared.call.Reply.{Reply}
 use Rattle.spec_machine.specs.declared.call.Reply.TheVariants.{Done}
 use Rattle.spec_image.proofs.Common.{same_or_other, get-insert_same, get-insert_other, get-removed, get-remove_other}
@@ -36,13 +36,13 @@ use Rattle.spec_machine.proofs.BookingLaws.{item, sum_of, sum_channel}
 use Rattle.spec_machine.proofs.RoomLaws.{creation, directory_cost_le}
 use Rattle.spec_machine.proofs.RoomSteps.{same_le, less_item}
 use Rattle.spec_machine.proofs.RemovalRoom.{with_files, sums_stay, size-insert_le}
-use Rattle.spec_machine.proofs.ClosingRoom.{names_more, with_closed, with_words, last_needs, closes_none, closes_few}
+use Rattle.spec_machine.proofs.CloseRoom.{names_more, with_closed, with_words, last_needs, closes_none, closes_few}
 use Rattle.spec_machine.proofs.ChargeSteps.{pending_in, lighter_in, Within, left_fits, put_within}
 
 -- The directories of files with one at a place, and with none there.
 
-module _ (files : Files Version) (place : Place) (v : Version) where
-  get-with_here : (d : Directory Version) → get files place.ppn ≡ Some d
+module _ (files : Files SpecVersion) (place : Place) (v : SpecVersion) where
+  get-with_here : (d : Directory SpecVersion) → get files place.ppn ≡ Some d
       → get (with_file files place v) place.ppn ≡ Some (record d { files = insert d.files place.name v })
   get-with_here d is = ap (λ o. get (with_file_in o files place v) place.ppn) is
       ∙ get-insert_same nat_cmp_total files place.ppn (record d { files = insert d.files place.name v })
@@ -50,13 +50,13 @@ module _ (files : Files Version) (place : Place) (v : Version) where
   get-with_other : (q : ℕ) → q ≢ place.ppn → get (with_file files place v) q ≡ get files q
   get-with_other q other = by (get files place.ppn)
     where
-      by : (o : Option (Directory Version)) → get (with_file_in o files place v) q ≡ get files q
+      by : (o : Option (Directory SpecVersion)) → get (with_file_in o files place v) q ≡ get files q
       by None = refl
       by (Some d) = get-insert_other nat_cmp_total nat_cmp-IsAntisymmetric files place.ppn
           (record d { files = insert d.files place.name v }) q other
 
-module _ (files : Files Version) (place : Place) where
-  get-without_here : (d : Directory Version) → get files place.ppn ≡ Some d
+module _ (files : Files SpecVersion) (place : Place) where
+  get-without_here : (d : Directory SpecVersion) → get files place.ppn ≡ Some d
       → get (without_file files place) place.ppn ≡ Some (record d { files = remove d.files place.name })
   get-without_here d is = ap (λ o. get (without_file_in o files place) place.ppn) is
       ∙ get-insert_same nat_cmp_total files place.ppn (record d { files = remove d.files place.name })
@@ -64,7 +64,7 @@ module _ (files : Files Version) (place : Place) where
   get-without_other : (q : ℕ) → q ≢ place.ppn → get (without_file files place) q ≡ get files q
   get-without_other q other = by (get files place.ppn)
     where
-      by : (o : Option (Directory Version)) → get (without_file_in o files place) q ≡ get files q
+      by : (o : Option (Directory SpecVersion)) → get (without_file_in o files place) q ≡ get files q
       by None = refl
       by (Some d) = get-insert_other nat_cmp_total nat_cmp-IsAntisymmetric files place.ppn
           (record d { files = remove d.files place.name }) q other
@@ -72,7 +72,7 @@ module _ (files : Files Version) (place : Place) where
 equal_or_not : (p q : ℕ) → (p ≡ q) ⊎ (p ≢ q)
 equal_or_not = same_or_other nat_cmp_total nat_cmp-IsAntisymmetric
 
-module _ (s : State) (p : ℕ) (d new : Directory Version) (is : get s.files p ≡ Some d) (s' : State)
+module _ (s : State) (p : ℕ) (d new : Directory SpecVersion) (is : get s.files p ≡ Some d) (s' : State)
     (now : get s'.files p ≡ Some new) where
   was_charged : charge s p ≡ directory_cost (size d.files + sum_of (creation p) s) + sum_over cost d.files
       + sum_of (pending_in p) s
@@ -82,7 +82,7 @@ module _ (s : State) (p : ℕ) (d new : Directory Version) (is : get s.files p �
       + sum_of (pending_in p) s'
   is_charged = ap (λ o. charge_in o (sum_of (creation p) s') + sum_of (pending_in p) s') now
 
-  -- the directory's files are other ones, and no more names
+  -- the directory's files are other ones, with no more names
   charged_with : (more : ℕ)
       → size new.files + sum_of (creation p) s' ≤ size d.files + sum_of (creation p) s
       → sum_over cost new.files + sum_of (pending_in p) s' ≤ sum_over cost d.files + sum_of (pending_in p) s + more
@@ -94,7 +94,7 @@ module _ (s : State) (p : ℕ) (d new : Directory Version) (is : get s.files p �
       let b = is_charged in
       omega (arith, m, costs, a, b)
 
-  -- or one name more
+  -- or with one more name
   charged_more : (more : ℕ)
       → size new.files + sum_of (creation p) s' ≤ size d.files + sum_of (creation p) s + 1
       → sum_over cost new.files + sum_of (pending_in p) s' ≤ sum_over cost d.files + sum_of (pending_in p) s + more
@@ -110,17 +110,17 @@ module _ (s : State) (p : ℕ) (d new : Directory Version) (is : get s.files p �
       grows : (a b : ℕ) → a ≤ b + 1 → directory_cost a ≤ directory_cost b + growth b
       grows a b h = omega (arith, h)
 
-module _ (s : State) (p : ℕ) (limited : is_limited s p ≡ true) (pack : Pack) (sound : IsSound s) (n : ℕ) (job : Job)
+module _ (s : State) (p : ℕ) (limited : is_limited s p ≡ true) (pack : Pack) (sound : IsSound s) (n : ℕ) (job : SpecJob)
     (there : job_at s n ≡ Some job) where
   module _ (ch : ℕ) (c : Channel) (is : channel_at job ch ≡ Some c) where
     -- CLOSE and RELEAS
 
-    module _ (v : Version) (o : Output) (core : List ℕ) (x : Option Channel) (e : c.output ≡ Some o)
+    module _ (v : SpecVersion) (o : SpecOutput) (core : List ℕ) (x : Option Channel) (e : c.output ≡ Some o)
         (none : output_of x ≡ None) where
       after : State
       after = with_closed pack s sound n job there ch c is (with_file s.files o.place v) core x
 
-      sums : (f : Output → ℕ) → sum_of f after + f o ≡ sum_of f s
+      sums : (f : SpecOutput → ℕ) → sum_of f after + f o ≡ sum_of f s
       unfolding after
       sums f =
           let h = sum_channel f s (with_file s.files o.place v) n job core ch c x there is in
@@ -162,7 +162,7 @@ module _ (s : State) (p : ℕ) (limited : is_limited s p ≡ true) (pack : Pack)
 
     within_closing : (serial bits : ℕ) (core : List ℕ) (x : Option Channel) → close_answer pack s job c bits ≡ Done
         → (publishes c bits ≡ true → output_of x ≡ None)
-        → ((f : Output → ℕ) → item f (output_of x) ≤ item f c.output)
+        → ((f : SpecOutput → ℕ) → item f (output_of x) ≤ item f c.output)
         → Within s p limited
         (with_closed pack s sound n job there ch c is (files_closed serial s.files job c bits) core x)
     unfolding after
@@ -175,7 +175,7 @@ module _ (s : State) (p : ℕ) (limited : is_limited s p ≡ true) (pack : Pack)
         words : List ℕ
         words = words_or_none (last_buffer job c)
 
-        by_case : (b : Bool) → publishes c bits ≡ b → (output : Option Output) → c.output ≡ output
+        by_case : (b : Bool) → publishes c bits ≡ b → (output : Option SpecOutput) → c.output ≡ output
             → Within s p limited
             (with_closed pack s sound n job there ch c is (files_closed serial s.files job c bits) core x)
         by_case true e None f = let wrong = sym e
@@ -229,20 +229,20 @@ module _ (s : State) (p : ℕ) (limited : is_limited s p ≡ true) (pack : Pack)
     -- RENAME
 
     -- the state with these files
-    abbrev renamed : Files Version → State
+    abbrev renamed : Files SpecVersion → State
     renamed files = with_files pack s sound n job there ch c is files
 
-    stay : (f : Output → ℕ) (files : Files Version) → sum_of f (renamed files) ≡ sum_of f s
+    stay : (f : SpecOutput → ℕ) (files : Files SpecVersion) → sum_of f (renamed files) ≡ sum_of f s
     stay f files = sums_stay pack s sound n job there ch c is f files
 
-    within_same : (files : Files Version) → get files p ≡ get s.files p → Within s p limited (renamed files)
+    within_same : (files : Files SpecVersion) → get files p ≡ get s.files p → Within s p limited (renamed files)
     within_same files same = inl (lighter_in s p (renamed files) same (same_le (stay (creation p) files))
         (same_le (stay (pending_in p) files)))
 
-    module _ (old : Place) (d : Directory Version) (w : Version) (at : get s.files old.ppn ≡ Some d)
+    module _ (old : Place) (d : Directory SpecVersion) (w : SpecVersion) (at : get s.files old.ppn ≡ Some d)
         (here : get d.files old.name ≡ Some w) where
       -- the old place's directory without the file
-      abbrev thinner : Directory Version
+      abbrev thinner : Directory SpecVersion
       thinner = record d { files = remove d.files old.name }
 
       fewer : size d.files ≡ size (remove d.files old.name) + 1
@@ -251,7 +251,7 @@ module _ (s : State) (p : ℕ) (limited : is_limited s p ≡ true) (pack : Pack)
       less : sum_over cost d.files ≡ cost w + sum_over cost (remove d.files old.name)
       less = sum-remove name_total name_exact cost d.files old.name w here
 
-      within_thinner : (files : Files Version) → p ≡ old.ppn → get files p ≡ Some thinner
+      within_thinner : (files : Files SpecVersion) → p ≡ old.ppn → get files p ≡ Some thinner
           → Within s p limited (renamed files)
       within_thinner files same now =
           let a = fewer in
@@ -268,11 +268,11 @@ module _ (s : State) (p : ℕ) (limited : is_limited s p ≡ true) (pack : Pack)
           (λ other. within_same (without_file s.files old) (get-without_other s.files old p other))
           (equal_or_not p old.ppn)
 
-      module _ (new : Place) (v : Version) (body : cost v ≡ cost w) where
-        moved : Files Version
+      module _ (new : Place) (v : SpecVersion) (body : cost v ≡ cost w) where
+        moved : Files SpecVersion
         moved = with_file (without_file s.files old) new v
 
-        put_more : (t : Directory Version)
+        put_more : (t : Directory SpecVersion)
             → sum_over cost (insert t.files new.name v) ≤ sum_over cost t.files + cost v
         put_more t = let h = sum-insert name_total name_exact cost t.files new.name v (get t.files new.name) refl in
             omega (arith, h)
@@ -281,7 +281,7 @@ module _ (s : State) (p : ℕ) (limited : is_limited s p ≡ true) (pack : Pack)
         within_it : p ≡ new.ppn → new.ppn ≡ old.ppn → Within s p limited (renamed moved)
         unfolding moved
         within_it here_is same =
-            let both : Directory Version = record thinner { files = insert thinner.files new.name v } in
+            let both : Directory SpecVersion = record thinner { files = insert thinner.files new.name v } in
             let a = fewer in
             let b = less in
             let names = size-insert_le thinner.files new.name v in
@@ -294,12 +294,12 @@ module _ (s : State) (p : ℕ) (limited : is_limited s p ≡ true) (pack : Pack)
             (omega (arith, a, names, count)) (omega (arith, b, sum, body, pend)) in omega (arith, h))
 
         -- into another one, which has enough left
-        into_it : p ≡ new.ppn → new.ppn ≢ old.ppn → (t : Directory Version) → get s.files new.ppn ≡ Some t
+        into_it : p ≡ new.ppn → new.ppn ≢ old.ppn → (t : Directory SpecVersion) → get s.files new.ppn ≡ Some t
             → exceeds_left s new.ppn (cost w + growth (entry_count s new.ppn)) ≡ false
             → Within s p limited (renamed moved)
         unfolding moved
         into_it here_is other t is_there left =
-            let both : Directory Version = record t { files = insert t.files new.name v } in
+            let both : Directory SpecVersion = record t { files = insert t.files new.name v } in
             let names = size-insert_le t.files new.name v in
             let sum = put_more t in
             let count = stay (creation p) moved in
@@ -324,7 +324,7 @@ module _ (s : State) (p : ℕ) (limited : is_limited s p ≡ true) (pack : Pack)
             (equal_or_not p old.ppn)
 
     within_moved : (old new : Place) (protection : ℕ) → has_no_directory s new ≡ false → overfills s old new ≡ false
-        → (found : Option Version) → file_at s.files old ≡ found
+        → (found : Option SpecVersion) → file_at s.files old ≡ found
         → Within s p limited (renamed (files_moved s.files old new protection found))
     unfolding moved
     within_moved old new protection to_house left None at = within_same s.files refl
@@ -346,13 +346,13 @@ module _ (s : State) (p : ℕ) (limited : is_limited s p ≡ true) (pack : Pack)
         not_over true over e f = let wrong = e in cc
         not_over false over e f = f
 
-    within_deleted : (old : Place) (found : Option Version) → file_at s.files old ≡ found → is_none found ≡ false
+    within_deleted : (old : Place) (found : Option SpecVersion) → file_at s.files old ≡ found → is_none found ≡ false
         → Within s p limited (renamed (without_file s.files old))
     within_deleted old None at present = let wrong = present in cc
     within_deleted old (Some w) at present =
         let d = directory_of_file s.files old w at in within_removed old d.0 w d.1 d.2
 
-    abbrev either : ℕ → Place → Bool → Files Version
+    abbrev either : ℕ → Place → Bool → Files SpecVersion
     either e old deletes = if deletes then without_file s.files old
         else files_moved s.files old (place_at job e) (protection_at job e) (file_at s.files old)
 
@@ -373,13 +373,13 @@ module _ (s : State) (p : ℕ) (limited : is_limited s p ≡ true) (pack : Pack)
 
   -- MakeDir, DeleteDir, Quota
 
-  abbrev pub with_them : Files Version → State
+  abbrev pub with_them : Files SpecVersion → State
   with_them files = record s { files = files; jobs = slice_set s.jobs n (Some job) }
 
-  back : (f : Output → ℕ) (files : Files Version) → sum_of f (with_them files) ≡ sum_of f s
+  back : (f : SpecOutput → ℕ) (files : Files SpecVersion) → sum_of f (with_them files) ≡ sum_of f s
   back f files = ap (λ jobs. total f (flat_map outputs_of jobs)) (set-slot s.jobs n job there)
 
-  within_others : (files : Files Version) → get files p ≡ get s.files p → Within s p limited (with_them files)
+  within_others : (files : Files SpecVersion) → get files p ≡ get s.files p → Within s p limited (with_them files)
   within_others files same = inl (lighter_in s p (with_them files) same (same_le (back (creation p) files))
       (same_le (back (pending_in p) files)))
 
@@ -409,11 +409,11 @@ module _ (s : State) (p : ℕ) (limited : is_limited s p ≡ true) (pack : Pack)
   pub within_limit : (owner quota : ℕ) → Within s p limited (with_them (files_limited s.files owner quota))
   within_limit owner quota = by (get s.files owner) refl
     where
-      by : (o : Option (Directory Version)) → get s.files owner ≡ o
+      by : (o : Option (Directory SpecVersion)) → get s.files owner ≡ o
           → Within s p limited (with_them (with_quota s.files owner quota o))
       by None is = within_others s.files refl
       by (Some d) is = ⊎_elim
-          (λ here. let new : Directory Version = record d { quota = quota } in
+          (λ here. let new : Directory SpecVersion = record d { quota = quota } in
           let count = back (creation p) (insert s.files owner new) in
           let pend = back (pending_in p) (insert s.files owner new) in
           inl (let h = charged_with s p d new (ap (get s.files) here ∙ is) (with_them (insert s.files owner new))

@@ -41,9 +41,9 @@ found core a (w ∷ ws) (suc i) few there =
     ap (slice_index (after_writes (slice_set core a w) (placed (a + 1) ws))) at
     ∙ found (slice_set core a w) (a + 1) ws i (omega arith) (omega (arith, length-set core a w))
 
--- Words in a row.
+-- Consecutive words.
 
--- so many words of a core from an address on
+-- `count` words of a core from an address
 abbrev pub window : List ℕ → ℕ → ℕ → List ℕ
 window core a n = take n (drop a core)
 
@@ -81,7 +81,7 @@ laid_over (suc n) (w ∷ ws) (x ∷ xs) few there =
     ap (take (suc n)) (behind_first w xs 0 ws)
     ∙ ap (λ ys. w ∷ ys) (laid_over n ws xs (omega arith) (omega arith))
 
--- words that are written at a window's first address, and what stands behind them
+-- words that are written at a window's first address, and what follows them
 pub overlaid : (core : List ℕ) (a n : ℕ) (ws : List ℕ) → length ws ≤ n → a + n ≤ length core
     → window (after_writes core (placed a ws)) a n ≡ ws ++ drop (length ws) (window core a n)
 overlaid core a n ws few there =

@@ -4,18 +4,18 @@ use Rattle.std.proofs.Common.{ap, ◌∙◌, arith}
 use Rattle.std.specs.List.{AllByRecursion}
 use Rattle.std.specs.Prelude.{◌==◌}
 use Rattle.std.proofs.lemmas.Bool.{eqb-true, eq-eqb}
-use Rattle.spec_image.specs.Common.{version_cost, Version}
+use Rattle.spec_image.specs.Common.{version_cost, SpecVersion}
 use Rattle.spec_machine.specs.Room.{has_serial, distinct_cost}
 
-abbrev pub cost : Version → ℕ
+abbrev pub cost : SpecVersion → ℕ
 cost v = version_cost (length v.file.body)
 
 -- those with another serial
-abbrev without : ℕ → List Version → List Version
+abbrev without : ℕ → List SpecVersion → List SpecVersion
 without k [] = []
 without k (v ∷ vs) = if v.serial == k then without k vs else v ∷ without k vs
 
-without_absent : (k : ℕ) (vs : List Version) → has_serial k vs ≡ false → without k vs ≡ vs
+without_absent : (k : ℕ) (vs : List SpecVersion) → has_serial k vs ≡ false → without k vs ≡ vs
 without_absent k [] e = refl
 without_absent k (v ∷ vs) e = step (v.serial == k) refl e (without_absent k vs)
   where
@@ -24,7 +24,7 @@ without_absent k (v ∷ vs) e = step (v.serial == k) refl e (without_absent k vs
     step true h f rest = let wrong : true ≡ false = sym (rw h refl) ∙ f in cc
     step false h f rest = let g : has_serial k vs ≡ false = sym (rw h refl) ∙ f in rw h (ap (λ ws. v ∷ ws) (rest g))
 
-without_other : (k m : ℕ) (vs : List Version) → (m == k) ≡ false → has_serial m (without k vs) ≡ has_serial m vs
+without_other : (k m : ℕ) (vs : List SpecVersion) → (m == k) ≡ false → has_serial m (without k vs) ≡ has_serial m vs
 without_other k m [] e = refl
 without_other k m (v ∷ vs) e = step (v.serial == k) refl (without_other k m vs e)
   where
@@ -50,7 +50,7 @@ none_less : (d w : ℕ) → d ≤ w → 0 + d ≤ w
 none_less d w e = omega (arith, e)
 
 -- one serial's cost apart
-apart : (k c : ℕ) (vs : List Version) → AllByRecursion (λ v. v.serial ≡ k → cost v ≡ c) vs → has_serial k vs ≡ true
+apart : (k c : ℕ) (vs : List SpecVersion) → AllByRecursion (λ v. v.serial ≡ k → cost v ≡ c) vs → has_serial k vs ≡ true
     → distinct_cost vs ≡ c + distinct_cost (without k vs)
 apart k c [] a e = let wrong = e in cc
 apart k c (v ∷ vs) a e = step (v.serial == k) refl (has_serial k vs) refl (apart k c vs a.1)
@@ -79,10 +79,10 @@ apart k c (v ∷ vs) a e = step (v.serial == k) refl (has_serial k vs) refl (apa
         moved x d w r = omega (arith, r)
 
 -- x has its serial in ys, and what has it there costs as much
-abbrev pub Fits : List Version → Version → Type 0
+abbrev pub Fits : List SpecVersion → SpecVersion → Type 0
 Fits ys x = (has_serial x.serial ys ≡ true) × AllByRecursion (λ y. y.serial ≡ x.serial → cost y ≡ cost x) ys
 
-all_without : (P : Version → Type 0) (k : ℕ) (vs : List Version) → AllByRecursion P vs → AllByRecursion P (without k vs)
+all_without : (P : SpecVersion → Type 0) (k : ℕ) (vs : List SpecVersion) → AllByRecursion P vs → AllByRecursion P (without k vs)
 all_without P k [] a = tt
 all_without P k (v ∷ vs) a = step (v.serial == k) refl (all_without P k vs a.1)
   where
@@ -91,7 +91,7 @@ all_without P k (v ∷ vs) a = step (v.serial == k) refl (all_without P k vs a.1
     step false h rest = rw h (a.0, rest)
 
 -- those that have another serial fit without it
-fit_without : (k : ℕ) (ys xs : List Version) → has_serial k xs ≡ false → AllByRecursion (Fits ys) xs
+fit_without : (k : ℕ) (ys xs : List SpecVersion) → has_serial k xs ≡ false → AllByRecursion (Fits ys) xs
     → AllByRecursion (Fits (without k ys)) xs
 fit_without k ys [] e a = tt
 fit_without k ys (x ∷ xs) e a = step (x.serial == k) refl (has_serial k xs) refl (fit_without k ys xs)
@@ -106,11 +106,11 @@ fit_without k ys (x ∷ xs) e a = step (x.serial == k) refl (has_serial k xs) re
       rest f a.1,
     )
 
-pub distinct_le : (xs ys : List Version) → AllByRecursion (Fits ys) xs → distinct_cost xs ≤ distinct_cost ys
+pub distinct_le : (xs ys : List SpecVersion) → AllByRecursion (Fits ys) xs → distinct_cost xs ≤ distinct_cost ys
 distinct_le [] ys a = omega arith
 distinct_le (x ∷ xs) ys a = step (has_serial x.serial xs) refl (λ zs. distinct_le xs zs)
   where
-    step : (b : Bool) → has_serial x.serial xs ≡ b → ((zs : List Version) → AllByRecursion (Fits zs) xs
+    step : (b : Bool) → has_serial x.serial xs ≡ b → ((zs : List SpecVersion) → AllByRecursion (Fits zs) xs
         → distinct_cost xs ≤ distinct_cost zs) → distinct_cost (x ∷ xs) ≤ distinct_cost ys
     step true h rest = rw h (none_less (distinct_cost xs) (distinct_cost ys) (rest ys a.1))
     step false h rest =
@@ -121,8 +121,8 @@ distinct_le (x ∷ xs) ys a = step (has_serial x.serial xs) refl (λ zs. distinc
         more : (c d w : ℕ) → d ≤ w → c + d ≤ c + w
         more c d w l = omega (arith, l)
 
--- one version more
-pub distinct_more : (v : Version) (vs : List Version) → distinct_cost (v ∷ vs) ≤ cost v + distinct_cost vs
+-- one more version
+pub distinct_more : (v : SpecVersion) (vs : List SpecVersion) → distinct_cost (v ∷ vs) ≤ cost v + distinct_cost vs
 distinct_more v vs = step (has_serial v.serial vs) refl
   where
     least : (c d : ℕ) → 0 + d ≤ c + d

@@ -93,7 +93,7 @@ module _ (pack : Pack) (d d' : DiskState) (s : State) (event : Event) (reply : R
         ),
       )
 
-  -- the event met a fault of the disk
+  -- the disk had a fault in the event
   failed_end : (x : State) (t : ℕ) → Answers pack (Serving x) event reply Broken → s ≡ x → t ≡ d.clock
       → RunsOn pack d' t (Serving x) (event ∷ []) (reply ∷ []) Broken
   failed_end x t a same now = (
@@ -132,7 +132,7 @@ module _ (pack : Pack) (d d' : DiskState) (s : State) (event : Event) (reply : R
         ),
       )
 
--- After that the disk is asked for nothing, and each event answers Failed.
+-- After that the disk isn't called, and each event is answered with Failed.
 pub runs_stay : (pack : Pack) (d : DiskState) (t : ℕ) (old : Service) (events : List Event) (replies : List Reply)
     (event : Event) → RunsOn pack d t old events replies Broken
     → RunsOn pack d t old (events ++ event ∷ []) (replies ++ Failed ∷ []) Broken

@@ -1,11 +1,11 @@
-pub mod Playing
+pub mod PlayedEvents
 pub mod Rows
 pub mod SlotLaws
 pub mod SideLaws
 pub mod SoundLaws
 pub mod SoundSteps
 pub mod RemovalSteps
-pub mod ClosingSteps
+pub mod CloseSteps
 pub mod SoundEvents
 pub mod CrashLaws
 pub mod CostLaws
@@ -14,7 +14,7 @@ pub mod BookingLaws
 pub mod RoomLaws
 pub mod RoomSteps
 pub mod RemovalRoom
-pub mod ClosingRoom
+pub mod CloseRoom
 pub mod RoomEvents
 pub mod ChargeSteps
 pub mod ChargedFiles
@@ -24,12 +24,12 @@ pub mod QuotaLaws
 pub mod SoundRuns
 pub mod OutcomeLaws
 pub mod StepLaws
-pub mod HoldingLaws
+pub mod PinnedLaws
 pub mod LookupLaws
 pub mod RunLaws
 pub mod UndoneLaws
 pub mod ReaderLaws
-pub mod MovingLaws
+pub mod MoveLaws
 pub mod SerialMaps
 pub mod SerialRows
 pub mod SerialSteps

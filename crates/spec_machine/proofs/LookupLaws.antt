@@ -1,20 +1,21 @@
--- What a LOOKUP found is what the channel reads from then on, over every run that leaves it its input side.
+-- What a LOOKUP found is what the channel reads after it, over every run that leaves it its input side.
 use Rattle.std.proofs.Common.{◌≡◌, ℕ, Bool, true, false, if◌then◌else◌, List, [], ◌∷◌, Option, Some, None, refl, sym}
 use Rattle.std.proofs.Common.{ap, subst, ◌∙◌, ◌≢◌, option_map, ⊎_elim}
 use Rattle.std.specs.Prelude.{nat_lt, ◌==◌, ◌||◌, not, is_none, is_some}
 use Rattle.words36.specs.declared.moment.Moment.{Moment}
-use Rattle.spec_image.specs.Common.{Place, Version, file_at, words_from, Pack}
+use Rattle.spec_image.specs.Common.{Place, SpecVersion, file_at, words_from, Pack}
 use Rattle.spec_machine.specs.Rights.{may_look}
 use Rattle.spec_machine.specs.Cores.{lies_outside}
-use Rattle.spec_machine.specs.Jobs.{Channel, Job, Input, Output, State, channel_at, job_at}
-use Rattle.spec_machine.specs.Looking.{lookup, lookup_answer, lookup_done, looked_up, place_at, has_no_directory}
-use Rattle.spec_machine.specs.Looking.{is_absent, directory_digit_at}
+use Rattle.spec_machine.specs.Jobs.{Channel, SpecJob, SpecInput, SpecOutput, State, channel_at, job_at}
+use Rattle.spec_machine.specs.Lookup.{lookup, lookup_answer, lookup_done, looked_up, place_at, has_no_directory}
+use Rattle.spec_machine.specs.Lookup.{is_absent, directory_digit_at}
 use Rattle.spec_machine.specs.Inputs.{in_answer, in_done, core_filled, words_ahead, reads}
 use Rattle.spec_machine.specs.Outcomes.{stopped_in, refused_at}
 use Rattle.spec_machine.specs.Step.{step, last_date, on_job, on_channel, of_job}
 use Rattle.spec_machine.specs.Runs.{Service, Serving, Broken, Answers, AnswersAll}
-use Rattle.spec_machine.specs.Holding.{SparesEvent, SpareAll, version_read, held_on, held_in, held_for, held_at}
-use Rattle.spec_machine.specs.Holding.{FoundBy, MovesWordsOf}
+use Rattle.spec_machine.specs.PinnedVersions.{SparesEvent, SpareAll, version_read, pinned_on, pinned_in, pinned_for}
+use Rattle.spec_machine.specs.PinnedVersions.{pinned_at}
+use Rattle.spec_machine.specs.PinnedVersions.{FoundBy, MovesWordsOf}
 use Rattle.spec_machine.specs.declared.call.Call.TheVariants.{Lookup, In}
 use Rattle.spec_machine.specs.declared.call.Event.{Event}
 use Rattle.spec_machine.specs.declared.call.Event.TheVariants.{Call as Calls}
@@ -22,7 +23,7 @@ use Rattle.spec_machine.specs.declared.call.Reply.{Reply}
 use Rattle.spec_machine.specs.declared.call.Reply.TheVariants.{Done, Refused, AddressCheck, DateRange}
 use Rattle.spec_machine.proofs.OutcomeLaws.{settled_by}
 use Rattle.spec_machine.proofs.SlotLaws.{slot-set_same}
-use Rattle.spec_machine.proofs.HoldingLaws.{event_held, words_held}
+use Rattle.spec_machine.proofs.PinnedLaws.{event_held, words_held}
 
 -- Over a run.
 
@@ -44,17 +45,17 @@ broken_stays pack (event ∷ events) [] new r = absurd r
 broken_stays pack (event ∷ events) (reply ∷ replies) new (Serving after, a, r) = absurd a
 broken_stays pack (event ∷ events) (reply ∷ replies) new (Broken, a, r) = broken_stays pack events replies new r
 
-answers_held : (pack : Pack) (s t : State) (event : Event) (reply : Reply) (n ch : ℕ) (v : Version)
-    → Answers pack (Serving s) event reply (Serving t) → SparesEvent n ch event → held_at s n ch ≡ Some v
-    → held_at t n ch ≡ Some v
+answers_held : (pack : Pack) (s t : State) (event : Event) (reply : Reply) (n ch : ℕ) (v : SpecVersion)
+    → Answers pack (Serving s) event reply (Serving t) → SparesEvent n ch event → pinned_at s n ch ≡ Some v
+    → pinned_at t n ch ≡ Some v
 answers_held pack s t event reply n ch v a spared h = ⊎_elim
-    (λ steps. subst (λ r. held_at r.1 n ch ≡ Some v) steps.2 (event_held pack steps.0 s n ch v event spared h))
-    (λ none. subst (λ x. held_at x n ch ≡ Some v) (sym none.1) h) a
+    (λ steps. subst (λ r. pinned_at r.1 n ch ≡ Some v) steps.2 (event_held pack steps.0 s n ch v event spared h))
+    (λ none. subst (λ x. pinned_at x n ch ≡ Some v) (sym none.1) h) a
 
-pub run_held : (pack : Pack) (s t : State) (events : List Event) (replies : List Reply) (n ch : ℕ) (v : Version)
-    → AnswersAll pack (Serving s) events replies (Serving t) → SpareAll n ch events → held_at s n ch ≡ Some v
-    → held_at t n ch ≡ Some v
-run_held pack s t [] [] n ch v r spared h = subst (λ x. held_at x n ch ≡ Some v) (sym (serving_same r)) h
+pub run_held : (pack : Pack) (s t : State) (events : List Event) (replies : List Reply) (n ch : ℕ) (v : SpecVersion)
+    → AnswersAll pack (Serving s) events replies (Serving t) → SpareAll n ch events → pinned_at s n ch ≡ Some v
+    → pinned_at t n ch ≡ Some v
+run_held pack s t [] [] n ch v r spared h = subst (λ x. pinned_at x n ch ≡ Some v) (sym (serving_same r)) h
 run_held pack s t [] (reply ∷ replies) n ch v r spared h = absurd r
 run_held pack s t (event ∷ events) [] n ch v r spared h = absurd r
 run_held pack s t (event ∷ events) (reply ∷ replies) n ch v (Serving mid, a, r) spared h =
@@ -77,14 +78,14 @@ pub is_there : {X : Type 0} (x : Option X) → is_none x ≡ false → (y : X) �
 is_there None e = let wrong = e in cc
 is_there (Some y) e = (y, refl)
 
--- what the channel holds after it, by what was found
-looked_up_holds : (pack : Pack) (job : Job) (ch : ℕ) (c : Channel) (e : ℕ) (place : Place) (found : Option Version)
-    (v : Version)
-    → channel_at job ch ≡ Some c → c.output ≡ None → found ≡ Some v → held_in (looked_up pack job ch c e place found) ch
+-- what the channel pins after it, by what was found
+looked_up_holds : (pack : Pack) (job : SpecJob) (ch : ℕ) (c : Channel) (e : ℕ) (place : Place) (found : Option SpecVersion)
+    (v : SpecVersion)
+    → channel_at job ch ≡ Some c → c.output ≡ None → found ≡ Some v → pinned_in (looked_up pack job ch c e place found) ch
     ≡ Some v
 looked_up_holds pack job ch c e place None v there none f = let wrong = f in cc
 looked_up_holds pack job ch c e place (Some w) v there none f =
-    ap held_on (slot-set_same job.channels ch _ c there)
+    ap pinned_on (slot-set_same job.channels ch _ c there)
     ∙ ap (λ o. version_read o (Some (record { place = place; version = w; next = 1 }))) none ∙ f
 
 pub is_none_of : {X : Type 0} (x : Option X) → is_some x ≡ false → x ≡ None
@@ -92,8 +93,8 @@ is_none_of None e = refl
 is_none_of (Some y) e = let wrong = e in cc
 
 -- the channel had no output side, and the name is there
-lookup_needs : (s : State) (job : Job) (c : Channel) (e : ℕ) (place : Place) → lookup_answer s job c e place ≡ Done
-    → (c.output ≡ None) × (v : Version) × (file_at s.files place ≡ Some v)
+lookup_needs : (s : State) (job : SpecJob) (c : Channel) (e : ℕ) (place : Place) → lookup_answer s job c e place ≡ Done
+    → (c.output ≡ None) × (v : SpecVersion) × (file_at s.files place ≡ Some v)
 lookup_needs s job c e place done =
     let a = passed_test (lies_outside job.core e 4) AddressCheck _ (λ x. cc) done in
     let b = passed_test (is_some c.output) (Refused 5) _ (λ x. cc) a.1 in
@@ -104,11 +105,11 @@ lookup_needs s job c e place done =
     (is_none_of c.output b.0, h.0, h.1)
 
 -- the row
-abbrev Looked : State → Job → ℕ → ℕ → Reply × Job → Type 0
-Looked s job ch e r = r.0 ≡ Done → (v : Version) × (file_at s.files (place_at job e) ≡ Some v)
-    × (held_in r.1 ch ≡ Some v)
+abbrev Looked : State → SpecJob → ℕ → ℕ → Reply × SpecJob → Type 0
+Looked s job ch e r = r.0 ≡ Done → (v : SpecVersion) × (file_at s.files (place_at job e) ≡ Some v)
+    × (pinned_in r.1 ch ≡ Some v)
 
-row_looks : (pack : Pack) (s : State) (job : Job) (ch : ℕ) (c : Channel) (e : ℕ) → channel_at job ch ≡ Some c
+row_looks : (pack : Pack) (s : State) (job : SpecJob) (ch : ℕ) (c : Channel) (e : ℕ) → channel_at job ch ≡ Some c
     → Looked s job ch e (lookup pack s job ch c e)
 row_looks pack s job ch c e there =
     settled_by (Looked s job ch e) (lookup_answer s job c e (place_at job e))
@@ -123,17 +124,17 @@ row_looks pack s job ch c e there =
 
 -- the event
 abbrev Finds : State → ℕ → ℕ → ℕ → Reply × State → Type 0
-Finds s n ch e r = r.0 ≡ Done → (v : Version) × FoundBy s n e v × (held_at r.1 n ch ≡ Some v)
+Finds s n ch e r = r.0 ≡ Done → (v : SpecVersion) × FoundBy s n e v × (pinned_at r.1 n ch ≡ Some v)
 
-finds_on_channel : (pack : Pack) (s : State) (n : ℕ) (job : Job) (ch e : ℕ) → job_at s n ≡ Some job
+finds_on_channel : (pack : Pack) (s : State) (n : ℕ) (job : SpecJob) (ch e : ℕ) → job_at s n ≡ Some job
     → (o : Option Channel) → channel_at job ch ≡ o
     → Finds s n ch e (on_channel s o (λ c. of_job s n (lookup pack s job ch c e)))
 finds_on_channel pack s n job ch e there None f done = let wrong = done in cc
 finds_on_channel pack s n job ch e there (Some c) f done =
     let h = row_looks pack s job ch c e f done in
-    (h.0, (job, there, h.1), ap (held_for ch) (slot-set_same s.jobs n (lookup pack s job ch c e).1 job there) ∙ h.2)
+    (h.0, (job, there, h.1), ap (pinned_for ch) (slot-set_same s.jobs n (lookup pack s job ch c e).1 job there) ∙ h.2)
 
-finds_on_job : (pack : Pack) (s : State) (n ch e : ℕ) (o : Option Job) → job_at s n ≡ o
+finds_on_job : (pack : Pack) (s : State) (n ch e : ℕ) (o : Option SpecJob) → job_at s n ≡ o
     → Finds s n ch e (on_job s o (λ job. on_channel s (channel_at job ch) (λ c. of_job s n (lookup pack s job ch c e))))
 finds_on_job pack s n ch e None f done = let wrong = done in cc
 finds_on_job pack s n ch e (Some job) f done = finds_on_channel pack s n job ch e f (channel_at job ch) refl done
@@ -150,25 +151,25 @@ lookup_finds pack serial s n ch e moment =
 
 -- An IN that is done.
 
-abbrev Filled : Job → Channel → ℕ → Reply × Job → Type 0
+abbrev Filled : SpecJob → Channel → ℕ → Reply × SpecJob → Type 0
 Filled job c a r = r.0 ≡ Done → r.1.core ≡ core_filled job c a (words_ahead c.input c.output)
 
-row_fills : (job : Job) (ch : ℕ) (c : Channel) (a : ℕ) → Filled job c a (reads job ch c a)
+row_fills : (job : SpecJob) (ch : ℕ) (c : Channel) (a : ℕ) → Filled job c a (reads job ch c a)
 row_fills job ch c a = settled_by (Filled job c a) (in_answer job c a) (in_done job ch c a) (stopped_in job ch c)
     (λ is done. refl) (λ differs done. absurd (differs done))
 
--- the input side of a channel that holds a version
-side_of : (o : Option Output) (i : Option Input) (v : Version) → version_read o i ≡ Some v
-    → (side : Input) × (i ≡ Some side)
+-- the input side of a channel that pins a version
+side_of : (o : Option SpecOutput) (i : Option SpecInput) (v : SpecVersion) → version_read o i ≡ Some v
+    → (side : SpecInput) × (i ≡ Some side)
 side_of (Some o) i v e = let wrong = e in cc
 side_of None None v e = let wrong = e in cc
 side_of None (Some i) v e = (i, refl)
 
-abbrev Moves : State → ℕ → ℕ → ℕ → Version → Reply × State → Type 0
+abbrev Moves : State → ℕ → ℕ → ℕ → SpecVersion → Reply × State → Type 0
 Moves s n ch a v r = r.0 ≡ Done → MovesWordsOf s r.1 n ch a v
 
-moves_on_channel : (s : State) (n : ℕ) (job : Job) (ch a : ℕ) (v : Version) → job_at s n ≡ Some job
-    → (o : Option Channel) → channel_at job ch ≡ o → held_on o ≡ Some v
+moves_on_channel : (s : State) (n : ℕ) (job : SpecJob) (ch a : ℕ) (v : SpecVersion) → job_at s n ≡ Some job
+    → (o : Option Channel) → channel_at job ch ≡ o → pinned_on o ≡ Some v
     → Moves s n ch a v (on_channel s o (λ c. of_job s n (reads job ch c a)))
 moves_on_channel s n job ch a v there None f h done = let wrong = done in cc
 moves_on_channel s n job ch a v there (Some c) f h done =
@@ -188,18 +189,18 @@ moves_on_channel s n job ch a v there (Some c) f h done =
       core_is = row_fills job ch c a done ∙ ap (core_filled job c a) words;
     }
 
-moves_on_job : (s : State) (n ch a : ℕ) (v : Version) (o : Option Job) → job_at s n ≡ o → held_for ch o ≡ Some v
+moves_on_job : (s : State) (n ch a : ℕ) (v : SpecVersion) (o : Option SpecJob) → job_at s n ≡ o → pinned_for ch o ≡ Some v
     → Moves s n ch a v (on_job s o (λ job. on_channel s (channel_at job ch) (λ c. of_job s n (reads job ch c a))))
 moves_on_job s n ch a v None f h done = let wrong = done in cc
 moves_on_job s n ch a v (Some job) f h done = moves_on_channel s n job ch a v f (channel_at job ch) refl h done
 
-moves_if : (s : State) (n ch a : ℕ) (v : Version) (late : Bool) (r : Reply × State) → Moves s n ch a v r
+moves_if : (s : State) (n ch a : ℕ) (v : SpecVersion) (late : Bool) (r : Reply × State) → Moves s n ch a v r
     → Moves s n ch a v (if late then (DateRange, s) else r)
 moves_if s n ch a v true r h done = let wrong = done in cc
 moves_if s n ch a v false r h done = h done
 
-pub in_moves : (pack : Pack) (serial : ℕ) (s : State) (n ch a : ℕ) (v : Version) (moment : Moment)
-    → held_at s n ch ≡ Some v → Moves s n ch a v (step pack serial s (Calls n (In ch a) moment))
+pub in_moves : (pack : Pack) (serial : ℕ) (s : State) (n ch a : ℕ) (v : SpecVersion) (moment : Moment)
+    → pinned_at s n ch ≡ Some v → Moves s n ch a v (step pack serial s (Calls n (In ch a) moment))
 in_moves pack serial s n ch a v moment h =
     moves_if s n ch a v (nat_lt (last_date pack.layout) moment.date) _ (moves_on_job s n ch a v (job_at s n) refl h)
 
@@ -213,7 +214,7 @@ pub reading_holds : (pack : Pack) (s s' t u : State) (n ch e a : ℕ) (first las
     (replies : List Reply)
     → Answers pack (Serving s) (Calls n (Lookup ch e) first) Done (Serving s')
     → AnswersAll pack (Serving s') events replies (Serving t) → SpareAll n ch events
-    → Answers pack (Serving t) (Calls n (In ch a) last) Done (Serving u) → (v : Version) × FoundBy s n e v
+    → Answers pack (Serving t) (Calls n (In ch a) last) Done (Serving u) → (v : SpecVersion) × FoundBy s n e v
     × MovesWordsOf t u n ch a v
 reading_holds pack s s' t u n ch e a first last events replies look run spared take =
     let l = done_steps pack s s' (Calls n (Lookup ch e) first) look in

@@ -1,6 +1,6 @@
 -- What is true of an outcome, by its answer.
 use Rattle.std.proofs.Common.{◌≡◌, ◌≢◌, ℕ, List, Some, refl}
-use Rattle.spec_machine.specs.Jobs.{Channel, Job, with_channel}
+use Rattle.spec_machine.specs.Jobs.{Channel, SpecJob, with_channel}
 use Rattle.spec_machine.specs.Outcomes.{settled, stopped_in, refused_at}
 use Rattle.spec_machine.specs.declared.call.Reply.{Reply}
 use Rattle.spec_machine.specs.declared.call.Reply.TheVariants.{Done, Value, Refused, Stopped, NoChannel, AddressCheck}
@@ -38,7 +38,7 @@ settled_both P Failed one two other d o = o Failed
 settled_both P DateRange one two other d o = o DateRange
 
 -- by whether it gives a channel a status
-pub stopped_by : (P : Job → Type 0) (job : Job) (number : ℕ) (c : Channel) (reply : Reply)
+pub stopped_by : (P : SpecJob → Type 0) (job : SpecJob) (number : ℕ) (c : Channel) (reply : Reply)
     → P job → ((status : ℕ) → P (with_channel job number (Some (record c { status = status }))))
     → P (stopped_in job number c reply)
 stopped_by P job number c Done h s = h
@@ -54,7 +54,7 @@ stopped_by P job number c Failed h s = h
 stopped_by P job number c DateRange h s = h
 
 -- whatever it leaves of the core
-pub refused_by : (P : Job → Type 0) (job : Job) (e : ℕ) (reply : Reply)
+pub refused_by : (P : SpecJob → Type 0) (job : SpecJob) (e : ℕ) (reply : Reply)
     → ((core : List ℕ) → P (record job { core = core })) → P (refused_at job e reply)
 refused_by P job e Done h = h job.core
 refused_by P job e (Value w) h = h job.core

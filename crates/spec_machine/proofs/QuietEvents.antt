@@ -4,7 +4,7 @@ use Rattle.std.proofs.Common.{None, refl, sym, ap, ◌∙◌}
 use Rattle.std.specs.Prelude.{nat_lt, nat_le}
 use Rattle.words36.specs.declared.moment.Moment.{Moment}
 use Rattle.spec_image.specs.Common.{Pack}
-use Rattle.spec_machine.specs.Jobs.{Channel, Job, State, job_at, channel_at, with_job}
+use Rattle.spec_machine.specs.Jobs.{Channel, SpecJob, State, job_at, channel_at, with_job}
 use Rattle.spec_machine.specs.Runs.{Steps}
 use Rattle.spec_machine.specs.Outcomes.{settled}
 use Rattle.spec_machine.specs.Step.{step, last_date, on_job, on_channel, of_job, call_of, deposit}
@@ -51,7 +51,7 @@ same_if : (s : State) (late : Bool) (r : Reply × State) → Same s r → Same s
 same_if s true r h = refl
 same_if s false r h = h
 
-same_job : (s : State) (row : Job → Reply × State) (o : Option Job) → ((job : Job) → Same s (row job))
+same_job : (s : State) (row : SpecJob → Reply × State) (o : Option SpecJob) → ((job : SpecJob) → Same s (row job))
     → Same s (on_job s o row)
 same_job s row None h = refl
 same_job s row (Some job) h = h job
@@ -61,11 +61,11 @@ same_channel : (s : State) (row : Channel → Reply × State) (o : Option Channe
 same_channel s row None h = refl
 same_channel s row (Some c) h = h c
 
-same_open : (s : State) (b : Bool) (n : ℕ) (r : Reply × Job) → Same s (if b then of_job s n r else (NoChannel, s))
+same_open : (s : State) (b : Bool) (n : ℕ) (r : Reply × SpecJob) → Same s (if b then of_job s n r else (NoChannel, s))
 same_open s true n r = refl
 same_open s false n r = refl
 
-same_call : (pack : Pack) (serial : ℕ) (s : State) (n : ℕ) (job : Job) (call : Call) (moment : Moment)
+same_call : (pack : Pack) (serial : ℕ) (s : State) (n : ℕ) (job : SpecJob) (call : Call) (moment : Moment)
     → IsQuietCall call
     → Same s (call_of pack serial s n job call moment)
 same_call pack serial s n job (Open ch a) moment q = same_open s (nat_le ch 15) n _

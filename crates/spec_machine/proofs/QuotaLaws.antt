@@ -1,22 +1,22 @@
--- No call but QUOTA changes a directory's quota.
+-- No call except QUOTA changes a directory's quota.
 use Rattle.std.proofs.Common.{◌≡◌, ◌≢◌, ℕ, Bool, true, false, if◌then◌else◌, Option, Some, None, refl, sym, ap, subst}
 use Rattle.std.proofs.Common.{◌∙◌, ⊎_elim}
 use Rattle.std.specs.Prelude.{nat_lt}
 use Rattle.std.specs.Cmp.{nat_cmp_total}
 use Rattle.std.specs.FinMap.{nat_cmp-IsAntisymmetric}
 use Rattle.words36.specs.declared.moment.Moment.{Moment}
-use Rattle.spec_image.specs.Common.{get, insert, remove, Files, Directory, Place, Version, file_at, with_file}
+use Rattle.spec_image.specs.Common.{get, insert, remove, Files, Directory, Place, SpecVersion, file_at, with_file}
 use Rattle.spec_image.specs.Common.{with_file_in, without_file, without_file_in, with_protection, Pack}
-use Rattle.spec_machine.specs.Jobs.{Channel, Job, Input, Output, State, channel_at, job_at, with_channel}
+use Rattle.spec_machine.specs.Jobs.{Channel, SpecJob, SpecInput, SpecOutput, State, channel_at, job_at, with_channel}
 use Rattle.spec_machine.specs.Charges.{quota_in}
 use Rattle.spec_machine.specs.Runs.{Steps}
 use Rattle.spec_machine.specs.Outcomes.{settled, stopped_in, refused_at}
-use Rattle.spec_machine.specs.Looking.{place_at}
-use Rattle.spec_machine.specs.Closing.{published, close_answer, close_done, core_closed, files_with, files_closed}
-use Rattle.spec_machine.specs.Closing.{closes, releases, publishes, output_put}
-use Rattle.spec_machine.specs.Renaming.{renames, rename_answer, rename_done, files_moved, files_renamed, deletes_at}
-use Rattle.spec_machine.specs.Renaming.{protection_at}
-use Rattle.spec_machine.specs.Making.{makes, make_answer, removes, remove_answer, owner_at, directory_made}
+use Rattle.spec_machine.specs.Lookup.{place_at}
+use Rattle.spec_machine.specs.Close.{published, close_answer, close_done, core_closed, files_with, files_closed}
+use Rattle.spec_machine.specs.Close.{closes, releases, publishes, output_put}
+use Rattle.spec_machine.specs.Rename.{renames, rename_answer, rename_done, files_moved, files_renamed, deletes_at}
+use Rattle.spec_machine.specs.Rename.{protection_at}
+use Rattle.spec_machine.specs.MakeDir.{makes, make_answer, removes, remove_answer, owner_at, directory_made}
 use Rattle.spec_machine.specs.Step.{last_date, on_job, on_channel, of_files, call_of}
 use Rattle.spec_machine.specs.declared.call.Call.{Call}
 use Rattle.spec_machine.specs.declared.call.Call.TheVariants.{Open, Inbuf, Outbuf, Lookup, Enter, Rename, In, Out}
@@ -34,13 +34,13 @@ use Rattle.spec_machine.proofs.SoundSteps.{make_needs}
 
 module _ (p : ℕ) where
   -- a directory that stays keeps its quota
-  abbrev pub KeepsQuota : Files Version → Files Version → Type 0
-  KeepsQuota was now = (d new : Directory Version) → get was p ≡ Some d → get now p ≡ Some new → new.quota ≡ d.quota
+  abbrev pub KeepsQuota : Files SpecVersion → Files SpecVersion → Type 0
+  KeepsQuota was now = (d new : Directory SpecVersion) → get was p ≡ Some d → get now p ≡ Some new → new.quota ≡ d.quota
 
-  by_quotas : (was now : Files Version) → quota_in (get now p) ≡ quota_in (get was p) → KeepsQuota was now
+  by_quotas : (was now : Files SpecVersion) → quota_in (get now p) ≡ quota_in (get was p) → KeepsQuota was now
   by_quotas was now same d new e f = ap quota_in (sym f) ∙ same ∙ ap quota_in e
 
-  quota-insert : (files : Files Version) (k : ℕ) (d new : Directory Version) → get files k ≡ Some d
+  quota-insert : (files : Files SpecVersion) (k : ℕ) (d new : Directory SpecVersion) → get files k ≡ Some d
       → new.quota ≡ d.quota → quota_in (get (insert files k new) p) ≡ quota_in (get files p)
   quota-insert files k d new is same = ⊎_elim
       (λ here. ap (λ q. quota_in (get (insert files k new) q)) here
@@ -49,37 +49,37 @@ module _ (p : ℕ) where
       (λ other. ap quota_in (get-insert_other nat_cmp_total nat_cmp-IsAntisymmetric files k new p other))
       (same_or_other nat_cmp_total nat_cmp-IsAntisymmetric p k)
 
-  quota-with : (files : Files Version) (place : Place) (v : Version)
+  quota-with : (files : Files SpecVersion) (place : Place) (v : SpecVersion)
       → quota_in (get (with_file files place v) p) ≡ quota_in (get files p)
   quota-with files place v = by (get files place.ppn) refl
     where
-      by : (o : Option (Directory Version)) → get files place.ppn ≡ o
+      by : (o : Option (Directory SpecVersion)) → get files place.ppn ≡ o
           → quota_in (get (with_file_in o files place v) p) ≡ quota_in (get files p)
       by None is = refl
       by (Some d) is = quota-insert files place.ppn d (record d { files = insert d.files place.name v }) is refl
 
-  quota-without : (files : Files Version) (place : Place)
+  quota-without : (files : Files SpecVersion) (place : Place)
       → quota_in (get (without_file files place) p) ≡ quota_in (get files p)
   quota-without files place = by (get files place.ppn) refl
     where
-      by : (o : Option (Directory Version)) → get files place.ppn ≡ o
+      by : (o : Option (Directory SpecVersion)) → get files place.ppn ≡ o
           → quota_in (get (without_file_in o files place) p) ≡ quota_in (get files p)
       by None is = refl
       by (Some d) is = quota-insert files place.ppn d (record d { files = remove d.files place.name }) is refl
 
-  quota-closed : (files : Files Version) (serial : ℕ) (publishes : Bool) (o : Option Output)
+  quota-closed : (files : Files SpecVersion) (serial : ℕ) (publishes : Bool) (o : Option SpecOutput)
       → quota_in (get (if publishes then files_with files serial o else files) p) ≡ quota_in (get files p)
   quota-closed files serial false o = refl
   quota-closed files serial true None = refl
   quota-closed files serial true (Some o) = quota-with files o.place (published serial o)
 
-  quota-moved : (files : Files Version) (old new : Place) (protection : ℕ) (found : Option Version)
+  quota-moved : (files : Files SpecVersion) (old new : Place) (protection : ℕ) (found : Option SpecVersion)
       → quota_in (get (files_moved files old new protection found) p) ≡ quota_in (get files p)
   quota-moved files old new protection None = refl
   quota-moved files old new protection (Some v) =
       quota-with (without_file files old) new (with_protection v protection) ∙ quota-without files old
 
-  quota-renamed : (files : Files Version) (job : Job) (e : ℕ) (input : Option Input)
+  quota-renamed : (files : Files SpecVersion) (job : SpecJob) (e : ℕ) (input : Option SpecInput)
       → quota_in (get (files_renamed files job e input) p) ≡ quota_in (get files p)
   quota-renamed files job e None = refl
   quota-renamed files job e (Some i) = by (deletes_at job e)
@@ -101,7 +101,7 @@ module _ (p : ℕ) where
     timely_keeps true r h = stays DateRange
     timely_keeps false r h = h
 
-    job_keeps : (row : Job → Reply × State) (o : Option Job) → ((job : Job) → Keeps (row job))
+    job_keeps : (row : SpecJob → Reply × State) (o : Option SpecJob) → ((job : SpecJob) → Keeps (row job))
         → Keeps (on_job s o row)
     job_keeps row None h = stays NoJob
     job_keeps row (Some job) h = h job
@@ -112,40 +112,40 @@ module _ (p : ℕ) where
     channel_keeps row (Some c) h = h c
 
     -- a row that may change the files
-    row_keeps : (n : ℕ) (reply : Reply) (done : Job × Files Version) (other : Reply → Job)
+    row_keeps : (n : ℕ) (reply : Reply) (done : SpecJob × Files SpecVersion) (other : Reply → SpecJob)
         → (reply ≡ Done → KeepsQuota s.files done.1)
         → Keeps (of_files s n (settled reply done (λ r. (other r, s.files))))
     row_keeps n reply done other h = settled_by (λ r. KeepsQuota s.files r.1.1) reply done (λ r. (other r, s.files))
         (λ is. h is) (λ differs. by_quotas s.files s.files refl)
 
-    make_keeps : (pack : Pack) (n : ℕ) (job : Job) (e : ℕ) → Keeps (of_files s n (makes pack s job e))
+    make_keeps : (pack : Pack) (n : ℕ) (job : SpecJob) (e : ℕ) → Keeps (of_files s n (makes pack s job e))
     make_keeps pack n job e = row_keeps n (make_answer pack s job e (owner_at job e)) _ (refused_at job e)
         (λ done d new is now. ⊎_elim
         (λ here. absurd (some_none (sym is ∙ ap (get s.files) here
         ∙ (make_needs pack s job e (owner_at job e) done).0)))
         (λ other. let same : Some new ≡ Some d = sym now
         ∙ get-insert_other nat_cmp_total nat_cmp-IsAntisymmetric s.files (owner_at job e) (directory_made job e) p other
-        ∙ is in ap (λ (x : Directory Version). x.quota) (some_same same))
+        ∙ is in ap (λ (x : Directory SpecVersion). x.quota) (some_same same))
         (same_or_other nat_cmp_total nat_cmp-IsAntisymmetric p (owner_at job e)))
 
-    remove_keeps : (n : ℕ) (job : Job) (e : ℕ) → Keeps (of_files s n (removes s job e))
+    remove_keeps : (n : ℕ) (job : SpecJob) (e : ℕ) → Keeps (of_files s n (removes s job e))
     remove_keeps n job e = row_keeps n (remove_answer s job e (owner_at job e)) _ (refused_at job e)
         (λ done d new is now. ⊎_elim
         (λ here. absurd (some_none (sym now ∙ ap (get (remove s.files (owner_at job e))) here
         ∙ get-removed nat_cmp_total s.files (owner_at job e))))
         (λ other. let same : Some new ≡ Some d = sym now
         ∙ get-remove_other nat_cmp_total nat_cmp-IsAntisymmetric s.files (owner_at job e) p other
-        ∙ is in ap (λ (x : Directory Version). x.quota) (some_same same))
+        ∙ is in ap (λ (x : Directory SpecVersion). x.quota) (some_same same))
         (same_or_other nat_cmp_total nat_cmp-IsAntisymmetric p (owner_at job e)))
 
-    close_keeps : (pack : Pack) (serial n : ℕ) (job : Job) (ch : ℕ) (c : Channel) (bits : ℕ)
+    close_keeps : (pack : Pack) (serial n : ℕ) (job : SpecJob) (ch : ℕ) (c : Channel) (bits : ℕ)
         → Keeps (of_files s n (closes pack serial s job ch c bits))
     close_keeps pack serial n job ch c bits =
         row_keeps n (close_answer pack s job c bits) (close_done serial job ch c bits, _) (stopped_in job ch c)
         (λ done. by_quotas s.files (files_closed serial s.files job c bits)
         (quota-closed s.files serial (publishes c bits) (output_put job c)))
 
-    release_keeps : (pack : Pack) (serial n : ℕ) (job : Job) (ch : ℕ) (c : Channel)
+    release_keeps : (pack : Pack) (serial n : ℕ) (job : SpecJob) (ch : ℕ) (c : Channel)
         → Keeps (of_files s n (releases pack serial s job ch c))
     release_keeps pack serial n job ch c =
         row_keeps n (close_answer pack s job c 0)
@@ -153,7 +153,7 @@ module _ (p : ℕ) where
         (λ done. by_quotas s.files (files_closed serial s.files job c 0)
         (quota-closed s.files serial (publishes c 0) (output_put job c)))
 
-    rename_keeps : (pack : Pack) (n : ℕ) (job : Job) (ch : ℕ) (c : Channel) (e : ℕ)
+    rename_keeps : (pack : Pack) (n : ℕ) (job : SpecJob) (ch : ℕ) (c : Channel) (e : ℕ)
         → Keeps (of_files s n (renames pack s job ch c e))
     rename_keeps pack n job ch c e =
         row_keeps n (rename_answer pack s job c e) (rename_done job ch c, _) (refused_at job e)
@@ -169,7 +169,7 @@ quota_stays pack s t event reply p = by event
         (ap (λ files. quota_in (get files p)) (quiet_files pack s event reply t is steps))
 
     loud : (n : ℕ) (call : Call) (moment : Moment)
-        → ((serial : ℕ) (job : Job) → Keeps p s (call_of pack serial s n job call moment))
+        → ((serial : ℕ) (job : SpecJob) → Keeps p s (call_of pack serial s n job call moment))
         → Steps pack s (Calls n call moment) reply t → KeepsQuota p s.files t.files
     loud n call moment h (serial, fresh, is) = subst (λ (r : Reply × State). Keeps p s r) is
         (timely_keeps p s (nat_lt (last_date pack.layout) moment.date) _ (job_keeps p s _ (job_at s n) (h serial)))

@@ -1,16 +1,16 @@
--- Who reads keeps what he reads where others rename, delete and remove; and reading takes no room.
+-- A reader keeps what it reads when others rename, delete and remove; and reading takes no room.
 use Rattle.std.proofs.Common.{◌≡◌, ◌≢◌, ℕ, Bool, true, false, if◌then◌else◌, Option, Some, None, refl, sym, ap, subst}
 use Rattle.std.proofs.Common.{◌∙◌, ◌⊎◌, inl, inr}
 use Rattle.std.specs.Prelude.{◌==◌, nat_lt, pos, ◌-ℤ◌}
 use Rattle.std.proofs.lemmas.Bool.{eqb-true, eq-eqb}
 use Rattle.words36.specs.declared.moment.Moment.{Moment}
-use Rattle.spec_image.specs.Common.{Files, Version, Pack, blocks_of}
-use Rattle.spec_machine.specs.Jobs.{Channel, Job, State, channel_at, job_at}
+use Rattle.spec_image.specs.Common.{Files, SpecVersion, Pack, blocks_of}
+use Rattle.spec_machine.specs.Jobs.{Channel, SpecJob, State, channel_at, job_at}
 use Rattle.spec_machine.specs.Room.{version_of, booked, space, room}
 use Rattle.spec_machine.specs.Outcomes.{clean, stopped_in, refused_at}
 use Rattle.spec_machine.specs.Inputs.{reads, in_answer, in_done, words_ahead, words_moved, core_filled, moved_on}
-use Rattle.spec_machine.specs.Renaming.{renames, rename_answer, rename_done, files_renamed}
-use Rattle.spec_machine.specs.Making.{removes, remove_answer}
+use Rattle.spec_machine.specs.Rename.{renames, rename_answer, rename_done, files_renamed}
+use Rattle.spec_machine.specs.MakeDir.{removes, remove_answer}
 use Rattle.spec_machine.specs.Step.{step, last_date, on_job, on_channel, of_files}
 use Rattle.spec_machine.specs.Sound.{version_for, holds_at}
 use Rattle.spec_machine.specs.declared.call.Call.TheVariants.{Rename, In, DeleteDir}
@@ -33,8 +33,8 @@ holds_if : (s : State) (late : Bool) (r : Reply × State) (n k : ℕ) → Holds 
 holds_if s true r n k h = refl
 holds_if s false r n k h = h
 
-holds_job : (s : State) (row : Job → Reply × State) (o : Option Job) (n k : ℕ)
-    → ((job : Job) → o ≡ Some job → Holds s (row job) n k) → Holds s (on_job s o row) n k
+holds_job : (s : State) (row : SpecJob → Reply × State) (o : Option SpecJob) (n k : ℕ)
+    → ((job : SpecJob) → o ≡ Some job → Holds s (row job) n k) → Holds s (on_job s o row) n k
 holds_job s row None n k h = refl
 holds_job s row (Some job) n k h = h job refl
 
@@ -43,16 +43,16 @@ holds_channel : (s : State) (row : Channel → Reply × State) (o : Option Chann
 holds_channel s row None n k h = refl
 holds_channel s row (Some c) n k h = h c
 
--- the versions that a job's channels hold, where its record changes
-holds_files : (s : State) (n : ℕ) (job : Job) (r : Reply × (Job × Files Version)) (k : ℕ) → job_at s n ≡ Some job
+-- the versions that a job's channels pin, if its record changes
+holds_files : (s : State) (n : ℕ) (job : SpecJob) (r : Reply × (SpecJob × Files SpecVersion)) (k : ℕ) → job_at s n ≡ Some job
     → version_of (channel_at r.1.0 k) ≡ version_of (channel_at job k) → Holds s (of_files s n r) n k
 holds_files s n job r k there h = ap (version_for k) (slot-set_same s.jobs n r.1.0 job there) ∙ h
     ∙ sym (ap (version_for k) there)
 
-rename_holds : (pack : Pack) (s : State) (job : Job) (ch : ℕ) (c : Channel) (e k : ℕ) → k ≢ ch
+rename_holds : (pack : Pack) (s : State) (job : SpecJob) (ch : ℕ) (c : Channel) (e k : ℕ) → k ≢ ch
     → version_of (channel_at (renames pack s job ch c e).1.0 k) ≡ version_of (channel_at job k)
 rename_holds pack s job ch c e k apart =
-    settled_by {A = Job × Files Version} (λ r. version_of (channel_at r.1.0 k) ≡ version_of (channel_at job k))
+    settled_by {A = SpecJob × Files SpecVersion} (λ r. version_of (channel_at r.1.0 k) ≡ version_of (channel_at job k))
     (rename_answer pack s job c e) (rename_done job ch c, files_renamed s.files job e c.input)
     (λ r. (refused_at job e r, s.files))
     (λ is. ap version_of (slot-set_other job.channels ch k _ apart))
@@ -76,10 +76,10 @@ renamed_holds pack serial s n ch e moment m k (inr apart) = decide (m == n) refl
     decide false f = ap (version_for k) (spares_step pack serial s m (Calls n (Rename ch e) moment)
         (λ same. let wrong = sym f ∙ eq-eqb m n same in cc))
 
-remove_holds : (s : State) (job : Job) (e k : ℕ) → version_of (channel_at (removes s job e).1.0 k)
+remove_holds : (s : State) (job : SpecJob) (e k : ℕ) → version_of (channel_at (removes s job e).1.0 k)
     ≡ version_of (channel_at job k)
 remove_holds s job e k =
-    settled_by {A = Job × Files Version} (λ r. version_of (channel_at r.1.0 k) ≡ version_of (channel_at job k))
+    settled_by {A = SpecJob × Files SpecVersion} (λ r. version_of (channel_at r.1.0 k) ≡ version_of (channel_at job k))
     (remove_answer s job e _) (job, _) (λ r. (refused_at job e r, s.files))
     (λ is. refl) (λ differs. refused_by (λ j. version_of (channel_at j k) ≡ version_of (channel_at job k)) job e _
     (λ core. refl))
@@ -121,8 +121,8 @@ booked_if : (s : State) (late : Bool) (r : Reply × State) → SameBooked s r
 booked_if s true r h = refl
 booked_if s false r h = h
 
-booked_job : (s : State) (row : Job → Reply × State) (o : Option Job)
-    → ((job : Job) → o ≡ Some job → SameBooked s (row job)) → SameBooked s (on_job s o row)
+booked_job : (s : State) (row : SpecJob → Reply × State) (o : Option SpecJob)
+    → ((job : SpecJob) → o ≡ Some job → SameBooked s (row job)) → SameBooked s (on_job s o row)
 booked_job s row None h = refl
 booked_job s row (Some job) h = h job refl
 
@@ -131,7 +131,7 @@ booked_channel : (s : State) (row : Channel → Reply × State) (o : Option Chan
 booked_channel s row None h = refl
 booked_channel s row (Some c) h = h c refl
 
-in_sides : (job : Job) (ch : ℕ) (c : Channel) (a : ℕ) → channel_at job ch ≡ Some c → SameSides (reads job ch c a).1 job
+in_sides : (job : SpecJob) (ch : ℕ) (c : Channel) (a : ℕ) → channel_at job ch ≡ Some c → SameSides (reads job ch c a).1 job
 in_sides job ch c a is =
     settled_by (λ r. SameSides r.1 job) (in_answer job c a) (in_done job ch c a) (stopped_in job ch c)
     (λ done. same_sides job (core_filled job c a (words_ahead c.input c.output)) ch c

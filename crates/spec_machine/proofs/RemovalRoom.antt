@@ -6,17 +6,17 @@ use Rattle.std.specs.Cmp.{nat_cmp_total}
 use Rattle.std.specs.FinMap.{nat_cmp-IsAntisymmetric}
 use Rattle.std.proofs.lemmas.Bool.{eqb-true, eq-eqb}
 use Rattle.spec_image.specs.Common.{FinMap, size, get, insert, remove, Files, Directory, Place, name_cmp}
-use Rattle.spec_image.specs.Common.{directory_cost, Version, file_at, with_file, with_file_in, without_file}
+use Rattle.spec_image.specs.Common.{directory_cost, SpecVersion, file_at, with_file, with_file_in, without_file}
 use Rattle.spec_image.specs.Common.{without_file_in, with_protection, Pack, growth, with_quota, files_limited}
 use Rattle.words36.specs.declared.names.FileName.{FileName}
-use Rattle.spec_machine.specs.Jobs.{Channel, Job, Output, State, channel_at, job_at}
+use Rattle.spec_machine.specs.Jobs.{Channel, SpecJob, SpecOutput, State, channel_at, job_at}
 use Rattle.spec_machine.specs.Room.{names_in, entry_count, pending_creations, directories_cost, distinct_cost}
-use Rattle.spec_machine.specs.Room.{current_versions, held_versions, booked, has_no_room}
+use Rattle.spec_machine.specs.Room.{current_versions, pinned_versions, booked, has_no_room}
 use Rattle.spec_machine.specs.Outcomes.{clean}
-use Rattle.spec_machine.specs.Looking.{place_at, has_no_directory}
-use Rattle.spec_machine.specs.Renaming.{deletes_at, protection_at, crowds, rename_answer, rename_done, files_moved}
-use Rattle.spec_machine.specs.Renaming.{files_from, files_renamed}
-use Rattle.spec_machine.specs.Making.{remove_answer, limit_answer, owner_at, quota_at}
+use Rattle.spec_machine.specs.Lookup.{place_at, has_no_directory}
+use Rattle.spec_machine.specs.Rename.{deletes_at, protection_at, crowds, rename_answer, rename_done, files_moved}
+use Rattle.spec_machine.specs.Rename.{files_from, files_renamed}
+use Rattle.spec_machine.specs.MakeDir.{remove_answer, limit_answer, owner_at, quota_at}
 use Rattle.spec_machine.specs.Sound.{IsSound}
 use Rattle.spec_machine.specs.declared.call.Reply.TheVariants.{Done}
 use Rattle.spec_image.proofs.Common.{get-insert_same, get-insert_other, insert_same, insert-insert_same}
@@ -31,10 +31,10 @@ use Rattle.spec_machine.proofs.BookingLaws.{sum_of, sum_channel, costs_kept}
 use Rattle.spec_machine.proofs.RoomLaws.{pending, creation, directory_cost_le, directories_changed, directories_more}
 use Rattle.spec_machine.proofs.RoomSteps.{Fine, was_there, fits, same_le}
 
-pub size-insert_le : (m : FinMap name_cmp Version) (k : FileName) (v : Version) → size (insert m k v) ≤ size m + 1
+pub size-insert_le : (m : FinMap name_cmp SpecVersion) (k : FileName) (v : SpecVersion) → size (insert m k v) ≤ size m + 1
 size-insert_le m k v = decide (get m k) refl
   where
-    decide : (o : Option Version) → get m k ≡ o → size (insert m k v) ≤ size m + 1
+    decide : (o : Option SpecVersion) → get m k ≡ o → size (insert m k v) ≤ size m + 1
     decide None e = let h = size-insert_new name_total name_exact m k v e in omega (arith, h)
     decide (Some w) e = let h = size-insert_over name_total name_exact m k v w e in omega (arith, h)
 
@@ -53,21 +53,21 @@ split_crowds false false false e f = inr refl
 pub grows_by_one : (n : ℕ) → growth n ≤ 1
 grows_by_one n = omega arith
 
-module _ (pack : Pack) (s : State) (sound : IsSound s) (n : ℕ) (job : Job) (there : job_at s n
+module _ (pack : Pack) (s : State) (sound : IsSound s) (n : ℕ) (job : SpecJob) (there : job_at s n
     ≡ Some job) (ch : ℕ) (c : Channel) (is : channel_at job ch ≡ Some c) where
   -- the state with these files
-  abbrev pub with_files : Files Version → State
+  abbrev pub with_files : Files SpecVersion → State
   with_files files = record s { files = files; jobs = slice_set s.jobs n (Some (rename_done job ch c)) }
 
-  pub sums_stay : (f : Output → ℕ) (files : Files Version) → sum_of f (with_files files) ≡ sum_of f s
+  pub sums_stay : (f : SpecOutput → ℕ) (files : Files SpecVersion) → sum_of f (with_files files) ≡ sum_of f s
   sums_stay f files =
       let h = sum_channel f s files n job job.core ch c (Some (record (clean c) { input = None })) there is in
       omega (arith, h)
 
-  module _ (old : Place) (d : Directory Version) (w : Version) (at : get s.files old.ppn ≡ Some d)
+  module _ (old : Place) (d : Directory SpecVersion) (w : SpecVersion) (at : get s.files old.ppn ≡ Some d)
       (here : get d.files old.name ≡ Some w) where
     -- the old place's directory without the file
-    abbrev thinner : Directory Version
+    abbrev thinner : Directory SpecVersion
     thinner = record d { files = remove d.files old.name }
 
     files_without : without_file s.files old ≡ insert s.files old.ppn thinner
@@ -83,8 +83,8 @@ module _ (pack : Pack) (s : State) (sound : IsSound s) (n : ℕ) (job : Job) (th
         directories_changed s (with_files (without_file s.files old)) old.ppn d thinner at files_without
         (omega (arith, z, p)) (λ ppn differs. same_le (sums_stay (creation ppn) (without_file s.files old)))
 
-    module _ (new : Place) (v : Version) where
-      abbrev moved : Files Version
+    module _ (new : Place) (v : SpecVersion) where
+      abbrev moved : Files SpecVersion
       moved = with_file (without_file s.files old) new v
 
       there_after : get (without_file s.files old) old.ppn ≡ Some thinner
@@ -93,7 +93,7 @@ module _ (pack : Pack) (s : State) (sound : IsSound s) (n : ℕ) (job : Job) (th
       -- within a directory
       within_le : new.ppn ≡ old.ppn → directories_cost (with_files moved) ≤ directories_cost s
       within_le same =
-          let both : Directory Version = record thinner { files = insert thinner.files new.name v } in
+          let both : Directory SpecVersion = record thinner { files = insert thinner.files new.name v } in
           let files : moved ≡ insert s.files old.ppn both =
           ap (λ q. with_file_in q (without_file s.files old) new v) (ap (get (without_file s.files old)) same
           ∙ there_after)
@@ -107,11 +107,11 @@ module _ (pack : Pack) (s : State) (sound : IsSound s) (n : ℕ) (job : Job) (th
           (λ ppn differs. same_le (sums_stay (creation ppn) moved))
 
       -- into another one
-      across_le : new.ppn ≢ old.ppn → (t : Directory Version) → get s.files new.ppn ≡ Some t
+      across_le : new.ppn ≢ old.ppn → (t : Directory SpecVersion) → get s.files new.ppn ≡ Some t
           → directories_cost (with_files moved) ≤ directories_cost s + growth (entry_count s new.ppn)
       across_le other t is_there =
           let s1 = with_files (without_file s.files old) in
-          let both : Directory Version = record t { files = insert t.files new.name v } in
+          let both : Directory SpecVersion = record t { files = insert t.files new.name v } in
           let now : get (without_file s.files old) new.ppn ≡ Some t =
           ap (λ fs. get fs new.ppn) files_without
           ∙ get-insert_other nat_cmp_total nat_cmp-IsAntisymmetric s.files old.ppn thinner new.ppn other ∙ is_there in
@@ -127,7 +127,7 @@ module _ (pack : Pack) (s : State) (sound : IsSound s) (n : ℕ) (job : Job) (th
           omega (arith, m, count, r)
 
   -- what is booked besides directories doesn't rise
-  booked_by : (files : Files Version) (more : ℕ) → ((v : Version) → Goes s (with_files files) v n ch)
+  booked_by : (files : Files SpecVersion) (more : ℕ) → ((v : SpecVersion) → Goes s (with_files files) v n ch)
       → directories_cost (with_files files) ≤ directories_cost s + more → booked (with_files files) ≤ booked s + more
   booked_by files more goes dirs =
       let costs = costs_kept s (with_files files) sound (was_there s (with_files files) n ch goes) in
@@ -135,8 +135,8 @@ module _ (pack : Pack) (s : State) (sound : IsSound s) (n : ℕ) (job : Job) (th
       omega (arith, dirs, costs, pend)
 
   moved_fine : (old new : Place) (protection : ℕ) → has_no_directory s old ≡ false → has_no_directory s new ≡ false
-      → crowds pack s old new ≡ false → (found : Option Version) → file_at s.files old ≡ found
-      → ((v : Version) → Goes s (with_files (files_moved s.files old new protection found)) v n ch)
+      → crowds pack s old new ≡ false → (found : Option SpecVersion) → file_at s.files old ≡ found
+      → ((v : SpecVersion) → Goes s (with_files (files_moved s.files old new protection found)) v n ch)
       → Fine pack s (with_files (files_moved s.files old new protection found))
   moved_fine old new protection housed to_house room None at goes = inl (let b = booked_by s.files 0 goes (same_dirs) in
       omega (arith, b))
@@ -153,10 +153,10 @@ module _ (pack : Pack) (s : State) (sound : IsSound s) (n : ℕ) (job : Job) (th
       let d = directory_of_file s.files old w at in
       decide d.0 d.1 d.2 (new.ppn == old.ppn) refl
     where
-      v : Version
+      v : SpecVersion
       v = with_protection w protection
 
-      decide : (d : Directory Version) → get s.files old.ppn ≡ Some d → get d.files old.name ≡ Some w → (b : Bool)
+      decide : (d : Directory SpecVersion) → get s.files old.ppn ≡ Some d → get d.files old.name ≡ Some w → (b : Bool)
           → (new.ppn == old.ppn) ≡ b → Fine pack s (with_files (files_moved s.files old new protection (Some w)))
       decide d is here true e = inl (let l = within_le old d w is here new (with_protection w protection)
           (eqb-true new.ppn old.ppn e) in
@@ -173,8 +173,8 @@ module _ (pack : Pack) (s : State) (sound : IsSound s) (n : ℕ) (job : Job) (th
           (λ full. let f = fits pack s 1 full in inr (omega (arith, b, one, f)))
           (split_crowds (new.ppn == old.ppn) (growth (entry_count s new.ppn) == 0) (has_no_room pack s) room e)
 
-  deleted_fine : (old : Place) → (found : Option Version) → file_at s.files old ≡ found → is_none found ≡ false
-      → ((v : Version) → Goes s (with_files (without_file s.files old)) v n ch)
+  deleted_fine : (old : Place) → (found : Option SpecVersion) → file_at s.files old ≡ found → is_none found ≡ false
+      → ((v : SpecVersion) → Goes s (with_files (without_file s.files old)) v n ch)
       → Fine pack s (with_files (without_file s.files old))
   deleted_fine old None at there goes = let wrong = there in cc
   deleted_fine old (Some w) at there goes =
@@ -183,7 +183,7 @@ module _ (pack : Pack) (s : State) (sound : IsSound s) (n : ℕ) (job : Job) (th
       let b = booked_by (without_file s.files old) 0 goes (omega (arith, l)) in
       inl (omega (arith, b))
 
-  abbrev either : ℕ → Place → Bool → Files Version
+  abbrev either : ℕ → Place → Bool → Files SpecVersion
   either e old deletes = if deletes then without_file s.files old
       else files_moved s.files old (place_at job e) (protection_at job e) (file_at s.files old)
 
@@ -191,14 +191,14 @@ module _ (pack : Pack) (s : State) (sound : IsSound s) (n : ℕ) (job : Job) (th
       → Fine pack s (with_files (files_renamed s.files job e c.input))
   fine_rename e done =
       let needs = rename_needs pack s job c e done in
-      let goes : (v : Version) → Goes s (with_files (files_from s.files job e needs.side.place)) v n ch =
+      let goes : (v : SpecVersion) → Goes s (with_files (files_from s.files job e needs.side.place)) v n ch =
       λ v. subst (λ i. Goes s (with_files (files_renamed s.files job e i)) v n ch) needs.side_is
       (renamed_goes pack s n job there ch c is v e done) in
       subst (λ i. Fine pack s (with_files (files_renamed s.files job e i))) (sym needs.side_is)
       (by_kind needs (deletes_at job e) refl goes)
     where
       by_kind : (needs : Renames pack s job c e) (deletes : Bool) → deletes_at job e ≡ deletes
-          → ((v : Version) → Goes s (with_files (either e needs.side.place deletes)) v n ch)
+          → ((v : SpecVersion) → Goes s (with_files (either e needs.side.place deletes)) v n ch)
           → Fine pack s (with_files (either e needs.side.place deletes))
       by_kind needs true k goes = deleted_fine needs.side.place (file_at s.files needs.side.place) refl
           needs.present goes
@@ -209,7 +209,7 @@ module _ (pack : Pack) (s : State) (sound : IsSound s) (n : ℕ) (job : Job) (th
 
 -- DeleteDir.
 
-pub fine_remove : (s : State) → IsSound s → (n : ℕ) (job : Job) → job_at s n ≡ Some job → (e : ℕ)
+pub fine_remove : (s : State) → IsSound s → (n : ℕ) (job : SpecJob) → job_at s n ≡ Some job → (e : ℕ)
     → remove_answer s job e (owner_at job e) ≡ Done
     → booked (record s { files = remove s.files (owner_at job e); jobs = slice_set s.jobs n (Some job) }) ≤ booked s
 fine_remove s sound n job there e done =
@@ -225,13 +225,13 @@ fine_remove s sound n job there e done =
     let z = size-remove nat_cmp_total nat_cmp-IsAntisymmetric s.files owner d.0 d.1 in
     let m = directory_cost_le (size (remove s.files owner)) (size s.files) (omega (arith, z)) in
     let dirs : directories_cost s1 ≤ directories_cost s = omega (arith, a, m) in
-    let costs1 = subst (λ t. distinct_cost (current_versions t ++ held_versions t) ≤ distinct_cost
-    (current_versions s ++ held_versions s)) back costs in
+    let costs1 = subst (λ t. distinct_cost (current_versions t ++ pinned_versions t) ≤ distinct_cost
+    (current_versions s ++ pinned_versions s)) back costs in
     subst (λ t. booked t ≤ booked s) (sym back) (omega (arith, dirs, costs1))
 
 -- Quota.
 
-pub fine_limit : (pack : Pack) (s : State) → IsSound s → (n : ℕ) (job : Job) → job_at s n ≡ Some job → (e : ℕ)
+pub fine_limit : (pack : Pack) (s : State) → IsSound s → (n : ℕ) (job : SpecJob) → job_at s n ≡ Some job → (e : ℕ)
     → limit_answer pack s job e (owner_at job e) ≡ Done
     → booked (record s {
       files = files_limited s.files (owner_at job e) (quota_at job e);
@@ -249,6 +249,6 @@ fine_limit pack s sound n job there e done =
     let costs = costs_kept s s' sound (was_there s s' n 0 (λ v. limited_goes s n job there v e)) in
     let dirs = directories_changed s s1 owner d.0 (record d.0 { quota = quota_at job e }) d.1
     (ap (with_quota s.files owner (quota_at job e)) d.1) (same_le refl) (λ ppn differs. same_le refl) in
-    let costs1 = subst (λ t. distinct_cost (current_versions t ++ held_versions t) ≤ distinct_cost
-    (current_versions s ++ held_versions s)) back costs in
+    let costs1 = subst (λ t. distinct_cost (current_versions t ++ pinned_versions t) ≤ distinct_cost
+    (current_versions s ++ pinned_versions s)) back costs in
     subst (λ t. booked t ≤ booked s) (sym back) (omega (arith, dirs, costs1))

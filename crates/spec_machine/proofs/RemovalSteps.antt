@@ -1,22 +1,23 @@
--- RENAME and DeleteDir go on to sound states.
+-- RENAME and DeleteDir lead to sound states.
 use Rattle.std.proofs.Common.{◌≡◌, ◌≢◌, ℕ, ◌+◌, Bool, true, false, if◌then◌else◌, not, List, [], ◌∷◌, Option, Some}
 use Rattle.std.proofs.Common.{None, refl, sym, ap, subst, ◌∙◌, inl, inr, ⊎_elim, arith}
 use Rattle.std.specs.List.{AllByRecursion}
 use Rattle.std.specs.Prelude.{◌==◌, ◌&&◌, slice_set, is_some, is_none, IsSome, ◌||◌}
 use Rattle.std.proofs.lemmas.Bool.{eqb-true, eq-eqb}
-use Rattle.spec_image.specs.Common.{get, remove, size, total, Directory, Files, Place, name_cmp, Version, same_place}
+use Rattle.spec_image.specs.Common.{get, remove, size, total, Directory, Files, Place, name_cmp, SpecVersion}
+use Rattle.spec_image.specs.Common.{same_place}
 use Rattle.spec_image.specs.Common.{file_at, without_file, with_protection, Pack, files_limited}
 use Rattle.spec_machine.specs.Rights.{may_look, may_create}
 use Rattle.spec_machine.specs.Cores.{lies_outside}
-use Rattle.spec_machine.specs.Jobs.{Channel, Job, Input, Output, State, is_create, channel_at, job_at}
+use Rattle.spec_machine.specs.Jobs.{Channel, SpecJob, SpecInput, SpecOutput, State, is_create, channel_at, job_at}
 use Rattle.spec_machine.specs.Room.{output_of, version_of, outputs, is_claimed, names_in, entry_count}
 use Rattle.spec_machine.specs.Room.{pending_creations}
 use Rattle.spec_machine.specs.Outcomes.{clean}
-use Rattle.spec_machine.specs.Looking.{place_at, has_no_directory, is_absent, directory_digit_at}
-use Rattle.spec_machine.specs.Renaming.{deletes_at, protection_at, is_forbidden, crowds, overfills, move_answer}
-use Rattle.spec_machine.specs.Renaming.{rename_from, rename_sides, rename_answer, files_moved, files_from}
-use Rattle.spec_machine.specs.Renaming.{files_renamed, rename_done}
-use Rattle.spec_machine.specs.Making.{remove_answer, owner_at, may_not_remove, limit_answer, quota_at}
+use Rattle.spec_machine.specs.Lookup.{place_at, has_no_directory, is_absent, directory_digit_at}
+use Rattle.spec_machine.specs.Rename.{deletes_at, protection_at, is_forbidden, crowds, overfills, move_answer}
+use Rattle.spec_machine.specs.Rename.{rename_from, rename_sides, rename_answer, files_moved, files_from}
+use Rattle.spec_machine.specs.Rename.{files_renamed, rename_done}
+use Rattle.spec_machine.specs.MakeDir.{remove_answer, owner_at, may_not_remove, limit_answer, quota_at}
 use Rattle.spec_machine.specs.Sound.{output_for, writes_at, version_for, Exists, IsSound}
 use Rattle.spec_machine.specs.declared.call.Reply.{Reply}
 use Rattle.spec_machine.specs.declared.call.Reply.TheVariants.{Done, Refused, AddressCheck}
@@ -30,9 +31,9 @@ use Rattle.spec_machine.proofs.SideLaws.{unclaimed, output_of_all, or_false}
 use Rattle.spec_machine.proofs.SoundLaws.{Goes, Known, known, OldSide, goes_kept}
 use Rattle.spec_machine.proofs.RoomLaws.{creation}
 
--- What RENAME has seen where it is done.
+-- What RENAME has seen if it is done.
 
-pub move_needs : (pack : Pack) (s : State) (job : Job) (old new : Place) → move_answer pack s job old new ≡ Done
+pub move_needs : (pack : Pack) (s : State) (job : SpecJob) (old new : Place) → move_answer pack s job old new ≡ Done
     → (has_no_directory s new ≡ false) × (crowds pack s old new ≡ false) × (overfills s old new ≡ false)
 move_needs pack s job old new done =
     let a = passed_test (has_no_directory s new) (Refused 1) _ (λ x. cc) done in
@@ -44,8 +45,8 @@ move_needs pack s job old new done =
     let both = or_false (crowds pack s old new) (overfills s old new) g.0 in
     (a.0, both.0, both.1)
 
-pub record Renames (pack : Pack) (s : State) (job : Job) (c : Channel) (e : ℕ) : Type 0 where
-  pub side : Input
+pub record Renames (pack : Pack) (s : State) (job : SpecJob) (c : Channel) (e : ℕ) : Type 0 where
+  pub side : SpecInput
   pub side_is : c.input ≡ Some side
   pub writes_nothing : c.output ≡ None
   pub housed : has_no_directory s side.place ≡ false
@@ -53,12 +54,12 @@ pub record Renames (pack : Pack) (s : State) (job : Job) (c : Channel) (e : ℕ)
   pub free : is_claimed s side.place ≡ false
   pub moves : deletes_at job e ≡ false → move_answer pack s job side.place (place_at job e) ≡ Done
 
-module _ (pack : Pack) (s : State) (job : Job) (c : Channel) (e : ℕ) where
+module _ (pack : Pack) (s : State) (job : SpecJob) (c : Channel) (e : ℕ) where
   rename_else : (b : Bool) (rest : Reply) → (if b then Done else rest) ≡ Done → b ≡ false → rest ≡ Done
   rename_else true rest h f = let wrong = f in cc
   rename_else false rest h f = h
 
-  by_side : (i : Input) → c.input ≡ Some i → c.output ≡ None → rename_from pack s job e i.place ≡ Done
+  by_side : (i : SpecInput) → c.input ≡ Some i → c.output ≡ None → rename_from pack s job e i.place ≡ Done
       → Renames pack s job c e
   by_side i side none done =
       let a = passed_test (has_no_directory s i.place) (Refused 1) _ (λ x. cc) done in
@@ -76,7 +77,7 @@ module _ (pack : Pack) (s : State) (job : Job) (c : Channel) (e : ℕ) where
         moves = rename_else (deletes_at job e) _ g.1;
       }
 
-  by_sides : (input : Option Input) → c.input ≡ input → rename_sides pack s job e input c.output ≡ Done
+  by_sides : (input : Option SpecInput) → c.input ≡ input → rename_sides pack s job e input c.output ≡ Done
       → Renames pack s job c e
   by_sides None side done = let wrong = done in cc
   by_sides (Some i) side done = let a = passed_test (is_some c.output) (Refused 5) _ (λ x. cc) done in
@@ -88,8 +89,8 @@ module _ (pack : Pack) (s : State) (job : Job) (c : Channel) (e : ℕ) where
 -- The versions that a RENAME leaves, and the places.
 
 module _ (s : State) (old : Place) where
-  found_moved : (new : Place) (protection : ℕ) (found : Option Version) → file_at s.files old ≡ found
-      → (q : Place) (w : Version) → file_at (files_moved s.files old new protection found) q ≡ Some w → Known s w
+  found_moved : (new : Place) (protection : ℕ) (found : Option SpecVersion) → file_at s.files old ≡ found
+      → (q : Place) (w : SpecVersion) → file_at (files_moved s.files old new protection found) q ≡ Some w → Known s w
   found_moved new protection None at q w is = known s w (inl (q, is))
   found_moved new protection (Some v) at q w is =
       ⊎_elim (λ was. known s w (inl (q, found_without_file s.files old q w was)))
@@ -106,24 +107,24 @@ module _ (s : State) (old : Place) where
       ))
       (found_with_file (without_file s.files old) new (with_protection v protection) q w is)
 
-  stays_moved : (new : Place) (protection : ℕ) (found : Option Version) (q : Place) → same_place q old ≡ false
+  stays_moved : (new : Place) (protection : ℕ) (found : Option SpecVersion) (q : Place) → same_place q old ≡ false
       → IsSome (file_at s.files q) → IsSome (file_at (files_moved s.files old new protection found) q)
   stays_moved new protection None q apart is = is
   stays_moved new protection (Some v) q apart is = stays_with_file (without_file s.files old) new
       (with_protection v protection) q (stays_without_file s.files old q apart is)
 
-  keeps_moved : (new : Place) (protection : ℕ) (found : Option Version) (q : ℕ) → IsSome (get s.files q)
+  keeps_moved : (new : Place) (protection : ℕ) (found : Option SpecVersion) (q : ℕ) → IsSome (get s.files q)
       → IsSome (get (files_moved s.files old new protection found) q)
   keeps_moved new protection None q is = is
   keeps_moved new protection (Some v) q is = keeps_with_file (without_file s.files old) new
       (with_protection v protection) q (keeps_without_file s.files old q is)
 
   module _ (new : Place) (protection : ℕ) where
-    abbrev files_either : Bool → Files Version
+    abbrev files_either : Bool → Files SpecVersion
     files_either deletes = if deletes then without_file s.files old
         else files_moved s.files old new protection (file_at s.files old)
 
-    found_either : (deletes : Bool) (q : Place) (w : Version) → file_at (files_either deletes) q ≡ Some w → Known s w
+    found_either : (deletes : Bool) (q : Place) (w : SpecVersion) → file_at (files_either deletes) q ≡ Some w → Known s w
     found_either true q w is = known s w (inl (q, found_without_file s.files old q w is))
     found_either false q w is = found_moved new protection (file_at s.files old) refl q w is
 
@@ -136,22 +137,22 @@ module _ (s : State) (old : Place) where
     keeps_either true q is = keeps_without_file s.files old q is
     keeps_either false q is = keeps_moved new protection (file_at s.files old) q is
 
-module _ (pack : Pack) (s : State) (n : ℕ) (job : Job) (there : job_at s n ≡ Some job) (ch : ℕ) (c : Channel)
+module _ (pack : Pack) (s : State) (n : ℕ) (job : SpecJob) (there : job_at s n ≡ Some job) (ch : ℕ) (c : Channel)
     (is_open : channel_at job ch ≡ Some c) where
-  sides_kept : (k : ℕ) (o : Output) → output_of (channel_at (rename_done job ch c) k) ≡ Some o → OldSide s n k o
+  sides_kept : (k : ℕ) (o : SpecOutput) → output_of (channel_at (rename_done job ch c) k) ≡ Some o → OldSide s n k o
   sides_kept k o h = ⊎_elim
       (λ here. subst (λ q. OldSide s n q o) (sym here.1)
       (o, ap (output_for ch) there ∙ ap output_of is_open ∙ ap output_of (sym here.0) ∙ h, refl, refl))
       (λ other. (o, ap (output_for k) there ∙ ap output_of (sym other) ∙ h, refl, refl))
       (slot-set_cases job.channels ch k (Some (record (clean c) { input = None })))
 
-  versions_kept : (k : ℕ) (w : Version) → version_of (channel_at (rename_done job ch c) k) ≡ Some w → Exists s w
+  versions_kept : (k : ℕ) (w : SpecVersion) → version_of (channel_at (rename_done job ch c) k) ≡ Some w → Exists s w
   versions_kept k w h = ⊎_elim
       (λ here. let wrong = ap version_of (sym here.0) ∙ h in cc)
       (λ other. inr (n, k, ap (version_for k) there ∙ ap version_of (sym other) ∙ h))
       (slot-set_cases job.channels ch k (Some (record (clean c) { input = None })))
 
-  pub renamed_goes : (v : Version) (e : ℕ) → rename_answer pack s job c e ≡ Done
+  pub renamed_goes : (v : SpecVersion) (e : ℕ) → rename_answer pack s job c e ≡ Done
       → Goes s (record s {
         files = files_renamed s.files job e c.input;
         jobs = slice_set s.jobs n (Some (rename_done job ch c));
@@ -171,7 +172,7 @@ module _ (pack : Pack) (s : State) (n : ℕ) (job : Job) (there : job_at s n ≡
 
 -- DeleteDir.
 
-pub remove_needs : (s : State) (job : Job) (e owner : ℕ) → remove_answer s job e owner ≡ Done
+pub remove_needs : (s : State) (job : SpecJob) (e owner : ℕ) → remove_answer s job e owner ≡ Done
     → (is_none (get s.files owner) ≡ false) × (entry_count s owner ≡ 0)
 remove_needs s job e owner done =
     let a = passed_test (lies_outside job.core e 2) AddressCheck _ (λ x. cc) done in
@@ -195,7 +196,7 @@ each_zero f (x ∷ xs) e = (first (f x) (total f xs) e, each_zero f xs (second (
     second a b e = omega (arith, e)
 
 module _ (s : State) (sound : IsSound s) (owner : ℕ) (unused : entry_count s owner ≡ 0) where
-  no_names : (d : Directory Version) → get s.files owner ≡ Some d → size d.files ≡ 0
+  no_names : (d : Directory SpecVersion) → get s.files owner ≡ Some d → size d.files ≡ 0
   no_names d is = zero_of (size d.files) (pending_creations s owner)
       (sym (ap (λ q. names_in q + pending_creations s owner) is) ∙ unused)
     where
@@ -208,8 +209,8 @@ module _ (s : State) (sound : IsSound s) (owner : ℕ) (unused : entry_count s o
       zero_of : (a b : ℕ) → a + b ≡ 0 → b ≡ 0
       zero_of a b e = omega (arith, e)
 
-  -- no output side stands in it
-  elsewhere : (m k : ℕ) (o : Output) → writes_at s m k ≡ Some o → o.place.ppn ≢ owner
+  -- no output side is in it
+  elsewhere : (m k : ℕ) (o : SpecOutput) → writes_at s m k ≡ Some o → o.place.ppn ≢ owner
   elsewhere m k o h same = decide (is_create o.kind) refl
     where
       decide : (b : Bool) → is_create o.kind ≡ b → ⊥
@@ -225,10 +226,10 @@ module _ (s : State) (sound : IsSound s) (owner : ℕ) (unused : entry_count s o
           let there = some_is (file_at s.files o.place) (sound.present m k o h e) in
           let at = directory_of_file s.files o.place there.0 there.1 in
           let bare = empty_of_size at.0.files (no_names at.0 (ap (get s.files) (sym same) ∙ at.1)) in
-          let wrong : None ≡ Some there.0 = sym (get-empty name_cmp Version o.place.name)
+          let wrong : None ≡ Some there.0 = sym (get-empty name_cmp SpecVersion o.place.name)
           ∙ ap (λ m. get m o.place.name) (sym bare) ∙ at.2 in cc
 
-pub removed_goes : (s : State) → IsSound s → (n : ℕ) (job : Job) → job_at s n ≡ Some job → (v : Version) (e : ℕ)
+pub removed_goes : (s : State) → IsSound s → (n : ℕ) (job : SpecJob) → job_at s n ≡ Some job → (v : SpecVersion) (e : ℕ)
     → remove_answer s job e (owner_at job e) ≡ Done
     → Goes s (record s { files = remove s.files (owner_at job e); jobs = slice_set s.jobs n (Some job) }) v n 0
 removed_goes s sound n job there v e done =
@@ -242,14 +243,14 @@ removed_goes s sound n job there v e done =
 
 -- Quota.
 
-pub limit_needs : (pack : Pack) (s : State) (job : Job) (e owner : ℕ) → limit_answer pack s job e owner ≡ Done
+pub limit_needs : (pack : Pack) (s : State) (job : SpecJob) (e owner : ℕ) → limit_answer pack s job e owner ≡ Done
     → is_none (get s.files owner) ≡ false
 limit_needs pack s job e owner done =
     let a = passed_test (lies_outside job.core e 2) AddressCheck _ (λ x. cc) done in
     let b = passed_test (pack.layout == 1) (Refused 5) _ (λ x. cc) a.1 in
     (passed_test (is_none (get s.files owner)) (Refused 1) _ (λ x. cc) b.1).0
 
-pub limited_goes : (s : State) (n : ℕ) (job : Job) → job_at s n ≡ Some job → (v : Version) (e : ℕ)
+pub limited_goes : (s : State) (n : ℕ) (job : SpecJob) → job_at s n ≡ Some job → (v : SpecVersion) (e : ℕ)
     → Goes s (record s {
       files = files_limited s.files (owner_at job e) (quota_at job e);
       jobs = slice_set s.jobs n (Some job);
@@ -260,5 +261,5 @@ limited_goes s n job there v e =
     (λ k o h. (o, ap (output_for k) there ∙ h, refl, refl))
     (λ k w h. inr (n, k, ap (version_for k) there ∙ h))
     (λ q w is. known s w (inl (q, sym (same q) ∙ is)))
-    (λ m k o h is. subst (λ (w : Option Version). IsSome w) (sym (same o.place)) is)
+    (λ m k o h is. subst (λ (w : Option SpecVersion). IsSome w) (sym (same o.place)) is)
     (λ m k o h is. keeps_limited s.files (owner_at job e) (quota_at job e) o.place.ppn is)

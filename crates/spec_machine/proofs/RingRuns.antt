@@ -64,7 +64,7 @@ pub record Fresh (core : List ℕ) : Type 0 where
   pub head : slice_index core header ≡ join 0o400000 buffer
   pub link : slice_index core buffer ≡ join 0o201 buffer
 
--- it is in use, and so many words are announced
+-- it is in use, and `count` words are announced
 pub record Ring (count : ℕ) (core : List ℕ) : Type 0 where
   pub head : slice_index core header ≡ buffer
   pub end : right (slice_index core (header + 1)) ≡ buffer + 1 + count

@@ -4,20 +4,20 @@ use Rattle.std.proofs.Common.{None, refl, sym, ap, subst, ◌∙◌, ◌⊎◌, 
 use Rattle.std.proofs.Math.IntN.{+ℤ-neg_ℤ_cancel}
 use Rattle.std.specs.Prelude.{pos, ◌-ℤ◌, ◌<◌, slice_set, slice_index, nat_lt, nat_le}
 use Rattle.words36.specs.declared.moment.Moment.{Moment}
-use Rattle.spec_image.specs.Common.{insert, remove, Files, Version, Pack, files_limited}
-use Rattle.spec_machine.specs.Jobs.{Channel, Job, State, channel_at, job_at, with_channel}
+use Rattle.spec_image.specs.Common.{insert, remove, Files, SpecVersion, Pack, files_limited}
+use Rattle.spec_machine.specs.Jobs.{Channel, SpecJob, State, channel_at, job_at, with_channel}
 use Rattle.spec_machine.specs.Room.{booked, space, room}
 use Rattle.spec_machine.specs.Runs.{IsFresh}
 use Rattle.spec_machine.specs.Sound.{IsSound}
 use Rattle.spec_machine.specs.Outcomes.{stopped_in, refused_at}
-use Rattle.spec_machine.specs.Opening.{opens}
-use Rattle.spec_machine.specs.Looking.{place_at}
-use Rattle.spec_machine.specs.Entering.{enter_answer, enter_done}
+use Rattle.spec_machine.specs.Open.{opens}
+use Rattle.spec_machine.specs.Lookup.{place_at}
+use Rattle.spec_machine.specs.Enter.{enter_answer, enter_done}
 use Rattle.spec_machine.specs.Outputs.{out_answer, out_done}
-use Rattle.spec_machine.specs.Closing.{close_answer, close_done, core_closed, files_closed, closes, releases}
-use Rattle.spec_machine.specs.Renaming.{renames, rename_answer, rename_done, files_renamed}
-use Rattle.spec_machine.specs.Making.{makes, make_answer, removes, remove_answer, owner_at, directory_made, limits}
-use Rattle.spec_machine.specs.Making.{limit_answer, quota_at}
+use Rattle.spec_machine.specs.Close.{close_answer, close_done, core_closed, files_closed, closes, releases}
+use Rattle.spec_machine.specs.Rename.{renames, rename_answer, rename_done, files_renamed}
+use Rattle.spec_machine.specs.MakeDir.{makes, make_answer, removes, remove_answer, owner_at, directory_made, limits}
+use Rattle.spec_machine.specs.MakeDir.{limit_answer, quota_at}
 use Rattle.spec_machine.specs.Sessions.{login_answer, deposit_answer, deposit_done, examine_answer}
 use Rattle.spec_machine.specs.Step.{step, last_date, on_job, on_channel, of_job, of_files, call_of}
 use Rattle.spec_machine.specs.declared.call.Call.{Call}
@@ -34,7 +34,7 @@ use Rattle.spec_machine.proofs.SlotLaws.{set-slot}
 use Rattle.spec_machine.proofs.SoundSteps.{make_needs}
 use Rattle.spec_machine.proofs.RoomSteps.{Fine, same_le, fine_row, fine_open, fine_lookup, fine_in, fine_useti}
 use Rattle.spec_machine.proofs.RoomSteps.{fine_useto, fine_out, fine_enter, fine_ring, fine_closed, made_fine}
-use Rattle.spec_machine.proofs.ClosingRoom.{fine_close, fine_release}
+use Rattle.spec_machine.proofs.CloseRoom.{fine_close, fine_release}
 use Rattle.spec_machine.proofs.RemovalRoom.{fine_rename, fine_remove, fine_limit}
 
 abbrev FineEvent : Pack → State → Reply × State → Type 0
@@ -45,8 +45,8 @@ channel_event : (pack : Pack) (s : State) (row : Channel → Reply × State) (o 
 channel_event pack s row None h done = let wrong = done in cc
 channel_event pack s row (Some c) h done = h c refl done
 
-job_event : (pack : Pack) (s : State) (row : Job → Reply × State) (o : Option Job)
-    → ((job : Job) → o ≡ Some job → FineEvent pack s (row job)) → FineEvent pack s (on_job s o row)
+job_event : (pack : Pack) (s : State) (row : SpecJob → Reply × State) (o : Option SpecJob)
+    → ((job : SpecJob) → o ≡ Some job → FineEvent pack s (row job)) → FineEvent pack s (on_job s o row)
 job_event pack s row None h done = let wrong = done in cc
 job_event pack s row (Some job) h done = h job refl done
 
@@ -56,13 +56,13 @@ timely_event pack s true r h done = let wrong = done in cc
 timely_event pack s false r h done = h done
 
 module _ (pack : Pack) (serial : ℕ) (s : State) (fresh : IsFresh s serial) (sound : IsSound s) (n : ℕ)
-    (job : Job) (there : job_at s n ≡ Some job) where
+    (job : SpecJob) (there : job_at s n ≡ Some job) where
   open_event : (ch a : ℕ) (b : Bool) → FineEvent pack s (if b then of_job s n (opens job ch a) else (NoChannel, s))
   open_event ch a true done = fine_open pack s sound n job there ch a done
   open_event ch a false done = let wrong = done in cc
 
-  -- a directory is made, and the job is as it was
-  made_state : (files : Files Version)
+  -- a directory is made, and the job is unchanged
+  made_state : (files : Files SpecVersion)
       → record s { files = files } ≡ record s { files = files; jobs = slice_set s.jobs n (Some job) }
   made_state files = ap (λ jobs. record s { files = files; jobs = jobs }) (sym (set-slot s.jobs n job there))
 
@@ -139,7 +139,7 @@ module _ (pack : Pack) (serial : ℕ) (s : State) (fresh : IsFresh s serial) (so
   call_event (DeleteDir e) moment = remove_event e
   call_event (Quota e) moment = limit_event e
 
-pub examined : (job : Job) (address : ℕ) → examine_answer job address ≢ Done
+pub examined : (job : SpecJob) (address : ℕ) → examine_answer job address ≢ Done
 examined job address = decide (nat_lt address (length job.core))
   where
     decide : (b : Bool) → (if b then Value (slice_index job.core address) else AddressCheck) ≢ Done
@@ -176,7 +176,7 @@ room_is : (a c : ℕ) → c ≤ a → pos a -ℤ pos c ≡ pos (a - c)
 room_is a c h = let e : a ≡ (a - c) + c = omega (arith, h) in ap (λ k. pos k -ℤ pos c) e
     ∙ +ℤ-neg_ℤ_cancel (pos (a - c)) (pos c)
 
--- The same of the room: where it falls it is a natural number.
+-- The same for the room: if it falls, it is a natural number.
 pub room_stays : (pack : Pack) (serial : ℕ) (s : State) (event : Event) → IsFresh s serial → IsSound s
     → (step pack serial s event).0 ≡ Done
     → booked s < booked (step pack serial s event).1 → (k : ℕ) × (room pack (step pack serial s event).1 ≡ pos k)

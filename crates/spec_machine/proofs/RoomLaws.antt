@@ -4,17 +4,17 @@ use Rattle.std.specs.Prelude.{◌==◌, ◌&&◌}
 use Rattle.std.specs.Cmp.{nat_cmp_total}
 use Rattle.std.specs.FinMap.{nat_cmp-IsAntisymmetric}
 use Rattle.spec_image.specs.Common.{size, sum_entries, get, insert, remove, Files, Directory, version_cost}
-use Rattle.spec_image.specs.Common.{directory_cost, Version, growth}
-use Rattle.spec_machine.specs.Jobs.{Output, State, is_create}
+use Rattle.spec_image.specs.Common.{directory_cost, SpecVersion, growth}
+use Rattle.spec_machine.specs.Jobs.{SpecOutput, State, is_create}
 use Rattle.spec_machine.specs.Room.{pending_creations, directories_cost}
 use Rattle.spec_image.proofs.Common.{get-remove_is, get-insert_same, remove-insert_same, sum_entries_le}
 use Rattle.spec_image.proofs.Common.{sum_entries-remove, size-insert_over}
 
 -- the two sums: what is pending, and what is being created in a directory
-abbrev pub pending : Output → ℕ
+abbrev pub pending : SpecOutput → ℕ
 pending o = version_cost (length o.pending.body)
 
-abbrev pub creation : ℕ → Output → ℕ
+abbrev pub creation : ℕ → SpecOutput → ℕ
 creation ppn o = if is_create o.kind && (o.place.ppn == ppn) then 1 else 0
 
 pub directory_cost_le : (a b : ℕ) → a ≤ b → directory_cost a ≤ directory_cost b
@@ -23,7 +23,7 @@ directory_cost_le a b h = omega (arith, h)
 -- Directories.
 
 -- what a directory costs
-abbrev one_directory : State → ℕ → Directory Version → ℕ
+abbrev one_directory : State → ℕ → Directory SpecVersion → ℕ
 one_directory s ppn d = directory_cost (size d.files + pending_creations s ppn)
 
 module _ (s s' : State) where
@@ -38,7 +38,7 @@ module _ (s s' : State) where
       (sym same) (omega (arith, a))
 
   -- all other directories
-  others_le : (files : Files Version) (k : ℕ)
+  others_le : (files : Files SpecVersion) (k : ℕ)
       → ((ppn : ℕ) → ppn ≢ k → pending_creations s' ppn ≤ pending_creations s ppn)
       → sum_entries (one_directory s') (remove files k) ≤ sum_entries (one_directory s) (remove files k)
   others_le files k few =
@@ -54,8 +54,8 @@ module _ (s s' : State) where
   grows : (n c c' : ℕ) → c' ≤ c + 1 → directory_cost (n + c') ≤ directory_cost (n + c) + growth (n + c)
   grows n c c' h = omega (arith, h)
 
-  -- one creation more in a directory that is there
-  pub directories_grow : s'.files ≡ s.files → (k : ℕ) (d : Directory Version) → get s.files k ≡ Some d
+  -- one more creation in a directory that exists
+  pub directories_grow : s'.files ≡ s.files → (k : ℕ) (d : Directory SpecVersion) → get s.files k ≡ Some d
       → pending_creations s' k ≤ pending_creations s k + 1
       → ((ppn : ℕ) → ppn ≢ k → pending_creations s' ppn ≤ pending_creations s ppn)
       → directories_cost s' ≤ directories_cost s + growth (size d.files + pending_creations s k)
@@ -71,7 +71,7 @@ module _ (s s' : State) where
       ≤ directories_cost s + growth (size d.files + pending_creations s k)) (sym same) (omega (arith, all))
 
   -- a directory's files change, and it costs no more
-  pub directories_changed : (k : ℕ) (d new : Directory Version) → get s.files k ≡ Some d
+  pub directories_changed : (k : ℕ) (d new : Directory SpecVersion) → get s.files k ≡ Some d
       → s'.files ≡ insert s.files k new
       → size new.files + pending_creations s' k ≤ size d.files + pending_creations s k
       → ((ppn : ℕ) → ppn ≢ k → pending_creations s' ppn ≤ pending_creations s ppn)
@@ -93,8 +93,8 @@ module _ (s s' : State) where
   more : (a b : ℕ) → a ≤ b + 1 → directory_cost a ≤ directory_cost b + growth b
   more a b h = omega (arith, h)
 
-  -- a directory gets an entry more
-  pub directories_more : (k : ℕ) (d new : Directory Version) → get s.files k ≡ Some d → s'.files ≡ insert s.files k new
+  -- a directory gets one more entry
+  pub directories_more : (k : ℕ) (d new : Directory SpecVersion) → get s.files k ≡ Some d → s'.files ≡ insert s.files k new
       → size new.files + pending_creations s' k ≤ size d.files + pending_creations s k + 1
       → ((ppn : ℕ) → ppn ≢ k → pending_creations s' ppn ≤ pending_creations s ppn)
       → directories_cost s' ≤ directories_cost s + growth (size d.files + pending_creations s k)

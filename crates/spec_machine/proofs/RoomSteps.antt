@@ -8,21 +8,22 @@ use Rattle.std.proofs.lemmas.Bool.{eqb-true}
 use Rattle.std.proofs.lemmas.Bool.Decides.{nat_tests}
 use Rattle.words36.specs.declared.moment.Moment.{Moment}
 use Rattle.spec_image.specs.Common.{size, get, insert, empty, Directory, Place, name_cmp, version_cost}
-use Rattle.spec_image.specs.Common.{directory_cost, length_after, Version, file_at, Pack, growth}
+use Rattle.spec_image.specs.Common.{directory_cost, length_after, SpecVersion, file_at, Pack, growth}
 use Rattle.spec_machine.specs.Rights.{may_update}
-use Rattle.spec_machine.specs.Jobs.{Channel, Job, Input, Output, State, is_create, all_closed, channel_at, job_at}
+use Rattle.spec_machine.specs.Jobs.{Channel, SpecJob, SpecInput, SpecOutput, State, is_create, all_closed, channel_at}
+use Rattle.spec_machine.specs.Jobs.{job_at}
 use Rattle.spec_machine.specs.Jobs.{with_job, with_channel, block_too_large}
 use Rattle.spec_machine.specs.Room.{output_of, outputs, names_in, entry_count, pending_creations, booked, space}
 use Rattle.spec_machine.specs.Room.{exceeds_room, room}
 use Rattle.spec_machine.specs.Sound.{Exists, IsSound}
 use Rattle.spec_machine.specs.Outcomes.{settled, clean, reports, stopped_in, refused_at}
-use Rattle.spec_machine.specs.Opening.{opens, open_answer, open_done, core_opened, channel_opened, ring_answer}
-use Rattle.spec_machine.specs.Opening.{sets_up}
-use Rattle.spec_machine.specs.Looking.{lookup, lookup_answer, lookup_done, looked_up, place_at, has_no_directory}
-use Rattle.spec_machine.specs.Looking.{is_absent, digit_at, with_attributes}
-use Rattle.spec_machine.specs.Updating.{present_cost, output_updating, input_updating}
-use Rattle.spec_machine.specs.Entering.{enter_answer, enter_done, entered, begin_answer, create_answer}
-use Rattle.spec_machine.specs.Entering.{supersede_answer, output_opened}
+use Rattle.spec_machine.specs.Open.{opens, open_answer, open_done, core_opened, channel_opened, ring_answer}
+use Rattle.spec_machine.specs.Open.{sets_up}
+use Rattle.spec_machine.specs.Lookup.{lookup, lookup_answer, lookup_done, looked_up, place_at, has_no_directory}
+use Rattle.spec_machine.specs.Lookup.{is_absent, digit_at, with_attributes}
+use Rattle.spec_machine.specs.Update.{present_cost, output_updating, input_updating}
+use Rattle.spec_machine.specs.Enter.{enter_answer, enter_done, entered, begin_answer, create_answer}
+use Rattle.spec_machine.specs.Enter.{supersede_answer, output_opened}
 use Rattle.spec_machine.specs.Inputs.{lacks_header, reads, in_answer, in_done, useti, useti_answer, useti_done}
 use Rattle.spec_machine.specs.Outputs.{Outgoing, outgoing, put_on, put_done, output_at, out_answer, out_done}
 use Rattle.spec_machine.specs.Outputs.{put_answer, place_answer, finds_no_place, rise, is_before_end, longest, useto}
@@ -47,24 +48,24 @@ use Rattle.words36.proofs.OctetReaderLaws.{is_zero}
 abbrev pub Fine : Pack → State → State → Type 0
 Fine pack s s' = (booked s' ≤ booked s) ⊎ (booked s' ≤ space pack)
 
--- what is there after an event that goes on with any version was there before
-pub was_there : (s s' : State) (n ch : ℕ) → ((v : Version) → Goes s s' v n ch) → (w : Version) → Exists s' w → Known s w
+-- what is there after an event that continues with any version was there before
+pub was_there : (s s' : State) (n ch : ℕ) → ((v : SpecVersion) → Goes s s' v n ch) → (w : SpecVersion) → Exists s' w → Known s w
 was_there s s' n ch goes w there = ⊎_elim (λ was. was)
-    (λ is_zero. ⊎_elim (λ was. was) (λ one_is. let wrong : 0 ≡ 1 = ap (λ (u : Version). u.serial) (sym is_zero
+    (λ is_zero. ⊎_elim (λ was. was) (λ one_is. let wrong : 0 ≡ 1 = ap (λ (u : SpecVersion). u.serial) (sym is_zero
     ∙ one_is) in cc) ((goes (blank 1)).versions w there))
     ((goes (blank 0)).versions w there)
 
 -- the same files, no more pending and no more created, and no version that wasn't there
 pub lighter : (s s' : State) → IsSound s → s'.files ≡ s.files → sum_of pending s' ≤ sum_of pending s
     → ((ppn : ℕ) → sum_of (creation ppn) s' ≤ sum_of (creation ppn) s)
-    → ((w : Version) → Exists s' w → Known s w) → booked s' ≤ booked s
+    → ((w : SpecVersion) → Exists s' w → Known s w) → booked s' ≤ booked s
 lighter s s' sound same few less was =
     let a = directories_le s s' same less in
     let b = costs_kept s s' sound was in
     omega (arith, few, a, b)
 
 -- a job's new record, with no more pending and no more created
-lighter_job : (s : State) (n ch : ℕ) (new : Job) → IsSound s → ((v : Version) → GoodJob s v n ch new)
+lighter_job : (s : State) (n ch : ℕ) (new : SpecJob) → IsSound s → ((v : SpecVersion) → GoodJob s v n ch new)
     → sum_of pending (with_job s n new) ≤ sum_of pending s
     → ((ppn : ℕ) → sum_of (creation ppn) (with_job s n new) ≤ sum_of (creation ppn) s)
     → booked (with_job s n new) ≤ booked s
@@ -77,10 +78,10 @@ fits pack s more e = at_most (space pack) (booked s + more) e
     at_most : (a b : ℕ) → nat_lt a b ≡ false → b ≤ a
     at_most a b e = grind (arith, nat_tests)
 
--- the same, with so much more pending
+-- the same, with `more` more pending
 heavier : (s s' : State) (more : ℕ) → IsSound s → s'.files ≡ s.files → sum_of pending s' ≤ sum_of pending s + more
     → ((ppn : ℕ) → sum_of (creation ppn) s' ≤ sum_of (creation ppn) s)
-    → ((w : Version) → Exists s' w → Known s w) → booked s' ≤ booked s + more
+    → ((w : SpecVersion) → Exists s' w → Known s w) → booked s' ≤ booked s + more
 heavier s s' more sound same few less was =
     let a = directories_le s s' same less in
     let b = costs_kept s s' sound was in
@@ -102,7 +103,7 @@ same_le {a} {b} e = omega (arith, e)
 pub longer_none : (words block : ℕ) → length_after words block 0 ≡ words
 longer_none words block = refl
 
-pub at_output : (f : Output → ℕ) (o : Option Output) (k : ℕ) → ((o : Output) → f (record o { next = k }) ≡ f o)
+pub at_output : (f : SpecOutput → ℕ) (o : Option SpecOutput) (k : ℕ) → ((o : SpecOutput) → f (record o { next = k }) ≡ f o)
     → item f (output_at o k) ≡ item f o
 at_output f None k h = refl
 at_output f (Some o) k h = h o
@@ -110,24 +111,24 @@ at_output f (Some o) k h = h o
 abbrev pub one_if : Bool → ℕ
 one_if t = if t then 1 else 0
 
--- Rows of a job that is there.
+-- Rows of a job that exists.
 
-module _ (pack : Pack) (s : State) (sound : IsSound s) (n : ℕ) (job : Job) (there : job_at s n ≡ Some job) where
+module _ (pack : Pack) (s : State) (sound : IsSound s) (n : ℕ) (job : SpecJob) (there : job_at s n ≡ Some job) where
   -- a channel becomes another one, with no more on its output side
   pub channel_fine : (ch : ℕ) (c : Channel) (x : Option Channel) (core : List ℕ) → channel_at job ch ≡ Some c
       → item pending (output_of x) ≤ item pending c.output
       → ((ppn : ℕ) → item (creation ppn) (output_of x) ≤ item (creation ppn) c.output)
-      → ((v : Version) → GoodJob s v n ch (with_channel (record job { core = core }) ch x))
+      → ((v : SpecVersion) → GoodJob s v n ch (with_channel (record job { core = core }) ch x))
       → booked (with_job s n (with_channel (record job { core = core }) ch x)) ≤ booked s
   channel_fine ch c x core is few less good =
       lighter_job s n ch (with_channel (record job { core = core }) ch x) sound good
       (less_item _ _ _ _ (sum_channel pending s s.files n job core ch c x there is) few)
       (λ ppn. less_item _ _ _ _ (sum_channel (creation ppn) s s.files n job core ch c x there is) (less ppn))
 
-  abbrev pub FineRow : Reply × Job → Type 0
+  abbrev pub FineRow : Reply × SpecJob → Type 0
   FineRow r = r.0 ≡ Done → Fine pack s (with_job s n r.1)
 
-  pub fine_row : (reply : Reply) (done : Job) (other : Reply → Job) → (reply ≡ Done → Fine pack s (with_job s n done))
+  pub fine_row : (reply : Reply) (done : SpecJob) (other : Reply → SpecJob) → (reply ≡ Done → Fine pack s (with_job s n done))
       → FineRow (settled reply done other)
   fine_row reply done other h = settled_by (λ r. r.0 ≡ Done → Fine pack s (with_job s n r.1)) reply done other
       (λ is done. h is) (λ differs done. absurd (differs done))
@@ -146,7 +147,7 @@ module _ (pack : Pack) (s : State) (sound : IsSound s) (n : ℕ) (job : Job) (th
       (λ done. inl (channel_fine ch c (Some (clean c)) _ is (itself _) (λ ppn. itself _)
       (λ v. good_like s v n job there ch c (clean c) _ is (like_itself c.output) refl)))
 
-  fine_looked : (ch : ℕ) (c : Channel) (e : ℕ) (place : Place) (found : Option Version) → channel_at job ch ≡ Some c
+  fine_looked : (ch : ℕ) (c : Channel) (e : ℕ) (place : Place) (found : Option SpecVersion) → channel_at job ch ≡ Some c
       → file_at s.files place ≡ found
       → booked (with_job s n (looked_up pack job ch c e place found)) ≤ booked s
   fine_looked ch c e place None is at = subst (λ t. booked t ≤ booked s) (put_back s n job there) (itself (booked s))
@@ -177,15 +178,15 @@ module _ (pack : Pack) (s : State) (sound : IsSound s) (n : ℕ) (job : Job) (th
 
 -- OUT.
 
--- what an OUT has seen where it is done
-pub placed_needs : (pack : Pack) (s : State) (c : Channel) (o : Output) (words : List ℕ)
+-- what an OUT has seen if it is done
+pub placed_needs : (pack : Pack) (s : State) (c : Channel) (o : SpecOutput) (words : List ℕ)
     → place_answer pack s c o words ≡ Done → finds_no_place pack s o (length words) ≡ false
 placed_needs pack s c o words e = (passed_test (finds_no_place pack s o (length words)) (reports c block_too_large) Done
     (λ x. cc) e).0
 
-pub out_needs : (pack : Pack) (s : State) (c : Channel) (output : Option Output) (found : Option Outgoing)
+pub out_needs : (pack : Pack) (s : State) (c : Channel) (output : Option SpecOutput) (found : Option Outgoing)
     → put_answer pack s c output found ≡ Done
-    → (o : Output) × (output ≡ Some o) × (t : Outgoing) × (found ≡ Some t)
+    → (o : SpecOutput) × (output ≡ Some o) × (t : Outgoing) × (found ≡ Some t)
     × (finds_no_place pack s o (length t.words) ≡ false)
 out_needs pack s c None found e = let wrong = e in cc
 out_needs pack s c (Some o) None e = let a = passed_test (lacks_header c.mode c.output_header) (Refused 5) AddressCheck
@@ -205,7 +206,7 @@ pub up_to : (a b : ℕ) → b ≤ a + (b - a)
 up_to a b = omega arith
 
 -- words that find a place cost no more than before, or no more than there is room for
-pub put_fits : (pack : Pack) (s : State) (o : Output) (count now : ℕ) → finds_no_place pack s o count ≡ false
+pub put_fits : (pack : Pack) (s : State) (o : SpecOutput) (count now : ℕ) → finds_no_place pack s o count ≡ false
     → now ≤ booked s + (version_cost (length_after (length o.pending.body) o.next count) - pending o)
     → (now ≤ booked s) ⊎ (now ≤ space pack)
 put_fits pack s o count now place h =
@@ -217,10 +218,10 @@ put_fits pack s o count now place h =
     (split_test (count == 0) (nat_lt longest (length_after (length o.pending.body) o.next count))
     (exceeds_room pack s (rise o count)) (outgrows s o.place.ppn (rise o count)) (is_before_end o.kind o.next) place)
 
-module _ (pack : Pack) (s : State) (sound : IsSound s) (n : ℕ) (job : Job) (there : job_at s n
+module _ (pack : Pack) (s : State) (sound : IsSound s) (n : ℕ) (job : SpecJob) (there : job_at s n
     ≡ Some job) (ch : ℕ) (c : Channel) (is : channel_at job ch ≡ Some c) where
   -- with words put on its output side
-  put_heavier : (o : Output) (core words : List ℕ) → c.output ≡ Some o
+  put_heavier : (o : SpecOutput) (core words : List ℕ) → c.output ≡ Some o
       → booked (with_job s n (with_channel (record job { core = core }) ch
       (Some (record (clean c) { output = put_on c.output words }))))
       ≤ booked s + (version_cost (length_after (length o.pending.body) o.next (length words)) - pending o)
@@ -251,13 +252,13 @@ module _ (pack : Pack) (s : State) (sound : IsSound s) (n : ℕ) (job : Job) (th
 
   -- ENTER.
 
-  new_side : (e : ℕ) (moment : Moment) (place : Place) (digit : ℕ) (found : Option Version)
+  new_side : (e : ℕ) (moment : Moment) (place : Place) (digit : ℕ) (found : Option SpecVersion)
       → pending (output_opened job c e moment place digit None found) ≡ 1
   new_side e moment place digit None = refl
   new_side e moment place digit (Some v) = refl
 
   -- an update begins with the whole of its version, and creates no name
-  updating_cost : (place : Place) (digit : ℕ) (w : Version) → pending (output_updating digit place w)
+  updating_cost : (place : Place) (digit : ℕ) (w : SpecVersion) → pending (output_updating digit place w)
       ≡ version_cost (length w.file.body)
   updating_cost place digit w = decide (may_update digit) refl
     where
@@ -266,7 +267,7 @@ module _ (pack : Pack) (s : State) (sound : IsSound s) (n : ℕ) (job : Job) (th
       decide true e = rw e refl
       decide false e = rw e refl
 
-  updating_creates : (place : Place) (digit : ℕ) (w : Version) (ppn : ℕ)
+  updating_creates : (place : Place) (digit : ℕ) (w : SpecVersion) (ppn : ℕ)
       → creation ppn (output_updating digit place w) ≡ 0
   updating_creates place digit w ppn = decide (may_update digit) refl
     where
@@ -274,7 +275,7 @@ module _ (pack : Pack) (s : State) (sound : IsSound s) (n : ℕ) (job : Job) (th
       decide true e = rw e refl
       decide false e = rw e refl
 
-  pub entered_sum : (f : Output → ℕ) (core : List ℕ) (input : Option Input) (o : Output)
+  pub entered_sum : (f : SpecOutput → ℕ) (core : List ℕ) (input : Option SpecInput) (o : SpecOutput)
       → sum_of f (with_job s n (with_channel (record job { core = core }) ch
       (Some (record (clean c) { input = input; output = Some o })))) ≤ sum_of f s + f o
   entered_sum f core input o =
@@ -294,15 +295,15 @@ module _ (pack : Pack) (s : State) (sound : IsSound s) (n : ℕ) (job : Job) (th
   at_most_one false = omega arith
 
   -- a channel with the side that its ENTER opens
-  abbrev with_side : ℕ → Moment → Place → Option Input → Option Version → Job
+  abbrev with_side : ℕ → Moment → Place → Option SpecInput → Option SpecVersion → SpecJob
   with_side e moment place input found =
       entered pack job ch c e (input_updating input found)
       (output_opened job c e moment place (digit_at s job place) input found)
 
-  fine_entered : (e : ℕ) (moment : Moment) (place : Place) (input : Option Input) (found : Option Version)
+  fine_entered : (e : ℕ) (moment : Moment) (place : Place) (input : Option SpecInput) (found : Option SpecVersion)
       → file_at s.files place ≡ found → has_no_directory s place ≡ false
       → begin_answer pack s job input place ≡ Done
-      → ((v : Version) → GoodJob s v n ch (with_side e moment place input found))
+      → ((v : SpecVersion) → GoodJob s v n ch (with_side e moment place input found))
       → Fine pack s (with_job s n (with_side e moment place input found))
   fine_entered e moment place None None at housed done good =
       let o = output_opened job c e moment place (digit_at s job place) None None in
@@ -384,7 +385,7 @@ fine_closed s n ppn core sound =
 -- MakeDir.
 
 module _ (pack : Pack) (s : State) (sound : IsSound s) (owner protection : ℕ) (none : get s.files owner ≡ None) where
-  not_there : (o : Output) → IsSome (get s.files o.place.ppn) → creation owner o ≡ 0
+  not_there : (o : SpecOutput) → IsSome (get s.files o.place.ppn) → creation owner o ≡ 0
   not_there o there = decide (o.place.ppn == owner) refl
     where
       no_creation : (create : Bool) → one_if (create && false) ≡ 0
@@ -406,12 +407,12 @@ module _ (pack : Pack) (s : State) (sound : IsSound s) (owner protection : ℕ) 
       (record s { files = insert s.files owner (record { protection = protection; quota = 0; files = empty }) })
       ≤ space pack
   made_fine room =
-      let new : Directory Version = record { protection = protection; quota = 0; files = empty } in
+      let new : Directory SpecVersion = record { protection = protection; quota = 0; files = empty } in
       let s' : State = record s { files = insert s.files owner new } in
       let a = sum_entries-insert_new nat_cmp_total nat_cmp-IsAntisymmetric
       (λ ppn d. directory_cost (size d.files + pending_creations s ppn)) s.files owner new none in
       let b = size-insert_new nat_cmp_total nat_cmp-IsAntisymmetric s.files owner new none in
-      let z = size-empty name_cmp Version in
+      let z = size-empty name_cmp SpecVersion in
       let one : directory_cost (size new.files + pending_creations s owner)
       ≡ 1 = ap directory_cost (ap (λ k. k + pending_creations s owner) z ∙ ap (λ k. 0 + k) no_creations) in
       let master : directory_cost (size (insert s.files owner new))

@@ -1,5 +1,5 @@
 -- Rows that are computed: examples of the definitions.
-pub mod WritingRows
+pub mod WriteRows
 pub mod CallRows
 pub mod RightRows
 pub mod UpdateRows

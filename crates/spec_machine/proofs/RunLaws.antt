@@ -1,4 +1,4 @@
--- A run goes on by one event.
+-- A run continues by one event.
 use Rattle.std.proofs.Common.{List, [], ◌∷◌, ◌++◌, refl, subst}
 use Rattle.spec_image.specs.Common.{Pack}
 use Rattle.spec_machine.specs.Runs.{Service, Answers, AnswersAll}

@@ -3,13 +3,13 @@ use Rattle.std.proofs.Common.{◌≡◌, ℕ, Bool, true, false, if◌then◌els
 use Rattle.std.specs.Prelude.{nat_lt}
 use Rattle.std.specs.Cmp.{nat_cmp_total}
 use Rattle.std.specs.FinMap.{nat_cmp-IsAntisymmetric}
-use Rattle.spec_image.specs.Common.{get, insert, map_values, File, Files, Directory, Place, map_directory, Version}
+use Rattle.spec_image.specs.Common.{get, insert, map_values, File, Files, Directory, Place, map_directory, SpecVersion}
 use Rattle.spec_image.specs.Common.{without_serials, with_file_in, Pack}
 use Rattle.spec_machine.specs.Outcomes.{settled, stopped_in}
-use Rattle.spec_machine.specs.Closing.{published, publishes, files_with, files_closed, output_put, close_answer}
+use Rattle.spec_machine.specs.Close.{published, publishes, files_with, files_closed, output_put, close_answer}
 use Rattle.spec_machine.proofs.OutcomeLaws.{settled_both}
 use Rattle.words36.specs.declared.moment.Moment.{Moment}
-use Rattle.spec_machine.specs.Jobs.{Channel, Job, Output, State, channel_at, job_at}
+use Rattle.spec_machine.specs.Jobs.{Channel, SpecJob, SpecOutput, State, channel_at, job_at}
 use Rattle.spec_machine.specs.Step.{step, last_date, on_job, on_channel, of_files, call_of}
 use Rattle.spec_machine.specs.declared.call.Call.{Call}
 use Rattle.spec_machine.specs.declared.call.Call.TheVariants.{Open, Inbuf, Outbuf, Lookup, Enter, Rename, In, Out}
@@ -26,7 +26,7 @@ same_on_channel : (s : State) (row other : Channel → Reply × State) (o : Opti
 same_on_channel s row other None h = refl
 same_on_channel s row other (Some c) h = h c
 
-same_call : (pack : Pack) (a b : ℕ) (s : State) (n : ℕ) (job : Job) (call : Call) (moment : Moment)
+same_call : (pack : Pack) (a b : ℕ) (s : State) (n : ℕ) (job : SpecJob) (call : Call) (moment : Moment)
     → (call_of pack a s n job call moment).0 ≡ (call_of pack b s n job call moment).0
 same_call pack a b s n job (Open ch x) moment = refl
 same_call pack a b s n job (Inbuf ch k) moment = refl
@@ -48,7 +48,7 @@ same_call pack a b s n job (MakeDir e) moment = refl
 same_call pack a b s n job (DeleteDir e) moment = refl
 same_call pack a b s n job (Quota e) moment = refl
 
-same_job : (s : State) (row other : Job → Reply × State) (o : Option Job) → ((job : Job) → (row job).0 ≡ (other job).0)
+same_job : (s : State) (row other : SpecJob → Reply × State) (o : Option SpecJob) → ((job : SpecJob) → (row job).0 ≡ (other job).0)
     → (on_job s o row).0 ≡ (on_job s o other).0
 same_job s row other None h = refl
 same_job s row other (Some job) h = h job
@@ -68,19 +68,19 @@ same_reply pack a b s (Calls n call moment) =
 
 -- The files without serials.
 
-module _ (files : Files Version) (place : Place) (a b : Version) (same : a.file ≡ b.file) where
-  names_same : (d : Directory Version) → map_values (λ (v : Version). v.file) (insert d.files place.name a)
-      ≡ map_values (λ (v : Version). v.file) (insert d.files place.name b)
+module _ (files : Files SpecVersion) (place : Place) (a b : SpecVersion) (same : a.file ≡ b.file) where
+  names_same : (d : Directory SpecVersion) → map_values (λ (v : SpecVersion). v.file) (insert d.files place.name a)
+      ≡ map_values (λ (v : SpecVersion). v.file) (insert d.files place.name b)
   names_same d =
-      map_values-insert name_total name_exact (λ (v : Version). v.file) d.files place.name a
-      ∙ ap (insert (map_values (λ (v : Version). v.file) d.files) place.name) same
-      ∙ sym (map_values-insert name_total name_exact (λ (v : Version). v.file) d.files place.name b)
+      map_values-insert name_total name_exact (λ (v : SpecVersion). v.file) d.files place.name a
+      ∙ ap (insert (map_values (λ (v : SpecVersion). v.file) d.files) place.name) same
+      ∙ sym (map_values-insert name_total name_exact (λ (v : SpecVersion). v.file) d.files place.name b)
 
-  put_same_in : (o : Option (Directory Version)) → without_serials (with_file_in o files place a)
+  put_same_in : (o : Option (Directory SpecVersion)) → without_serials (with_file_in o files place a)
       ≡ without_serials (with_file_in o files place b)
   put_same_in None = refl
   put_same_in (Some d) =
-      let f : Directory Version → Directory File = map_directory (λ v. v.file) in
+      let f : Directory SpecVersion → Directory File = map_directory (λ v. v.file) in
       map_values-insert nat_cmp_total nat_cmp-IsAntisymmetric f files place.ppn
       (record d { files = insert d.files place.name a })
       ∙ ap (insert (map_values f files) place.ppn)
@@ -88,7 +88,7 @@ module _ (files : Files Version) (place : Place) (a b : Version) (same : a.file 
       ∙ sym (map_values-insert nat_cmp_total nat_cmp-IsAntisymmetric f files place.ppn
       (record d { files = insert d.files place.name b }))
 
-closed_same : (files : Files Version) (a b : ℕ) (is_published : Bool) (o : Option Output)
+closed_same : (files : Files SpecVersion) (a b : ℕ) (is_published : Bool) (o : Option SpecOutput)
     → without_serials (if is_published then files_with files a o else files)
     ≡ without_serials (if is_published then files_with files b o else files)
 closed_same files a b true None = refl
@@ -99,13 +99,13 @@ closed_same files a b false o = refl
 abbrev SameFiles : Reply × State → Reply × State → Type 0
 SameFiles x y = without_serials x.1.files ≡ without_serials y.1.files
 
-closed_files : (pack : Pack) (a b : ℕ) (s : State) (n : ℕ) (job : Job) (ch : ℕ) (c : Channel) (bits : ℕ) (one two : Job)
+closed_files : (pack : Pack) (a b : ℕ) (s : State) (n : ℕ) (job : SpecJob) (ch : ℕ) (c : Channel) (bits : ℕ) (one two : SpecJob)
     → SameFiles (of_files s n (settled (close_answer pack s job c bits) (one, files_closed a s.files job c bits)
     (λ r. (stopped_in job ch c r, s.files))))
     (of_files s n (settled (close_answer pack s job c bits) (two, files_closed b s.files job c bits)
     (λ r. (stopped_in job ch c r, s.files))))
 closed_files pack a b s n job ch c bits one two =
-    settled_both {A = Job × Files Version} (λ x y. without_serials x.1.1 ≡ without_serials y.1.1)
+    settled_both {A = SpecJob × Files SpecVersion} (λ x y. without_serials x.1.1 ≡ without_serials y.1.1)
     (close_answer pack s job c bits) (one, files_closed a s.files job c bits) (two, files_closed b s.files job c bits)
     (λ r. (stopped_in job ch c r, s.files)) (closed_same s.files a b (publishes c bits) (output_put job c)) (λ r. refl)
 
@@ -114,7 +114,7 @@ files_on_channel : (s : State) (row other : Channel → Reply × State) (o : Opt
 files_on_channel s row other None h = refl
 files_on_channel s row other (Some c) h = h c
 
-files_call : (pack : Pack) (a b : ℕ) (s : State) (n : ℕ) (job : Job) (call : Call) (moment : Moment)
+files_call : (pack : Pack) (a b : ℕ) (s : State) (n : ℕ) (job : SpecJob) (call : Call) (moment : Moment)
     → SameFiles (call_of pack a s n job call moment) (call_of pack b s n job call moment)
 files_call pack a b s n job (Open ch x) moment = refl
 files_call pack a b s n job (Inbuf ch k) moment = refl
@@ -136,8 +136,8 @@ files_call pack a b s n job (MakeDir e) moment = refl
 files_call pack a b s n job (DeleteDir e) moment = refl
 files_call pack a b s n job (Quota e) moment = refl
 
-files_job : (s : State) (row other : Job → Reply × State) (o : Option Job)
-    → ((job : Job) → SameFiles (row job) (other job)) → SameFiles (on_job s o row) (on_job s o other)
+files_job : (s : State) (row other : SpecJob → Reply × State) (o : Option SpecJob)
+    → ((job : SpecJob) → SameFiles (row job) (other job)) → SameFiles (on_job s o row) (on_job s o other)
 files_job s row other None h = refl
 files_job s row other (Some job) h = h job
 

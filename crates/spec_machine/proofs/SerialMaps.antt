@@ -7,15 +7,16 @@ use Rattle.std.specs.Cmp.{nat_cmp_total}
 use Rattle.std.specs.FinMap.{nat_cmp-IsAntisymmetric}
 use Rattle.std.proofs.lemmas.Bool.{eqb-true, eq-eqb}
 use Rattle.spec_image.specs.Common.{get, insert, remove, size, values, entries, total, Directory, Files, Place}
-use Rattle.spec_image.specs.Common.{map_directory, map_files, version_cost, directory_cost, Version, file_in, file_at}
+use Rattle.spec_image.specs.Common.{map_directory, map_files, version_cost, directory_cost, SpecVersion, file_in}
+use Rattle.spec_image.specs.Common.{file_at}
 use Rattle.spec_image.specs.Common.{with_file, with_file_in, without_file, without_file_in, Pack}
-use Rattle.spec_machine.specs.Jobs.{Input, Output, Channel, Job, State, slot, channel_at, job_at, with_job}
+use Rattle.spec_machine.specs.Jobs.{SpecInput, SpecOutput, Channel, SpecJob, State, slot, channel_at, job_at, with_job}
 use Rattle.spec_machine.specs.Jobs.{with_channel}
 use Rattle.spec_machine.specs.Room.{output_of, outputs_of, outputs, is_claimed, pending_creations, names_in}
-use Rattle.spec_machine.specs.Room.{entry_count, current_versions, version_of, held_by, held_versions, has_serial}
+use Rattle.spec_machine.specs.Room.{entry_count, current_versions, version_of, pinned_by, pinned_versions, has_serial}
 use Rattle.spec_machine.specs.Room.{distinct_cost, directories_cost, booked, space, exceeds_room}
-use Rattle.spec_machine.specs.Looking.{has_no_directory, is_absent, digit_for_directory, directory_digit_at}
-use Rattle.spec_machine.specs.Looking.{digit_for_version, digit_at}
+use Rattle.spec_machine.specs.Lookup.{has_no_directory, is_absent, digit_for_directory, directory_digit_at}
+use Rattle.spec_machine.specs.Lookup.{digit_for_version, digit_at}
 use Rattle.spec_image.proofs.Common.{entries-map_values, values-map_values, get-map_values, map_values-insert}
 use Rattle.spec_image.proofs.Common.{map_values-remove, size-map_values, sum-map_values, name_total, name_exact}
 use Rattle.spec_machine.specs.Charges.{quota_in, quota_of, charge_in, charge, exceeds_left, pending_cost_in}
@@ -49,19 +50,19 @@ map-append f (x ∷ xs) ys = ap (λ zs. f x ∷ zs) (map-append f xs ys)
 module _ (f : ℕ → ℕ) where
   -- The same with other serials.
 
-  abbrev pub re_version : Version → Version
+  abbrev pub re_version : SpecVersion → SpecVersion
   re_version v = record v { serial = f v.serial }
 
-  abbrev pub re_input : Input → Input
+  abbrev pub re_input : SpecInput → SpecInput
   re_input i = record i { version = re_version i.version }
 
   abbrev pub re_channel : Channel → Channel
   re_channel c = record c { input = option_map re_input c.input }
 
-  abbrev pub re_job : Job → Job
+  abbrev pub re_job : SpecJob → SpecJob
   re_job job = record job { channels = map (option_map re_channel) job.channels }
 
-  abbrev pub re_files : Files Version → Files Version
+  abbrev pub re_files : Files SpecVersion → Files SpecVersion
   re_files files = map_files re_version files
 
   abbrev pub re_state : State → State
@@ -69,27 +70,27 @@ module _ (f : ℕ → ℕ) where
 
   -- Files.
 
-  pub get-re : (files : Files Version) (ppn : ℕ)
+  pub get-re : (files : Files SpecVersion) (ppn : ℕ)
       → get (re_files files) ppn ≡ option_map (map_directory re_version) (get files ppn)
   get-re files ppn = get-map_values nat_cmp_total (map_directory re_version) files ppn
 
-  in_re : (o : Option (Directory Version)) (place : Place)
+  in_re : (o : Option (Directory SpecVersion)) (place : Place)
       → file_in (option_map (map_directory re_version) o) place.name ≡ option_map re_version (file_in o place.name)
   in_re None place = refl
   in_re (Some d) place = get-map_values name_total re_version d.files place.name
 
-  pub file-re : (files : Files Version) (place : Place)
+  pub file-re : (files : Files SpecVersion) (place : Place)
       → file_at (re_files files) place ≡ option_map re_version (file_at files place)
   file-re files place = ap (λ o. file_in o place.name) (get-re files place.ppn) ∙ in_re (get files place.ppn) place
 
-  pub insert-re : (files : Files Version) (ppn : ℕ) (d : Directory Version)
+  pub insert-re : (files : Files SpecVersion) (ppn : ℕ) (d : Directory SpecVersion)
       → re_files (insert files ppn d) ≡ insert (re_files files) ppn (map_directory re_version d)
   insert-re files ppn d = map_values-insert nat_cmp_total nat_cmp-IsAntisymmetric (map_directory re_version) files ppn d
 
-  pub remove-re : (files : Files Version) (ppn : ℕ) → re_files (remove files ppn) ≡ remove (re_files files) ppn
+  pub remove-re : (files : Files SpecVersion) (ppn : ℕ) → re_files (remove files ppn) ≡ remove (re_files files) ppn
   remove-re files ppn = map_values-remove nat_cmp_total nat_cmp-IsAntisymmetric (map_directory re_version) files ppn
 
-  with_in : (o : Option (Directory Version)) (files : Files Version) (place : Place) (v : Version)
+  with_in : (o : Option (Directory SpecVersion)) (files : Files SpecVersion) (place : Place) (v : SpecVersion)
       → with_file_in (option_map (map_directory re_version) o) (re_files files) place (re_version v)
       ≡ re_files (with_file_in o files place v)
   with_in None files place v = refl
@@ -102,12 +103,12 @@ module _ (f : ℕ → ℕ) where
       })
       ∙ sym (insert-re files place.ppn (record d { files = insert d.files place.name v }))
 
-  pub with_file-re : (files : Files Version) (place : Place) (v : Version)
+  pub with_file-re : (files : Files SpecVersion) (place : Place) (v : SpecVersion)
       → with_file (re_files files) place (re_version v) ≡ re_files (with_file files place v)
   with_file-re files place v = ap (λ o. with_file_in o (re_files files) place (re_version v)) (get-re files place.ppn)
       ∙ with_in (get files place.ppn) files place v
 
-  without_in : (o : Option (Directory Version)) (files : Files Version) (place : Place)
+  without_in : (o : Option (Directory SpecVersion)) (files : Files SpecVersion) (place : Place)
       → without_file_in (option_map (map_directory re_version) o) (re_files files) place
       ≡ re_files (without_file_in o files place)
   without_in None files place = refl
@@ -120,28 +121,28 @@ module _ (f : ℕ → ℕ) where
       })
       ∙ sym (insert-re files place.ppn (record d { files = remove d.files place.name }))
 
-  pub without_file-re : (files : Files Version) (place : Place) → without_file (re_files files) place
+  pub without_file-re : (files : Files SpecVersion) (place : Place) → without_file (re_files files) place
       ≡ re_files (without_file files place)
   without_file-re files place = ap (λ o. without_file_in o (re_files files) place) (get-re files place.ppn)
       ∙ without_in (get files place.ppn) files place
 
-  pub size-re : (files : Files Version) → size (re_files files) ≡ size files
+  pub size-re : (files : Files SpecVersion) → size (re_files files) ≡ size files
   size-re files = size-map_values nat_cmp_total (map_directory re_version) files
 
   -- Jobs and output sides.
 
-  pub channel-re : (job : Job) (ch : ℕ) → channel_at (re_job job) ch ≡ option_map re_channel (channel_at job ch)
+  pub channel-re : (job : SpecJob) (ch : ℕ) → channel_at (re_job job) ch ≡ option_map re_channel (channel_at job ch)
   channel-re job ch = slot-map re_channel job.channels ch
 
   pub job-re : (s : State) (n : ℕ) → job_at (re_state s) n ≡ option_map re_job (job_at s n)
   job-re s n = slot-map re_job s.jobs n
 
-  pub with_channel-re : (job : Job) (ch : ℕ) (x : Option Channel)
+  pub with_channel-re : (job : SpecJob) (ch : ℕ) (x : Option Channel)
       → with_channel (re_job job) ch (option_map re_channel x) ≡ re_job (with_channel job ch x)
   with_channel-re job ch x = ap (λ channels. record job { channels = channels })
       (set-map (option_map re_channel) job.channels ch x)
 
-  pub with_job-re : (s : State) (n : ℕ) (job : Job) → with_job (re_state s) n (re_job job) ≡ re_state (with_job s n job)
+  pub with_job-re : (s : State) (n : ℕ) (job : SpecJob) → with_job (re_state s) n (re_job job) ≡ re_state (with_job s n job)
   with_job-re s n job = ap (λ jobs. record { files = re_files s.files; jobs = jobs })
       (set-map (option_map re_job) s.jobs n (Some job))
 
@@ -154,11 +155,11 @@ module _ (f : ℕ → ℕ) where
   outputs_of_re [] = refl
   outputs_of_re (c ∷ cs) = λ i. cons_option (output-re c i) (outputs_of_re cs i)
 
-  of_job_re : (j : Option Job) → outputs_of (option_map re_job j) ≡ outputs_of j
+  of_job_re : (j : Option SpecJob) → outputs_of (option_map re_job j) ≡ outputs_of j
   of_job_re None = refl
   of_job_re (Some job) = outputs_of_re job.channels
 
-  all_outputs_re : (js : List (Option Job)) → flat_map outputs_of (map (option_map re_job) js) ≡ flat_map outputs_of js
+  all_outputs_re : (js : List (Option SpecJob)) → flat_map outputs_of (map (option_map re_job) js) ≡ flat_map outputs_of js
   all_outputs_re [] = refl
   all_outputs_re (j ∷ js) = λ i. of_job_re j i ++ all_outputs_re js i
 
@@ -171,7 +172,7 @@ module _ (f : ℕ → ℕ) where
   pub creations-re : (s : State) (ppn : ℕ) → pending_creations (re_state s) ppn ≡ pending_creations s ppn
   creations-re s ppn = ap (total _) (outputs-re s)
 
-  names_re : (o : Option (Directory Version)) → names_in (option_map (map_directory re_version) o) ≡ names_in o
+  names_re : (o : Option (Directory SpecVersion)) → names_in (option_map (map_directory re_version) o) ≡ names_in o
   names_re None = refl
   names_re (Some d) = size-map_values name_total re_version d.files
 
@@ -180,27 +181,27 @@ module _ (f : ℕ → ℕ) where
 
   -- Versions.
 
-  current_re : (ds : List (Directory Version)) → flat_map (λ d. values d.files) (map (map_directory re_version) ds)
-      ≡ map re_version (flat_map (λ (d : Directory Version). values d.files) ds)
+  current_re : (ds : List (Directory SpecVersion)) → flat_map (λ d. values d.files) (map (map_directory re_version) ds)
+      ≡ map re_version (flat_map (λ (d : Directory SpecVersion). values d.files) ds)
   current_re [] = refl
   current_re (d ∷ ds) =
       (λ i. values-map_values name_total re_version d.files i ++ current_re ds i)
-      ∙ sym (map-append re_version (values d.files) (flat_map (λ (d : Directory Version). values d.files) ds))
+      ∙ sym (map-append re_version (values d.files) (flat_map (λ (d : Directory SpecVersion). values d.files) ds))
 
   pub current-re : (s : State) → current_versions (re_state s) ≡ map re_version (current_versions s)
-  current-re s = ap (flat_map (λ (d : Directory Version). values d.files))
+  current-re s = ap (flat_map (λ (d : Directory SpecVersion). values d.files))
       (values-map_values nat_cmp_total (map_directory re_version) s.files) ∙ current_re (values s.files)
 
   pub version-re : (c : Option Channel) → version_of (option_map re_channel c) ≡ option_map re_version (version_of c)
   version-re None = refl
   version-re (Some c) = input_re c.input
     where
-      input_re : (i : Option Input) → option_map (λ (i : Input). i.version) (option_map re_input i)
-          ≡ option_map re_version (option_map (λ (i : Input). i.version) i)
+      input_re : (i : Option SpecInput) → option_map (λ (i : SpecInput). i.version) (option_map re_input i)
+          ≡ option_map re_version (option_map (λ (i : SpecInput). i.version) i)
       input_re None = refl
       input_re (Some i) = refl
 
-  cons_re : (o : Option Version) (vs : List Version) → cons_option (option_map re_version o) (map re_version vs)
+  cons_re : (o : Option SpecVersion) (vs : List SpecVersion) → cons_option (option_map re_version o) (map re_version vs)
       ≡ map re_version (cons_option o vs)
   cons_re None vs = refl
   cons_re (Some v) vs = refl
@@ -211,22 +212,22 @@ module _ (f : ℕ → ℕ) where
   held_by_re (c ∷ cs) = (λ i. cons_option (version-re c i) (held_by_re cs i))
       ∙ cons_re (version_of c) (filter_map version_of cs)
 
-  held_job_re : (j : Option Job) → held_by (option_map re_job j) ≡ map re_version (held_by j)
+  held_job_re : (j : Option SpecJob) → pinned_by (option_map re_job j) ≡ map re_version (pinned_by j)
   held_job_re None = refl
   held_job_re (Some job) = held_by_re job.channels
 
-  held_re : (js : List (Option Job)) → flat_map held_by (map (option_map re_job) js)
-      ≡ map re_version (flat_map held_by js)
+  held_re : (js : List (Option SpecJob)) → flat_map pinned_by (map (option_map re_job) js)
+      ≡ map re_version (flat_map pinned_by js)
   held_re [] = refl
   held_re (j ∷ js) = (λ i. held_job_re j i ++ held_re js i)
-      ∙ sym (map-append re_version (held_by j) (flat_map held_by js))
+      ∙ sym (map-append re_version (pinned_by j) (flat_map pinned_by js))
 
-  pub versions-re : (s : State) → current_versions (re_state s) ++ held_versions (re_state s)
-      ≡ map re_version (current_versions s ++ held_versions s)
+  pub versions-re : (s : State) → current_versions (re_state s) ++ pinned_versions (re_state s)
+      ≡ map re_version (current_versions s ++ pinned_versions s)
   versions-re s = (λ i. current-re s i ++ held_re s.jobs i)
-      ∙ sym (map-append re_version (current_versions s) (held_versions s))
+      ∙ sym (map-append re_version (current_versions s) (pinned_versions s))
 
-  -- What is booked, where different serials stay different.
+  -- What is booked, if different serials stay different.
 
   module _ (exact : (a b : ℕ) → f a ≡ f b → a ≡ b) where
     same_test : (a b : ℕ) → (f a == f b) ≡ (a == b)
@@ -240,11 +241,11 @@ module _ (f : ℕ → ℕ) where
             other false g = g
             other true g = let wrong = sym e ∙ eq-eqb a b (exact a b (eqb-true (f a) (f b) g)) in cc
 
-    pub serial-re : (k : ℕ) (vs : List Version) → has_serial (f k) (map re_version vs) ≡ has_serial k vs
+    pub serial-re : (k : ℕ) (vs : List SpecVersion) → has_serial (f k) (map re_version vs) ≡ has_serial k vs
     serial-re k [] = refl
     serial-re k (v ∷ vs) = λ i. same_test v.serial k i || serial-re k vs i
 
-    distinct_re : (vs : List Version) → distinct_cost (map re_version vs) ≡ distinct_cost vs
+    distinct_re : (vs : List SpecVersion) → distinct_cost (map re_version vs) ≡ distinct_cost vs
     distinct_re [] = refl
     distinct_re (v ∷ vs) = λ i. (if serial-re v.serial vs i then 0 else version_cost (length v.file.body))
         + distinct_re vs i
@@ -259,7 +260,7 @@ module _ (f : ℕ → ℕ) where
         λ i. directory_cost (size-re s.files i)
         + (ap (total (λ e. directory_cost (size e.1.files + pending_creations (re_state s) e.0)))
         (entries-map_values nat_cmp_total (map_directory re_version) s.files)
-        ∙ total-mapped (λ (e : ℕ × Directory Version). (e.0, map_directory re_version e.1))
+        ∙ total-mapped (λ (e : ℕ × Directory SpecVersion). (e.0, map_directory re_version e.1))
         (λ e. directory_cost (size e.1.files + pending_creations (re_state s) e.0))
         (λ e. directory_cost (size e.1.files + pending_creations s e.0))
         (λ e j. directory_cost (size-map_values name_total re_version e.1.files j + creations-re s e.0 j))
@@ -267,8 +268,8 @@ module _ (f : ℕ → ℕ) where
 
     pub booked-re : (s : State) → booked (re_state s) ≡ booked s
     booked-re s = λ i. (directories_re s i
-        + (ap distinct_cost (versions-re s) ∙ distinct_re (current_versions s ++ held_versions s)) i)
-        + ap (total (λ (o : Output). version_cost (length o.pending.body))) (outputs-re s) i
+        + (ap distinct_cost (versions-re s) ∙ distinct_re (current_versions s ++ pinned_versions s)) i)
+        + ap (total (λ (o : SpecOutput). version_cost (length o.pending.body))) (outputs-re s) i
 
     pub exceeds-re : (pack : Pack) (s : State) (more : ℕ) → exceeds_room pack (re_state s) more
         ≡ exceeds_room pack s more
@@ -276,18 +277,18 @@ module _ (f : ℕ → ℕ) where
 
   -- What a directory is charged for, and what its quota leaves.
 
-  quota_re : (o : Option (Directory Version)) → quota_in (option_map (map_directory re_version) o) ≡ quota_in o
+  quota_re : (o : Option (Directory SpecVersion)) → quota_in (option_map (map_directory re_version) o) ≡ quota_in o
   quota_re None = refl
   quota_re (Some d) = refl
 
   pub quota-re : (s : State) (ppn : ℕ) → quota_of (re_state s) ppn ≡ quota_of s ppn
   quota-re s ppn = ap quota_in (get-re s.files ppn) ∙ quota_re (get s.files ppn)
 
-  charge_re : (o : Option (Directory Version)) (creations : ℕ)
+  charge_re : (o : Option (Directory SpecVersion)) (creations : ℕ)
       → charge_in (option_map (map_directory re_version) o) creations ≡ charge_in o creations
   charge_re None creations = refl
   charge_re (Some d) creations = λ i. directory_cost (size-map_values name_total re_version d.files i + creations)
-      + sum-map_values name_total (λ (v : Version). version_cost (length v.file.body)) re_version d.files i
+      + sum-map_values name_total (λ (v : SpecVersion). version_cost (length v.file.body)) re_version d.files i
 
   charge-re : (s : State) (ppn : ℕ) → charge (re_state s) ppn ≡ charge s ppn
   charge-re s ppn =
@@ -298,7 +299,7 @@ module _ (f : ℕ → ℕ) where
   pub left-re : (s : State) (ppn more : ℕ) → exceeds_left (re_state s) ppn more ≡ exceeds_left s ppn more
   left-re s ppn more = λ i. not (quota-re s ppn i == 0) && nat_lt (quota-re s ppn i) (charge-re s ppn i + more)
 
-  -- What answers look at.
+  -- What answers depend on.
 
   pub no_directory-re : (s : State) (place : Place) → has_no_directory (re_state s) place ≡ has_no_directory s place
   no_directory-re s place = ap is_none (get-re s.files place.ppn) ∙ is_none-map _ (get s.files place.ppn)
@@ -306,22 +307,22 @@ module _ (f : ℕ → ℕ) where
   pub absent-re : (s : State) (place : Place) → is_absent (re_state s) place ≡ is_absent s place
   absent-re s place = ap is_none (file-re s.files place) ∙ is_none-map _ (file_at s.files place)
 
-  directory_re : (job : Job) (ppn : ℕ) (o : Option (Directory Version))
+  directory_re : (job : SpecJob) (ppn : ℕ) (o : Option (Directory SpecVersion))
       → digit_for_directory (re_job job) ppn (option_map (map_directory re_version) o) ≡ digit_for_directory job ppn o
   directory_re job ppn None = refl
   directory_re job ppn (Some d) = refl
 
-  pub directory_digit-re : (s : State) (job : Job) (place : Place) → directory_digit_at (re_state s) (re_job job) place
+  pub directory_digit-re : (s : State) (job : SpecJob) (place : Place) → directory_digit_at (re_state s) (re_job job) place
       ≡ directory_digit_at s job place
   directory_digit-re s job place = ap (digit_for_directory job place.ppn) (get-re s.files place.ppn)
       ∙ directory_re job place.ppn (get s.files place.ppn)
 
-  version_re : (job : Job) (ppn : ℕ) (o : Option Version) → digit_for_version (re_job job) ppn (option_map re_version o)
+  version_re : (job : SpecJob) (ppn : ℕ) (o : Option SpecVersion) → digit_for_version (re_job job) ppn (option_map re_version o)
       ≡ digit_for_version job ppn o
   version_re job ppn None = refl
   version_re job ppn (Some v) = refl
 
-  pub digit-re : (s : State) (job : Job) (place : Place) → digit_at (re_state s) (re_job job) place
+  pub digit-re : (s : State) (job : SpecJob) (place : Place) → digit_at (re_state s) (re_job job) place
       ≡ digit_at s job place
   digit-re s job place = ap (digit_for_version job place.ppn) (file-re s.files place)
       ∙ version_re job place.ppn (file_at s.files place)

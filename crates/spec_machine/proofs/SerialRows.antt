@@ -5,25 +5,26 @@ use Rattle.std.specs.Prelude.{◌==◌, ◌&&◌, ◌||◌, nat_lt, is_some, is_
 use Rattle.words36.specs.Common.{left, right}
 use Rattle.words36.specs.declared.moment.Moment.{Moment}
 use Rattle.spec_image.specs.Common.{get, insert, remove, empty, entries, size, Files, Place, map_directory, Directory}
-use Rattle.spec_image.specs.Common.{blocks_of, length_after, Version, file_at, same_place, with_file, without_file}
+use Rattle.spec_image.specs.Common.{blocks_of, length_after, SpecVersion, file_at, same_place, with_file, without_file}
 use Rattle.spec_image.specs.Common.{with_protection, Pack, growth, with_quota, files_limited}
 use Rattle.spec_machine.specs.Rights.{may_look, may_read, may_create, may_supersede, may_append, may_rename}
 use Rattle.spec_machine.specs.Rights.{may_protect, system}
 use Rattle.spec_machine.specs.Cores.{lies_outside, after_writes}
 use Rattle.spec_machine.specs.Rings.{is_buffered}
-use Rattle.spec_machine.specs.Jobs.{Input, Output, Channel, Job, State, channel_at, with_channel, improper_mode}
+use Rattle.spec_machine.specs.Jobs.{SpecInput, SpecOutput, Channel, SpecJob, State, channel_at, with_channel}
+use Rattle.spec_machine.specs.Jobs.{improper_mode}
 use Rattle.spec_machine.specs.Jobs.{block_too_large, end_of_file}
 use Rattle.spec_machine.specs.Room.{entry_count, exceeds_room}
 use Rattle.spec_machine.specs.Outcomes.{settled, clean, reports, stopped_in, refused_at}
-use Rattle.spec_machine.specs.Opening.{mode_at, device_at, disk, is_mode, misses_headers, core_opened, channel_opened}
-use Rattle.spec_machine.specs.Opening.{open_answer, open_done, opens, ring_answer, ring_made, core_or, sets_up}
-use Rattle.spec_machine.specs.Looking.{place_at, lookup_answer, looked_up, lookup_done, lookup, with_attributes}
-use Rattle.spec_machine.specs.Updating.{is_elsewhere, present_cost, update_answer, output_updating, input_updating}
-use Rattle.spec_machine.specs.Entering.{create_answer, supersede_answer, begin_answer, enter_answer, output_opened}
-use Rattle.spec_machine.specs.Entering.{entered, enter_done, enter}
-use Rattle.spec_machine.specs.Renaming.{deletes_at, protection_at, changes_protection, is_forbidden, crowds}
-use Rattle.spec_machine.specs.Renaming.{move_answer, rename_from, rename_sides, rename_answer, files_moved}
-use Rattle.spec_machine.specs.Renaming.{files_renamed, rename_done, renames, overfills}
+use Rattle.spec_machine.specs.Open.{mode_at, device_at, disk, is_mode, misses_headers, core_opened, channel_opened}
+use Rattle.spec_machine.specs.Open.{open_answer, open_done, opens, ring_answer, ring_made, core_or, sets_up}
+use Rattle.spec_machine.specs.Lookup.{place_at, lookup_answer, looked_up, lookup_done, lookup, with_attributes}
+use Rattle.spec_machine.specs.Update.{is_elsewhere, present_cost, update_answer, output_updating, input_updating}
+use Rattle.spec_machine.specs.Enter.{create_answer, supersede_answer, begin_answer, enter_answer, output_opened}
+use Rattle.spec_machine.specs.Enter.{entered, enter_done, enter}
+use Rattle.spec_machine.specs.Rename.{deletes_at, protection_at, changes_protection, is_forbidden, crowds}
+use Rattle.spec_machine.specs.Rename.{move_answer, rename_from, rename_sides, rename_answer, files_moved}
+use Rattle.spec_machine.specs.Rename.{files_renamed, rename_done, renames, overfills}
 use Rattle.spec_machine.specs.Inputs.{words_ahead, is_empty, dump_in_answer, lacks_header, ring_in_answer, ring_in}
 use Rattle.spec_machine.specs.Inputs.{in_answer, words_asked, core_filled, moved_on, in_done, reads, useti_answer}
 use Rattle.spec_machine.specs.Inputs.{input_at, useti_done, useti}
@@ -31,12 +32,12 @@ use Rattle.spec_machine.specs.CommandLists.{dump_list}
 use Rattle.spec_machine.specs.Outputs.{longest, rise, is_before_end, finds_no_place, Outgoing, outgoing, place_answer}
 use Rattle.spec_machine.specs.Outputs.{found_answer, put_answer, out_answer, put_done, out_done, puts, useto_answer}
 use Rattle.spec_machine.specs.Outputs.{useto_done, useto}
-use Rattle.spec_machine.specs.Closing.{publishes, keeps_input, keeps_output, discards, last_buffer, output_put}
-use Rattle.spec_machine.specs.Closing.{last_answer, close_answer, published, files_with, files_closed, holding}
-use Rattle.spec_machine.specs.Closing.{output_closed, channel_closed, header_closed, core_closed, close_done, closes}
-use Rattle.spec_machine.specs.Closing.{releases}
-use Rattle.spec_machine.specs.Making.{owner_at, is_stranger, make_answer, directory_made, makes, remove_answer}
-use Rattle.spec_machine.specs.Making.{removes, limits, limit_answer, quota_at}
+use Rattle.spec_machine.specs.Close.{publishes, keeps_input, keeps_output, discards, last_buffer, output_put}
+use Rattle.spec_machine.specs.Close.{last_answer, close_answer, published, files_with, files_closed, holding}
+use Rattle.spec_machine.specs.Close.{output_closed, channel_closed, header_closed, core_closed, close_done, closes}
+use Rattle.spec_machine.specs.Close.{releases}
+use Rattle.spec_machine.specs.MakeDir.{owner_at, is_stranger, make_answer, directory_made, makes, remove_answer}
+use Rattle.spec_machine.specs.MakeDir.{removes, limits, limit_answer, quota_at}
 use Rattle.spec_machine.specs.declared.area.Area.{Area}
 use Rattle.spec_machine.specs.declared.call.Reply.{Reply}
 use Rattle.spec_machine.specs.declared.call.Reply.TheVariants.{Done, Value, Refused, Stopped, NoChannel, AddressCheck}
@@ -72,10 +73,10 @@ settled-re g reply reply' done done' other other' e h o = ap (λ r. settled r do
     by_reply DateRange = λ i. (DateRange, o DateRange i)
 
 module _ (f : ℕ → ℕ) where
-  abbrev pub re_both : Job × Files Version → Job × Files Version
+  abbrev pub re_both : SpecJob × Files SpecVersion → SpecJob × Files SpecVersion
   re_both x = (re_job f x.0, re_files f x.1)
 
-  refused-re : (job : Job) (e : ℕ) (r : Reply) → refused_at (re_job f job) e r ≡ re_job f (refused_at job e r)
+  refused-re : (job : SpecJob) (e : ℕ) (r : Reply) → refused_at (re_job f job) e r ≡ re_job f (refused_at job e r)
   refused-re job e Done = refl
   refused-re job e (Value w) = refl
   refused-re job e (Refused w) = refl
@@ -88,7 +89,7 @@ module _ (f : ℕ → ℕ) where
   refused-re job e Failed = refl
   refused-re job e DateRange = refl
 
-  stopped-re : (job : Job) (ch : ℕ) (c : Channel) (r : Reply) → stopped_in (re_job f job) ch (re_channel f c) r
+  stopped-re : (job : SpecJob) (ch : ℕ) (c : Channel) (r : Reply) → stopped_in (re_job f job) ch (re_channel f c) r
       ≡ re_job f (stopped_in job ch c r)
   stopped-re job ch c Done = refl
   stopped-re job ch c (Value w) = refl
@@ -104,7 +105,7 @@ module _ (f : ℕ → ℕ) where
 
   -- OPEN and the setup of rings.
 
-  open_answer-re : (job : Job) (ch a : ℕ) → open_answer (re_job f job) ch a ≡ open_answer job ch a
+  open_answer-re : (job : SpecJob) (ch a : ℕ) → open_answer (re_job f job) ch a ≡ open_answer job ch a
   open_answer-re job ch a =
       let e : is_some (channel_at (re_job f job) ch) ≡ is_some (channel_at job ch) = ap is_some (channel-re f job ch)
       ∙ is_some-map (re_channel f) (channel_at job ch) in
@@ -114,14 +115,14 @@ module _ (f : ℕ → ℕ) where
       then Stopped (improper_mode + mode_at job.core a)
       else Done
 
-  pub opens-re : (job : Job) (ch a : ℕ) → opens (re_job f job) ch a ≡ on_value (re_job f) (opens job ch a)
+  pub opens-re : (job : SpecJob) (ch a : ℕ) → opens (re_job f job) ch a ≡ on_value (re_job f) (opens job ch a)
   opens-re job ch a =
       settled-re (re_job f) _ _ (open_done job ch a) (open_done (re_job f job) ch a) (λ r. job) (λ r. re_job f job)
       (open_answer-re job ch a)
       (with_channel-re f (record job { core = core_opened job.core a }) ch (Some (channel_opened job.core a)))
       (λ r. refl)
 
-  pub sets_up-re : (job : Job) (ch : ℕ) (c : Channel) (header k : ℕ)
+  pub sets_up-re : (job : SpecJob) (ch : ℕ) (c : Channel) (header k : ℕ)
       → sets_up (re_job f job) ch (re_channel f c) header k ≡ on_value (re_job f) (sets_up job ch c header k)
   sets_up-re job ch c header k =
       settled-re (re_job f) (ring_answer job c header k) (ring_answer job c header k) _ _ (λ r. job)
@@ -131,7 +132,7 @@ module _ (f : ℕ → ℕ) where
 
   -- LOOKUP.
 
-  lookup_answer-re : (s : State) (job : Job) (c : Channel) (e : ℕ) (place : Place)
+  lookup_answer-re : (s : State) (job : SpecJob) (c : Channel) (e : ℕ) (place : Place)
       → lookup_answer (re_state f s) (re_job f job) (re_channel f c) e place ≡ lookup_answer s job c e place
   lookup_answer-re s job c e place = λ i.
       if lies_outside job.core e 4 then AddressCheck
@@ -142,14 +143,14 @@ module _ (f : ℕ → ℕ) where
       else if not (may_read (digit-re f s job place i)) then Refused 2
       else Done
 
-  looked_up-re : (pack : Pack) (job : Job) (ch : ℕ) (c : Channel) (e : ℕ) (place : Place) (found : Option Version)
+  looked_up-re : (pack : Pack) (job : SpecJob) (ch : ℕ) (c : Channel) (e : ℕ) (place : Place) (found : Option SpecVersion)
       → looked_up pack (re_job f job) ch (re_channel f c) e place (option_map (re_version f) found)
       ≡ re_job f (looked_up pack job ch c e place found)
   looked_up-re pack job ch c e place None = refl
   looked_up-re pack job ch c e place (Some v) = with_channel-re f (record job { core = _ }) ch
       (Some (record (clean c) { input = Some (record { place = place; version = v; next = 1 }) }))
 
-  pub lookup-re : (pack : Pack) (s : State) (job : Job) (ch : ℕ) (c : Channel) (e : ℕ)
+  pub lookup-re : (pack : Pack) (s : State) (job : SpecJob) (ch : ℕ) (c : Channel) (e : ℕ)
       → lookup pack (re_state f s) (re_job f job) ch (re_channel f c) e ≡ on_value (re_job f) (lookup pack s job ch c e)
   lookup-re pack s job ch c e =
       settled-re (re_job f) _ _ (lookup_done pack s job ch c e (place_at job e))
@@ -161,11 +162,11 @@ module _ (f : ℕ → ℕ) where
 
   -- ENTER.
 
-  cost-re : (o : Option Version) → present_cost (option_map (re_version f) o) ≡ present_cost o
+  cost-re : (o : Option SpecVersion) → present_cost (option_map (re_version f) o) ≡ present_cost o
   cost-re None = refl
   cost-re (Some v) = refl
 
-  elsewhere-re : (o : Option Input) (place : Place) → is_elsewhere (option_map (re_input f) o) place
+  elsewhere-re : (o : Option SpecInput) (place : Place) → is_elsewhere (option_map (re_input f) o) place
       ≡ is_elsewhere o place
   elsewhere-re None place = refl
   elsewhere-re (Some i) place = refl
@@ -179,7 +180,7 @@ module _ (f : ℕ → ℕ) where
     limits_re ppn more more' e = ap (exceeds_limits pack (re_state f s) ppn) e
         ∙ λ i. exceeds-re f exact pack s more i || left-re f s ppn more i
 
-    create-re : (job : Job) (place : Place) → create_answer pack (re_state f s) (re_job f job) place
+    create-re : (job : SpecJob) (place : Place) → create_answer pack (re_state f s) (re_job f job) place
         ≡ create_answer pack s job place
     create-re job place =
         let full = limits_re place.ppn (1 + growth (entry_count s place.ppn)) _
@@ -189,7 +190,7 @@ module _ (f : ℕ → ℕ) where
         else if full i then Refused 0o14
         else Done
 
-    supersede-re : (job : Job) (place : Place) → supersede_answer pack (re_state f s) (re_job f job) place
+    supersede-re : (job : SpecJob) (place : Place) → supersede_answer pack (re_state f s) (re_job f job) place
         ≡ supersede_answer pack s job place
     supersede-re job place =
         let full = limits_re place.ppn 1 1 refl in
@@ -199,7 +200,7 @@ module _ (f : ℕ → ℕ) where
         else if full i then Refused 0o14
         else Done
 
-    update-re : (job : Job) (place : Place) → update_answer pack (re_state f s) (re_job f job) place
+    update-re : (job : SpecJob) (place : Place) → update_answer pack (re_state f s) (re_job f job) place
         ≡ update_answer pack s job place
     update-re job place =
         let full = limits_re place.ppn (present_cost (file_at s.files place)) _ (ap present_cost (file-re f s.files place)
@@ -211,13 +212,13 @@ module _ (f : ℕ → ℕ) where
         else if full i then Refused 0o14
         else Done
 
-    begin-re : (job : Job) (input : Option Input) (place : Place)
+    begin-re : (job : SpecJob) (input : Option SpecInput) (place : Place)
         → begin_answer pack (re_state f s) (re_job f job) (option_map (re_input f) input) place
         ≡ begin_answer pack s job input place
     begin-re job None place = λ i. if absent-re f s place i then create-re job place i else supersede-re job place i
     begin-re job (Some x) place = update-re job place
 
-    enter_answer-re : (job : Job) (c : Channel) (e : ℕ) (place : Place)
+    enter_answer-re : (job : SpecJob) (c : Channel) (e : ℕ) (place : Place)
         → enter_answer pack (re_state f s) (re_job f job) (re_channel f c) e place ≡ enter_answer pack s job c e place
     enter_answer-re job c e place = λ i.
         if lies_outside job.core e 4 then AddressCheck
@@ -226,8 +227,8 @@ module _ (f : ℕ → ℕ) where
         else if place.name.name == 0 then Refused 0
         else begin-re job c.input place i
 
-    entered-re : (job : Job) (ch : ℕ) (c : Channel) (e : ℕ) (moment : Moment) (place : Place) (digit : ℕ)
-        (input : Option Input) (found : Option Version)
+    entered-re : (job : SpecJob) (ch : ℕ) (c : Channel) (e : ℕ) (moment : Moment) (place : Place) (digit : ℕ)
+        (input : Option SpecInput) (found : Option SpecVersion)
         → entered pack (re_job f job) ch (re_channel f c) e
         (input_updating (option_map (re_input f) input) (option_map (re_version f) found))
         (output_opened (re_job f job) (re_channel f c) e moment place digit (option_map (re_input f) input)
@@ -265,7 +266,7 @@ module _ (f : ℕ → ℕ) where
           output = Some (output_updating digit place v);
         }))
 
-    pub enter-re : (job : Job) (ch : ℕ) (c : Channel) (e : ℕ) (moment : Moment)
+    pub enter-re : (job : SpecJob) (ch : ℕ) (c : Channel) (e : ℕ) (moment : Moment)
         → enter pack (re_state f s) (re_job f job) ch (re_channel f c) e moment
         ≡ on_value (re_job f) (enter pack s job ch c e moment)
     enter-re job ch c e moment =
@@ -281,12 +282,12 @@ module _ (f : ℕ → ℕ) where
 
     -- RENAME.
 
-    changes-re : (protection : ℕ) (o : Option Version) → changes_protection protection (option_map (re_version f) o)
+    changes-re : (protection : ℕ) (o : Option SpecVersion) → changes_protection protection (option_map (re_version f) o)
         ≡ changes_protection protection o
     changes-re protection None = refl
     changes-re protection (Some v) = refl
 
-    forbidden-re : (job : Job) (e : ℕ) (old : Place) → is_forbidden (re_state f s) (re_job f job) e old
+    forbidden-re : (job : SpecJob) (e : ℕ) (old : Place) → is_forbidden (re_state f s) (re_job f job) e old
         ≡ is_forbidden s job e old
     forbidden-re job e old =
         let c : changes_protection (protection_at job e) (file_at (re_files f s.files) old)
@@ -309,7 +310,7 @@ module _ (f : ℕ → ℕ) where
         ∙ λ i. not (new.ppn == old.ppn)
         && left-re f s new.ppn (present_cost (file_at s.files old) + growth (entry_count s new.ppn)) i
 
-    move-re : (job : Job) (old new : Place) → move_answer pack (re_state f s) (re_job f job) old new
+    move-re : (job : SpecJob) (old new : Place) → move_answer pack (re_state f s) (re_job f job) old new
         ≡ move_answer pack s job old new
     move-re job old new = λ i.
         if no_directory-re f s new i then Refused 1
@@ -319,7 +320,7 @@ module _ (f : ℕ → ℕ) where
         else if crowds-re old new i || overfills-re old new i then Refused 0o14
         else Done
 
-    from-re : (job : Job) (e : ℕ) (old : Place) → rename_from pack (re_state f s) (re_job f job) e old
+    from-re : (job : SpecJob) (e : ℕ) (old : Place) → rename_from pack (re_state f s) (re_job f job) e old
         ≡ rename_from pack s job e old
     from-re job e old = λ i.
         if no_directory-re f s old i then Refused 1
@@ -330,13 +331,13 @@ module _ (f : ℕ → ℕ) where
         else if deletes_at job e then Done
         else move-re job old (place_at job e) i
 
-    sides-re : (job : Job) (e : ℕ) (input : Option Input) (output : Option Output)
+    sides-re : (job : SpecJob) (e : ℕ) (input : Option SpecInput) (output : Option SpecOutput)
         → rename_sides pack (re_state f s) (re_job f job) e (option_map (re_input f) input) output
         ≡ rename_sides pack s job e input output
     sides-re job e None output = refl
     sides-re job e (Some x) output = λ i. if is_some output then Refused 5 else from-re job e x.place i
 
-    moved-re : (old new : Place) (protection : ℕ) (found : Option Version)
+    moved-re : (old new : Place) (protection : ℕ) (found : Option SpecVersion)
         → files_moved (re_files f s.files) old new protection (option_map (re_version f) found)
         ≡ re_files f (files_moved s.files old new protection found)
     moved-re old new protection None = refl
@@ -353,13 +354,13 @@ module _ (f : ℕ → ℕ) where
     either-re false old new protection = ap (files_moved (re_files f s.files) old new protection)
         (file-re f s.files old) ∙ moved-re old new protection (file_at s.files old)
 
-    renamed-re : (job : Job) (e : ℕ) (input : Option Input)
+    renamed-re : (job : SpecJob) (e : ℕ) (input : Option SpecInput)
         → files_renamed (re_files f s.files) (re_job f job) e (option_map (re_input f) input)
         ≡ re_files f (files_renamed s.files job e input)
     renamed-re job e None = refl
     renamed-re job e (Some x) = either-re (deletes_at job e) x.place (place_at job e) (protection_at job e)
 
-    pub renames-re : (job : Job) (ch : ℕ) (c : Channel) (e : ℕ)
+    pub renames-re : (job : SpecJob) (ch : ℕ) (c : Channel) (e : ℕ)
         → renames pack (re_state f s) (re_job f job) ch (re_channel f c) e
         ≡ on_value re_both (renames pack s job ch c e)
     renames-re job ch c e =
@@ -375,7 +376,7 @@ module _ (f : ℕ → ℕ) where
 
     -- OUT.
 
-    no_place-re : (o : Output) (count : ℕ) → finds_no_place pack (re_state f s) o count ≡ finds_no_place pack s o count
+    no_place-re : (o : SpecOutput) (count : ℕ) → finds_no_place pack (re_state f s) o count ≡ finds_no_place pack s o count
     no_place-re o count = λ i.
         not (count == 0)
         && (nat_lt longest (length_after (length o.pending.body) o.next count)
@@ -383,28 +384,28 @@ module _ (f : ℕ → ℕ) where
         || (not (rise o count == 0) && left-re f s o.place.ppn (rise o count) i)
         || is_before_end o.kind o.next)
 
-    place-re : (c : Channel) (o : Output) (words : List ℕ) → place_answer pack (re_state f s) (re_channel f c) o words
+    place-re : (c : Channel) (o : SpecOutput) (words : List ℕ) → place_answer pack (re_state f s) (re_channel f c) o words
         ≡ place_answer pack s c o words
     place-re c o words = λ i. if no_place-re o (length words) i then reports c block_too_large else Done
 
-    found-re : (c : Channel) (o : Output) (found : Option Outgoing)
+    found-re : (c : Channel) (o : SpecOutput) (found : Option Outgoing)
         → found_answer pack (re_state f s) (re_channel f c) o found ≡ found_answer pack s c o found
     found-re c o None = refl
     found-re c o (Some found) = place-re c o found.words
 
-    put_answer-re : (c : Channel) (output : Option Output) (found : Option Outgoing)
+    put_answer-re : (c : Channel) (output : Option SpecOutput) (found : Option Outgoing)
         → put_answer pack (re_state f s) (re_channel f c) output found ≡ put_answer pack s c output found
     put_answer-re c None found = refl
     put_answer-re c (Some o) found = λ i. if lacks_header c.mode c.output_header then Refused 5
         else found-re c o found i
 
-    put_done-re : (job : Job) (ch : ℕ) (c : Channel) (found : Option Outgoing)
+    put_done-re : (job : SpecJob) (ch : ℕ) (c : Channel) (found : Option Outgoing)
         → put_done (re_job f job) ch (re_channel f c) found ≡ re_job f (put_done job ch c found)
     put_done-re job ch c None = refl
     put_done-re job ch c (Some found) = with_channel-re f (record job { core = found.core }) ch
         (Some (record (clean c) { output = _ }))
 
-    pub puts-re : (job : Job) (ch : ℕ) (c : Channel) (a : ℕ)
+    pub puts-re : (job : SpecJob) (ch : ℕ) (c : Channel) (a : ℕ)
         → puts pack (re_state f s) (re_job f job) ch (re_channel f c) a ≡ on_value (re_job f) (puts pack s job ch c a)
     puts-re job ch c a =
         settled-re (re_job f) (out_answer pack s job c a) (out_answer pack (re_state f s) (re_job f job)
@@ -414,28 +415,28 @@ module _ (f : ℕ → ℕ) where
 
     -- CLOSE and RELEAS.
 
-    last-re : (c : Channel) (output : Option Output) (last : Option (List ℕ))
+    last-re : (c : Channel) (output : Option SpecOutput) (last : Option (List ℕ))
         → last_answer pack (re_state f s) (re_channel f c) output last ≡ last_answer pack s c output last
     last-re c None last = refl
     last-re c (Some o) None = refl
     last-re c (Some o) (Some words) = place-re c o words
 
-    close_answer-re : (job : Job) (c : Channel) (bits : ℕ)
+    close_answer-re : (job : SpecJob) (c : Channel) (bits : ℕ)
         → close_answer pack (re_state f s) (re_job f job) (re_channel f c) bits ≡ close_answer pack s job c bits
     close_answer-re job c bits = λ i. if publishes c bits then last-re c c.output (last_buffer job c) i else Done
 
-    with-re : (serial : ℕ) (o : Option Output) → files_with (re_files f s.files) (f serial) o
+    with-re : (serial : ℕ) (o : Option SpecOutput) → files_with (re_files f s.files) (f serial) o
         ≡ re_files f (files_with s.files serial o)
     with-re serial None = refl
     with-re serial (Some o) = with_file-re f s.files o.place (published serial o)
 
-    if_published : (serial : ℕ) (b : Bool) (o : Option Output)
+    if_published : (serial : ℕ) (b : Bool) (o : Option SpecOutput)
         → (if b then files_with (re_files f s.files) (f serial) o else re_files f s.files)
         ≡ re_files f (if b then files_with s.files serial o else s.files)
     if_published serial true o = with-re serial o
     if_published serial false o = refl
 
-    input_closed-re : (serial : ℕ) (keeps is_published : Bool) (input : Option Input) (o : Option Output)
+    input_closed-re : (serial : ℕ) (keeps is_published : Bool) (input : Option SpecInput) (o : Option SpecOutput)
         → (if not keeps then None else if is_published then holding (option_map (re_input f) input)
         (option_map (published (f serial)) o) else option_map (re_input f) input)
         ≡ option_map (re_input f) (if not keeps then None else if is_published
@@ -454,7 +455,7 @@ module _ (f : ℕ → ℕ) where
         (header_closed core c.output_header (is_some c.output && not (keeps_output bits))
         ++ header_closed core c.input_header (is_some-map (re_input f) c.input i && not (keeps_input bits)))
 
-    close_done-re : (serial : ℕ) (job : Job) (ch : ℕ) (c : Channel) (bits : ℕ)
+    close_done-re : (serial : ℕ) (job : SpecJob) (ch : ℕ) (c : Channel) (bits : ℕ)
         → close_done (f serial) (re_job f job) ch (re_channel f c) bits ≡ re_job f (close_done serial job ch c bits)
     close_done-re serial job ch c bits =
         (λ i. with_channel (record (re_job f job) { core = core_closed-re job.core c bits i }) ch
@@ -466,7 +467,7 @@ module _ (f : ℕ → ℕ) where
         ∙ with_channel-re f (record job { core = core_closed job.core c bits }) ch
         (Some (channel_closed serial job c bits))
 
-    pub closes-re : (serial : ℕ) (job : Job) (ch : ℕ) (c : Channel) (bits : ℕ)
+    pub closes-re : (serial : ℕ) (job : SpecJob) (ch : ℕ) (c : Channel) (bits : ℕ)
         → closes pack (f serial) (re_state f s) (re_job f job) ch (re_channel f c) bits
         ≡ on_value re_both (closes pack serial s job ch c bits)
     closes-re serial job ch c bits =
@@ -480,7 +481,7 @@ module _ (f : ℕ → ℕ) where
         (λ i. (close_done-re serial job ch c bits i, if_published serial (publishes c bits) (output_put job c) i))
         (λ r i. (stopped-re job ch c r i, re_files f s.files))
 
-    pub releases-re : (serial : ℕ) (job : Job) (ch : ℕ) (c : Channel)
+    pub releases-re : (serial : ℕ) (job : SpecJob) (ch : ℕ) (c : Channel)
         → releases pack (f serial) (re_state f s) (re_job f job) ch (re_channel f c)
         ≡ on_value re_both (releases pack serial s job ch c)
     releases-re serial job ch c =
@@ -499,11 +500,11 @@ module _ (f : ℕ → ℕ) where
 
     -- MakeDir and DeleteDir.
 
-    made-re : (job : Job) (e : ℕ) → map_directory (re_version f) (directory_made job e) ≡ directory_made job e
+    made-re : (job : SpecJob) (e : ℕ) → map_directory (re_version f) (directory_made job e) ≡ directory_made job e
     unfolding empty entries
     made-re job e = refl
 
-    make_answer-re : (job : Job) (e owner : ℕ) → make_answer pack (re_state f s) (re_job f job) e owner
+    make_answer-re : (job : SpecJob) (e owner : ℕ) → make_answer pack (re_state f s) (re_job f job) e owner
         ≡ make_answer pack s job e owner
     make_answer-re job e owner =
         let there : is_some (get (re_files f s.files) owner)
@@ -516,7 +517,7 @@ module _ (f : ℕ → ℕ) where
         else if full i then Refused 0o14
         else Done
 
-    pub makes-re : (job : Job) (e : ℕ) → makes pack (re_state f s) (re_job f job) e
+    pub makes-re : (job : SpecJob) (e : ℕ) → makes pack (re_state f s) (re_job f job) e
         ≡ on_value re_both (makes pack s job e)
     makes-re job e =
         settled-re re_both (make_answer pack s job e (owner_at job e)) _
@@ -531,7 +532,7 @@ module _ (f : ℕ → ℕ) where
         ))
         (λ r i. (refused-re job e r i, re_files f s.files))
 
-    remove_answer-re : (job : Job) (e owner : ℕ) → remove_answer (re_state f s) (re_job f job) e owner
+    remove_answer-re : (job : SpecJob) (e owner : ℕ) → remove_answer (re_state f s) (re_job f job) e owner
         ≡ remove_answer s job e owner
     remove_answer-re job e owner =
         let there : is_none (get (re_files f s.files) owner)
@@ -542,7 +543,7 @@ module _ (f : ℕ → ℕ) where
         else if not (entries-re f s owner i == 0) then Refused 0o22
         else Done
 
-    pub removes-re : (job : Job) (e : ℕ) → removes (re_state f s) (re_job f job) e ≡ on_value re_both (removes s job e)
+    pub removes-re : (job : SpecJob) (e : ℕ) → removes (re_state f s) (re_job f job) e ≡ on_value re_both (removes s job e)
     removes-re job e =
         settled-re re_both (remove_answer s job e (owner_at job e)) _ (job, remove s.files (owner_at job e))
         (re_job f job, remove (re_files f s.files) (owner_at job e))
@@ -553,7 +554,7 @@ module _ (f : ℕ → ℕ) where
 
     -- Quota.
 
-    limit_answer-re : (job : Job) (e owner : ℕ) → limit_answer pack (re_state f s) (re_job f job) e owner
+    limit_answer-re : (job : SpecJob) (e owner : ℕ) → limit_answer pack (re_state f s) (re_job f job) e owner
         ≡ limit_answer pack s job e owner
     limit_answer-re job e owner =
         let there : is_none (get (re_files f s.files) owner)
@@ -564,7 +565,7 @@ module _ (f : ℕ → ℕ) where
         else if not (job.ppn == system) then Refused 2
         else Done
 
-    with_quota-re : (owner quota : ℕ) (o : Option (Directory Version))
+    with_quota-re : (owner quota : ℕ) (o : Option (Directory SpecVersion))
         → with_quota (re_files f s.files) owner quota (option_map (map_directory (re_version f)) o)
         ≡ re_files f (with_quota s.files owner quota o)
     with_quota-re owner quota None = refl
@@ -575,7 +576,7 @@ module _ (f : ℕ → ℕ) where
     limited-re owner quota = ap (with_quota (re_files f s.files) owner quota) (get-re f s.files owner)
         ∙ with_quota-re owner quota (get s.files owner)
 
-    pub limits-re : (job : Job) (e : ℕ) → limits pack (re_state f s) (re_job f job) e
+    pub limits-re : (job : SpecJob) (e : ℕ) → limits pack (re_state f s) (re_job f job) e
         ≡ on_value re_both (limits pack s job e)
     limits-re job e =
         settled-re re_both (limit_answer pack s job e (owner_at job e)) _
@@ -588,7 +589,7 @@ module _ (f : ℕ → ℕ) where
 
   -- IN, USETI and USETO.
 
-  ahead-re : (input : Option Input) (output : Option Output) → words_ahead (option_map (re_input f) input) output
+  ahead-re : (input : Option SpecInput) (output : Option SpecOutput) → words_ahead (option_map (re_input f) input) output
       ≡ words_ahead input output
   ahead-re None output = refl
   ahead-re (Some x) None = refl
@@ -605,28 +606,28 @@ module _ (f : ℕ → ℕ) where
   dump_in-re c (Some (area ∷ areas)) = λ i. if is_empty (ahead-re c.input c.output i) then reports c end_of_file
       else Done
 
-  in_answer-re : (job : Job) (c : Channel) (a : ℕ) → in_answer (re_job f job) (re_channel f c) a ≡ in_answer job c a
+  in_answer-re : (job : SpecJob) (c : Channel) (a : ℕ) → in_answer (re_job f job) (re_channel f c) a ≡ in_answer job c a
   in_answer-re job c a = λ i.
       if is_none-map (re_input f) c.input i || lacks_header c.mode c.input_header then Refused 5
       else if is_buffered c.mode then ring_in-re c (ring_in job c) i
       else dump_in-re c (dump_list job.core a) i
 
-  moved_on-re : (input : Option Input) (k : ℕ) → moved_on (option_map (re_input f) input) k
+  moved_on-re : (input : Option SpecInput) (k : ℕ) → moved_on (option_map (re_input f) input) k
       ≡ option_map (re_input f) (moved_on input k)
   moved_on-re None k = refl
   moved_on-re (Some x) k = refl
 
-  input_at-re : (input : Option Input) (k : ℕ) → input_at (option_map (re_input f) input) k
+  input_at-re : (input : Option SpecInput) (k : ℕ) → input_at (option_map (re_input f) input) k
       ≡ option_map (re_input f) (input_at input k)
   input_at-re None k = refl
   input_at-re (Some x) k = refl
 
-  abbrev in_with : Job → ℕ → Channel → ℕ → Option Input → List ℕ → Job
+  abbrev in_with : SpecJob → ℕ → Channel → ℕ → Option SpecInput → List ℕ → SpecJob
   in_with job ch c a input words =
       with_channel (record job { core = core_filled job c a words }) ch
       (Some (record (clean c) { input = moved_on input (blocks_of (min (words_asked job c a) (length words))) }))
 
-  in_done-re : (job : Job) (ch : ℕ) (c : Channel) (a : ℕ) → in_done (re_job f job) ch (re_channel f c) a
+  in_done-re : (job : SpecJob) (ch : ℕ) (c : Channel) (a : ℕ) → in_done (re_job f job) ch (re_channel f c) a
       ≡ re_job f (in_done job ch c a)
   in_done-re job ch c a =
       ap (in_with (re_job f job) ch (re_channel f c) a (option_map (re_input f) c.input)) (ahead-re c.input c.output)
@@ -641,14 +642,14 @@ module _ (f : ℕ → ℕ) where
             (blocks_of (min (words_asked job c a) (length (words_ahead c.input c.output))));
       }))
 
-  pub reads-re : (job : Job) (ch : ℕ) (c : Channel) (a : ℕ) → reads (re_job f job) ch (re_channel f c) a
+  pub reads-re : (job : SpecJob) (ch : ℕ) (c : Channel) (a : ℕ) → reads (re_job f job) ch (re_channel f c) a
       ≡ on_value (re_job f) (reads job ch c a)
   reads-re job ch c a =
       settled-re (re_job f) (in_answer job c a) _ (in_done job ch c a) (in_done (re_job f job) ch (re_channel f c) a)
       (stopped_in job ch c) (stopped_in (re_job f job) ch (re_channel f c))
       (in_answer-re job c a) (in_done-re job ch c a) (stopped-re job ch c)
 
-  pub useti-re : (job : Job) (ch : ℕ) (c : Channel) (k : ℕ) → useti (re_job f job) ch (re_channel f c) k
+  pub useti-re : (job : SpecJob) (ch : ℕ) (c : Channel) (k : ℕ) → useti (re_job f job) ch (re_channel f c) k
       ≡ on_value (re_job f) (useti job ch c k)
   useti-re job ch c k =
       settled-re (re_job f) (useti_answer c k) _ (with_channel job ch (Some (useti_done c k)))
@@ -659,7 +660,7 @@ module _ (f : ℕ → ℕ) where
       ((λ i. with_channel (re_job f job) ch (Some (record (clean c) { input = input_at-re c.input k i })))
       ∙ with_channel-re f job ch (Some (useti_done c k))) (stopped-re job ch c)
 
-  pub useto-re : (job : Job) (ch : ℕ) (c : Channel) (k : ℕ) → useto (re_job f job) ch (re_channel f c) k
+  pub useto-re : (job : SpecJob) (ch : ℕ) (c : Channel) (k : ℕ) → useto (re_job f job) ch (re_channel f c) k
       ≡ on_value (re_job f) (useto job ch c k)
   useto-re job ch c k =
       settled-re (re_job f) (useto_answer c k) (useto_answer c k) (with_channel job ch (Some (useto_done c k)))

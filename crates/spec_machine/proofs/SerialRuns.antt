@@ -6,9 +6,9 @@ use Rattle.std.specs.Cmp.{nat_cmp_total}
 use Rattle.std.specs.FinMap.{nat_cmp-IsAntisymmetric}
 use Rattle.std.proofs.lemmas.Bool.{eqb-true, eq-eqb}
 use Rattle.words36.specs.declared.names.FileName.{FileName}
-use Rattle.spec_image.specs.Common.{get, map_values, Directory, Files, map_directory, Version, file_in}
+use Rattle.spec_image.specs.Common.{get, map_values, Directory, Files, map_directory, SpecVersion, file_in}
 use Rattle.spec_image.specs.Common.{without_serials, Pack}
-use Rattle.spec_machine.specs.Jobs.{Input, Channel, Job, State, slot, channel_at, job_at}
+use Rattle.spec_machine.specs.Jobs.{SpecInput, Channel, SpecJob, State, slot, channel_at, job_at}
 use Rattle.spec_machine.specs.Room.{version_of, space, room}
 use Rattle.spec_machine.specs.Sessions.{list}
 use Rattle.spec_machine.specs.Step.{step}
@@ -71,17 +71,17 @@ map_slots f g [] h = refl
 map_slots f g (None ∷ xs) h = ap (λ zs. None ∷ zs) (map_slots f g xs (λ n x e. h (suc n) x e))
 map_slots f g (Some y ∷ xs) h = λ i. Some (h zero y refl i) ∷ map_slots f g xs (λ n x e. h (suc n) x e) i
 
-module _ (f g : ℕ → ℕ) (s : State) (alike : (v : Version) → Exists s v → f v.serial ≡ g v.serial) where
-  same_version : (v : Version) → Exists s v → re_version f v ≡ re_version g v
+module _ (f g : ℕ → ℕ) (s : State) (alike : (v : SpecVersion) → Exists s v → f v.serial ≡ g v.serial) where
+  same_version : (v : SpecVersion) → Exists s v → re_version f v ≡ re_version g v
   same_version v there = λ i. record { file = v.file; serial = alike v there i }
 
-  same_names : (ppn : ℕ) (d : Directory Version) → get s.files ppn ≡ Some d
+  same_names : (ppn : ℕ) (d : Directory SpecVersion) → get s.files ppn ≡ Some d
       → map_values (re_version f) d.files ≡ map_values (re_version g) d.files
   same_names ppn d is = same_map name_total name_exact _ _
       (λ name. get-map_values name_total (re_version f) d.files name ∙ by_name name (get d.files name) refl
       ∙ sym (get-map_values name_total (re_version g) d.files name))
     where
-      by_name : (name : FileName) (o : Option Version) → get d.files name ≡ o
+      by_name : (name : FileName) (o : Option SpecVersion) → get d.files name ≡ o
           → option_map (re_version f) o ≡ option_map (re_version g) o
       by_name name None e = refl
       by_name name (Some v) e = ap Some
@@ -92,19 +92,19 @@ module _ (f g : ℕ → ℕ) (s : State) (alike : (v : Version) → Exists s v �
       get-map_values nat_cmp_total (map_directory (re_version f)) s.files ppn ∙ by_ppn ppn (get s.files ppn) refl
       ∙ sym (get-map_values nat_cmp_total (map_directory (re_version g)) s.files ppn))
     where
-      by_ppn : (ppn : ℕ) (o : Option (Directory Version)) → get s.files ppn ≡ o
+      by_ppn : (ppn : ℕ) (o : Option (Directory SpecVersion)) → get s.files ppn ≡ o
           → option_map (map_directory (re_version f)) o ≡ option_map (map_directory (re_version g)) o
       by_ppn ppn None e = refl
       by_ppn ppn (Some d) e = λ i.
           Some (record { protection = d.protection; quota = d.quota; files = same_names ppn d e i })
 
-  same_input : (n ch : ℕ) (o : Option Input) → ((v : Version) → option_map (λ (i : Input). i.version) o ≡ Some v
+  same_input : (n ch : ℕ) (o : Option SpecInput) → ((v : SpecVersion) → option_map (λ (i : SpecInput). i.version) o ≡ Some v
       → Exists s v) → option_map (re_input f) o ≡ option_map (re_input g) o
   same_input n ch None h = refl
   same_input n ch (Some x) h = λ i.
       Some (record { place = x.place; version = same_version x.version (h x.version refl) i; next = x.next })
 
-  same_channel : (n : ℕ) (job : Job) → job_at s n ≡ Some job → (ch : ℕ) (c : Channel) → channel_at job ch ≡ Some c
+  same_channel : (n : ℕ) (job : SpecJob) → job_at s n ≡ Some job → (ch : ℕ) (c : Channel) → channel_at job ch ≡ Some c
       → re_channel f c ≡ re_channel g c
   same_channel n job there ch c is =
       let input = same_input n ch c.input (λ v e. inr (n, ch, ap (version_for ch) there ∙ ap version_of is ∙ e)) in
@@ -117,7 +117,7 @@ module _ (f g : ℕ → ℕ) (s : State) (alike : (v : Version) → Exists s v �
         output = c.output;
       }
 
-  same_job : (n : ℕ) (job : Job) → job_at s n ≡ Some job → re_job f job ≡ re_job g job
+  same_job : (n : ℕ) (job : SpecJob) → job_at s n ≡ Some job → re_job f job ≡ re_job g job
   same_job n job there = ap (λ channels. record job { channels = channels })
       (map_slots (re_channel f) (re_channel g) job.channels (same_channel n job there))
 
@@ -130,20 +130,20 @@ holds_re : (f : ℕ → ℕ) (s : State) (n ch : ℕ)
     → holds_at (re_state f s) n ch ≡ option_map (re_version f) (holds_at s n ch)
 holds_re f s n ch = ap (version_for ch) (job-re f s n) ∙ by_job (job_at s n)
   where
-    by_job : (o : Option Job) → version_for ch (option_map (re_job f) o) ≡ option_map (re_version f) (version_for ch o)
+    by_job : (o : Option SpecJob) → version_for ch (option_map (re_job f) o) ≡ option_map (re_version f) (version_for ch o)
     by_job None = refl
     by_job (Some job) = ap version_of (channel-re f job ch) ∙ version-re f (channel_at job ch)
 
-exists_re : (f : ℕ → ℕ) (s : State) (v : Version) → Exists s v → Exists (re_state f s) (re_version f v)
+exists_re : (f : ℕ → ℕ) (s : State) (v : SpecVersion) → Exists s v → Exists (re_state f s) (re_version f v)
 exists_re f s v (inl at) = inl (at.0, file-re f s.files at.0 ∙ ap (option_map (re_version f)) at.1)
 exists_re f s v (inr at) = inr (at.0, at.1, holds_re f s at.0 at.1 ∙ ap (option_map (re_version f)) at.2)
 
--- Two states that differ in their serials alone.
+-- Two states that differ only in their serials.
 
 abbrev pub Related : State → State → Type 0
 Related s t = (f : ℕ → ℕ) × Exact f × (t ≡ re_state f s)
 
--- the same serials, but that a fresh one goes to a fresh one
+-- the same serials, except that a fresh one goes to a fresh one
 module _ (f : ℕ → ℕ) (exact : Exact f) (s : State) (a b : ℕ) (fresh : IsFresh s a)
     (fresh' : IsFresh (re_state f s) b) where
   abbrev sent : ℕ → ℕ
@@ -152,7 +152,7 @@ module _ (f : ℕ → ℕ) (exact : Exact f) (s : State) (a b : ℕ) (fresh : Is
   sent-exact : Exact sent
   sent-exact x y e = exact x y (swap-exact (f a) b (f x) (f y) e)
 
-  sent-alike : (v : Version) → Exists s v → f v.serial ≡ sent v.serial
+  sent-alike : (v : SpecVersion) → Exists s v → f v.serial ≡ sent v.serial
   sent-alike v there = sym (swap-other (f a) b (f v.serial)
       (apart (f v.serial) (f a) (λ e. fresh_is_new s a fresh v there (exact v.serial a e)))
       (apart (f v.serial) b (λ e. fresh_is_new (re_state f s) b fresh' (re_version f v) (exists_re f s v there) e)))
@@ -182,7 +182,7 @@ related_step pack s t u w event one other r p q =
 pub itself_related : (s : State) → Related s s
 itself_related s = (λ x. x, (λ a b e. e), sym (no_change))
   where
-    id_input : (o : Option Input) → option_map (re_input (λ x. x)) o ≡ o
+    id_input : (o : Option SpecInput) → option_map (re_input (λ x. x)) o ≡ o
     id_input None = refl
     id_input (Some x) = refl
 
@@ -199,21 +199,21 @@ itself_related s = (λ x. x, (λ a b e. e), sym (no_change))
           output = c.output;
         }) ∷ id_channels cs i
 
-    id_jobs : (js : List (Option Job)) → map (option_map (re_job (λ x. x))) js ≡ js
+    id_jobs : (js : List (Option SpecJob)) → map (option_map (re_job (λ x. x))) js ≡ js
     id_jobs [] = refl
     id_jobs (None ∷ js) = ap (λ zs. None ∷ zs) (id_jobs js)
     id_jobs (Some job ∷ js) = λ i.
         Some (record { ppn = job.ppn; core = job.core; channels = id_channels job.channels i }) ∷ id_jobs js i
 
-    id_files : (files : Files Version) → re_files (λ x. x) files ≡ files
+    id_files : (files : Files SpecVersion) → re_files (λ x. x) files ≡ files
     id_files files = same_map nat_cmp_total nat_cmp-IsAntisymmetric _ _
         (λ ppn. get-map_values nat_cmp_total (map_directory (re_version (λ x. x))) files ppn ∙ by_ppn (get files ppn))
       where
-        by_name : (o : Option Version) → option_map (re_version (λ x. x)) o ≡ o
+        by_name : (o : Option SpecVersion) → option_map (re_version (λ x. x)) o ≡ o
         by_name None = refl
         by_name (Some v) = refl
 
-        by_ppn : (o : Option (Directory Version)) → option_map (map_directory (re_version (λ x. x))) o ≡ o
+        by_ppn : (o : Option (Directory SpecVersion)) → option_map (map_directory (re_version (λ x. x))) o ≡ o
         by_ppn None = refl
         by_ppn (Some d) = λ i. Some (record {
           protection = d.protection;
@@ -239,17 +239,17 @@ related_runs pack s t u w (event ∷ events) (a ∷ one) (b ∷ other) r p q =
     let k = related_runs pack p.0 q.0 u w events one other h.1 p.2 q.2 in
     ((λ i. h.0 i ∷ k.0 i), k.1)
 
-files_re : (f : ℕ → ℕ) (files : Files Version) → without_serials (re_files f files) ≡ without_serials files
+files_re : (f : ℕ → ℕ) (files : Files SpecVersion) → without_serials (re_files f files) ≡ without_serials files
 files_re f files = map_values-map_values nat_cmp_total (map_directory (re_version f))
-    (map_directory (λ (v : Version). v.file)) files ∙ alike
+    (map_directory (λ (v : SpecVersion). v.file)) files ∙ alike
   where
-    alike : map_values (λ d. map_directory (λ (v : Version). v.file) (map_directory (re_version f) d)) files
+    alike : map_values (λ d. map_directory (λ (v : SpecVersion). v.file) (map_directory (re_version f) d)) files
         ≡ without_serials files
     alike = ap (λ h. map_values h files)
         (λ i d. record {
           protection = d.protection;
           quota = d.quota;
-          files = map_values-map_values name_total (re_version f) (λ (v : Version). v.file) d.files i;
+          files = map_values-map_values name_total (re_version f) (λ (v : SpecVersion). v.file) d.files i;
         })
 
 pub related_shown : (pack : Pack) (s t : State) → Related s t → (without_serials s.files ≡ without_serials t.files)

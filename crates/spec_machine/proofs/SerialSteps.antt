@@ -4,16 +4,16 @@ use Rattle.std.proofs.Common.{ap, ◌∙◌, option_map}
 use Rattle.std.specs.Prelude.{nat_lt, nat_le, Ok, Err}
 use Rattle.words36.specs.declared.moment.Moment.{Moment}
 use Rattle.words36.specs.declared.names.FileName.{FileName}
-use Rattle.spec_image.specs.Common.{get, entries, map_values, Directory, Files, map_directory, Version, Pack}
-use Rattle.spec_machine.specs.Jobs.{Channel, Job, State, channel_at, job_at, with_job}
-use Rattle.spec_machine.specs.Opening.{opens, sets_up}
-use Rattle.spec_machine.specs.Looking.{lookup}
-use Rattle.spec_machine.specs.Entering.{enter}
-use Rattle.spec_machine.specs.Renaming.{renames}
+use Rattle.spec_image.specs.Common.{get, entries, map_values, Directory, Files, map_directory, SpecVersion, Pack}
+use Rattle.spec_machine.specs.Jobs.{Channel, SpecJob, State, channel_at, job_at, with_job}
+use Rattle.spec_machine.specs.Open.{opens, sets_up}
+use Rattle.spec_machine.specs.Lookup.{lookup}
+use Rattle.spec_machine.specs.Enter.{enter}
+use Rattle.spec_machine.specs.Rename.{renames}
 use Rattle.spec_machine.specs.Inputs.{reads, useti}
 use Rattle.spec_machine.specs.Outputs.{puts, useto}
-use Rattle.spec_machine.specs.Closing.{closes, releases}
-use Rattle.spec_machine.specs.Making.{makes, removes, limits}
+use Rattle.spec_machine.specs.Close.{closes, releases}
+use Rattle.spec_machine.specs.MakeDir.{makes, removes, limits}
 use Rattle.spec_machine.specs.Rights.{may_look, directory_digit}
 use Rattle.spec_machine.specs.Sessions.{login_answer, new_job, deposit_answer, deposit_done, resets, entry, listed}
 use Rattle.spec_machine.specs.Sessions.{list_for, list}
@@ -37,11 +37,11 @@ module _ (f : ℕ → ℕ) where
   abbrev pub re_out : Reply × State → Reply × State
   re_out r = (r.0, re_state f r.1)
 
-  of_job-re : (s : State) (n : ℕ) (r' r : Reply × Job) → r' ≡ on_value (re_job f) r
+  of_job-re : (s : State) (n : ℕ) (r' r : Reply × SpecJob) → r' ≡ on_value (re_job f) r
       → of_job (re_state f s) n r' ≡ re_out (of_job s n r)
   of_job-re s n r' r e = ap (of_job (re_state f s) n) e ∙ (λ i. (r.0, with_job-re f s n r.1 i))
 
-  of_files-re : (s : State) (n : ℕ) (r' r : Reply × (Job × Files Version)) → r' ≡ on_value (re_both f) r
+  of_files-re : (s : State) (n : ℕ) (r' r : Reply × (SpecJob × Files SpecVersion)) → r' ≡ on_value (re_both f) r
       → of_files (re_state f s) n r' ≡ re_out (of_files s n r)
   of_files-re s n r' r e =
       ap (of_files (re_state f s) n) e ∙ (λ i.
@@ -53,18 +53,18 @@ module _ (f : ℕ → ℕ) where
   channel_out s row' row h None = refl
   channel_out s row' row h (Some c) = h c
 
-  at_channel : (s : State) (job : Job) (ch : ℕ) (row' row : Channel → Reply × State)
+  at_channel : (s : State) (job : SpecJob) (ch : ℕ) (row' row : Channel → Reply × State)
       → ((c : Channel) → row' (re_channel f c) ≡ re_out (row c))
       → on_channel (re_state f s) (channel_at (re_job f job) ch) row' ≡ re_out (on_channel s (channel_at job ch) row)
   at_channel s job ch row' row h = ap (λ o. on_channel (re_state f s) o row') (channel-re f job ch)
       ∙ channel_out s row' row h (channel_at job ch)
 
-  job_out : (s : State) (row' row : Job → Reply × State) → ((job : Job) → row' (re_job f job) ≡ re_out (row job))
-      → (o : Option Job) → on_job (re_state f s) (option_map (re_job f) o) row' ≡ re_out (on_job s o row)
+  job_out : (s : State) (row' row : SpecJob → Reply × State) → ((job : SpecJob) → row' (re_job f job) ≡ re_out (row job))
+      → (o : Option SpecJob) → on_job (re_state f s) (option_map (re_job f) o) row' ≡ re_out (on_job s o row)
   job_out s row' row h None = refl
   job_out s row' row h (Some job) = h job
 
-  at_job : (s : State) (n : ℕ) (row' row : Job → Reply × State) → ((job : Job) → row' (re_job f job) ≡ re_out (row job))
+  at_job : (s : State) (n : ℕ) (row' row : SpecJob → Reply × State) → ((job : SpecJob) → row' (re_job f job) ≡ re_out (row job))
       → on_job (re_state f s) (job_at (re_state f s) n) row' ≡ re_out (on_job s (job_at s n) row)
   at_job s n row' row h = ap (λ o. on_job (re_state f s) o row') (job-re f s n) ∙ job_out s row' row h (job_at s n)
 
@@ -79,7 +79,7 @@ module _ (f : ℕ → ℕ) where
   open_out false s r' r e = refl
 
   module _ (exact : (a b : ℕ) → f a ≡ f b → a ≡ b) (pack : Pack) (serial : ℕ) (s : State) where
-    call-re : (n : ℕ) (job : Job) (call : Call) (moment : Moment)
+    call-re : (n : ℕ) (job : SpecJob) (call : Call) (moment : Moment)
         → call_of pack (f serial) (re_state f s) n (re_job f job) call moment
         ≡ re_out (call_of pack serial s n job call moment)
     call-re n job (Open ch a) moment = open_out (nat_le ch 15) s _ _
@@ -127,12 +127,12 @@ module _ (f : ℕ → ℕ) where
 
   -- The list of a directory.
 
-  entry_map : (es : List (FileName × Version))
-      → map entry (map (λ (e : FileName × Version). (e.0, re_version f e.1)) es) ≡ map entry es
+  entry_map : (es : List (FileName × SpecVersion))
+      → map entry (map (λ (e : FileName × SpecVersion). (e.0, re_version f e.1)) es) ≡ map entry es
   entry_map [] = refl
   entry_map (e ∷ es) = ap (λ zs. entry e ∷ zs) (entry_map es)
 
-  listed_re : (job : Job) (owner : ℕ) (o : Option (Directory Version))
+  listed_re : (job : SpecJob) (owner : ℕ) (o : Option (Directory SpecVersion))
       → listed (re_job f job) owner (option_map (map_directory (re_version f)) o) ≡ listed job owner o
   listed_re job owner None = refl
   listed_re job owner (Some d) =
@@ -141,7 +141,7 @@ module _ (f : ℕ → ℕ) where
       ∙ entry_map (entries d.files) in
       λ i. if may_look (directory_digit d.protection job.ppn owner) then Ok (same i) else Err (Refused 2)
 
-  for_re : (s : State) (owner : ℕ) (o : Option Job) → list_for (re_state f s) (option_map (re_job f) o) owner
+  for_re : (s : State) (owner : ℕ) (o : Option SpecJob) → list_for (re_state f s) (option_map (re_job f) o) owner
       ≡ list_for s o owner
   for_re s owner None = refl
   for_re s owner (Some job) = ap (listed (re_job f job) owner) (get-re f s.files owner)

@@ -9,7 +9,7 @@ use Rattle.spec_image.proofs.Common.{all_append, all_left, all_right, some_same}
 pub none_some : {X : Type 0} {x : X} → None ≡ Some x → ⊥
 none_some e = cc
 
--- What a slot holds afterwards.
+-- What is in a slot afterwards.
 
 pub slot-set_same : {X : Type 0} (xs : List (Option X)) (n : ℕ) (x y : X) → slot xs n ≡ Some y
     → slot (slice_set xs n (Some x)) n ≡ Some x
@@ -25,7 +25,7 @@ slot-set_other (z ∷ xs) zero (suc m) x h = refl
 slot-set_other (z ∷ xs) (suc n) zero x h = refl
 slot-set_other (z ∷ xs) (suc n) (suc m) x h = slot-set_other xs n m x (λ e. h (ap suc e))
 
--- a slot that is set to what it holds
+-- a slot that is set to what is in it
 pub set-slot : {X : Type 0} (xs : List (Option X)) (n : ℕ) (x : X) → slot xs n ≡ Some x → slice_set xs n (Some x) ≡ xs
 set-slot [] n x e = refl
 set-slot (z ∷ xs) zero x e = ap (λ w. w ∷ xs) (sym e)
@@ -86,7 +86,7 @@ slot-empty zero n = refl
 slot-empty (suc k) zero = refl
 slot-empty (suc k) (suc n) = slot-empty k n
 
--- what holds of each slot that is full holds of each of the list
+-- what holds for each slot that is full holds for each of the list
 pub all_slots : {X : Type 0} (P : Option X → Type 0) (xs : List (Option X)) → P None
     → ((n : ℕ) (x : X) → slot xs n ≡ Some x → P (Some x)) → AllByRecursion P xs
 all_slots P [] none h = tt

@@ -1,18 +1,18 @@
--- Each event goes on to a sound state.
+-- Each event leads to a sound state.
 use Rattle.std.proofs.Common.{◌≡◌, ℕ, Bool, true, false, if◌then◌else◌, Option, Some, None, refl, sym, subst, inl}
 use Rattle.std.specs.Prelude.{slice_set, nat_lt, nat_le}
 use Rattle.words36.specs.declared.moment.Moment.{Moment}
-use Rattle.spec_image.specs.Common.{insert, remove, Version, Pack, files_limited}
-use Rattle.spec_machine.specs.Jobs.{Channel, Job, State, channel_at, job_at, with_channel}
+use Rattle.spec_image.specs.Common.{insert, remove, SpecVersion, Pack, files_limited}
+use Rattle.spec_machine.specs.Jobs.{Channel, SpecJob, State, channel_at, job_at, with_channel}
 use Rattle.spec_machine.specs.Outcomes.{stopped_in, refused_at}
-use Rattle.spec_machine.specs.Opening.{opens}
+use Rattle.spec_machine.specs.Open.{opens}
 use Rattle.spec_machine.specs.Inputs.{in_answer, useti_answer}
 use Rattle.spec_machine.specs.Outputs.{useto_answer}
-use Rattle.spec_machine.specs.Closing.{close_answer, close_done, output_put, core_closed, files_closed, closes}
-use Rattle.spec_machine.specs.Closing.{releases}
-use Rattle.spec_machine.specs.Renaming.{renames, rename_answer, rename_done, files_renamed}
-use Rattle.spec_machine.specs.Making.{makes, make_answer, removes, remove_answer, owner_at, directory_made, limits}
-use Rattle.spec_machine.specs.Making.{limit_answer, quota_at}
+use Rattle.spec_machine.specs.Close.{close_answer, close_done, output_put, core_closed, files_closed, closes}
+use Rattle.spec_machine.specs.Close.{releases}
+use Rattle.spec_machine.specs.Rename.{renames, rename_answer, rename_done, files_renamed}
+use Rattle.spec_machine.specs.MakeDir.{makes, make_answer, removes, remove_answer, owner_at, directory_made, limits}
+use Rattle.spec_machine.specs.MakeDir.{limit_answer, quota_at}
 use Rattle.spec_machine.specs.Sessions.{login_answer, new_job, deposit_answer, deposit_done}
 use Rattle.spec_machine.specs.Step.{step, last_date, on_job, on_channel, of_job, of_files, call_of}
 use Rattle.spec_machine.specs.Runs.{IsFresh}
@@ -32,16 +32,16 @@ use Rattle.spec_machine.proofs.SoundLaws.{sound_goes}
 use Rattle.spec_machine.proofs.SoundSteps.{make_needs, blank, would_be, like_itself, like_at, same_moved}
 use Rattle.spec_machine.proofs.SoundSteps.{same_input_at, good_row, good_stopped, good_refused, good_open, good_ring}
 use Rattle.spec_machine.proofs.SoundSteps.{good_out, good_lookup, good_enter}
-use Rattle.spec_machine.proofs.ClosingSteps.{would_be_serial, closes_goes, releases_goes}
+use Rattle.spec_machine.proofs.CloseSteps.{would_be_serial, closes_goes, releases_goes}
 use Rattle.spec_machine.proofs.RemovalSteps.{renamed_goes, removed_goes, limited_goes}
 
 abbrev pub Going : ℕ → State → State → Type 0
-Going serial s s' = (v : Version) × (n : ℕ) × (ch : ℕ) × (v.serial ≡ serial) × Goes s s' v n ch
+Going serial s s' = (v : SpecVersion) × (n : ℕ) × (ch : ℕ) × (v.serial ≡ serial) × Goes s s' v n ch
 
 nowhere : (serial : ℕ) (s : State) → Going serial s s
 nowhere serial s = (blank serial, 0, 0, refl, goes_nowhere s (blank serial) 0 0)
 
-by_job : (serial : ℕ) (s : State) (n ch : ℕ) (job : Job) → GoodJob s (blank serial) n ch job
+by_job : (serial : ℕ) (s : State) (n ch : ℕ) (job : SpecJob) → GoodJob s (blank serial) n ch job
     → Going serial s (record s { jobs = slice_set s.jobs n (Some job) })
 by_job serial s n ch job good = (blank serial, n, ch, refl, goes_job s (blank serial) n ch job good)
 
@@ -50,7 +50,7 @@ on_channel_goes : (serial : ℕ) (s : State) (row : Channel → Reply × State) 
 on_channel_goes serial s row None h = nowhere serial s
 on_channel_goes serial s row (Some c) h = h c refl
 
-module _ (pack : Pack) (serial : ℕ) (s : State) (sound : IsSound s) (n : ℕ) (job : Job) (there : job_at s n
+module _ (pack : Pack) (serial : ℕ) (s : State) (sound : IsSound s) (n : ℕ) (job : SpecJob) (there : job_at s n
     ≡ Some job) where
   rename_goes : (ch : ℕ) (c : Channel) (e : ℕ) → channel_at job ch ≡ Some c
       → Going serial s (of_files s n (renames pack s job ch c e)).1
@@ -153,8 +153,8 @@ module _ (pack : Pack) (serial : ℕ) (s : State) (sound : IsSound s) (n : ℕ) 
   call_goes (DeleteDir e) moment = remove_goes e
   call_goes (Quota e) moment = limit_goes e
 
-on_job_goes : (serial : ℕ) (s : State) (row : Job → Reply × State) (o : Option Job)
-    → ((job : Job) → o ≡ Some job → Going serial s (row job).1) → Going serial s (on_job s o row).1
+on_job_goes : (serial : ℕ) (s : State) (row : SpecJob → Reply × State) (o : Option SpecJob)
+    → ((job : SpecJob) → o ≡ Some job → Going serial s (row job).1) → Going serial s (on_job s o row).1
 on_job_goes serial s row None h = nowhere serial s
 on_job_goes serial s row (Some job) h = h job refl
 

@@ -1,12 +1,12 @@
--- A state stays sound where an event goes on from it.
+-- A state stays sound after an event.
 use Rattle.std.proofs.Common.{◌≡◌, ℕ, true, false, List, ◌++◌, Option, Some, refl, sym, ap, subst, ◌∙◌, ◌⊎◌, inl, inr}
 use Rattle.std.proofs.Common.{⊎_elim}
 use Rattle.std.specs.Prelude.{◌==◌, ◌&&◌, IsSome, slice_set}
 use Rattle.std.proofs.lemmas.Bool.{eqb-true, eq-eqb}
-use Rattle.spec_image.specs.Common.{get, Files, Place, Version, same_place, file_at}
-use Rattle.spec_machine.specs.Jobs.{Channel, Job, Output, State, is_create, channel_at, job_at, with_channel}
+use Rattle.spec_image.specs.Common.{get, Files, Place, SpecVersion, same_place, file_at}
+use Rattle.spec_machine.specs.Jobs.{Channel, SpecJob, SpecOutput, State, is_create, channel_at, job_at, with_channel}
 use Rattle.spec_machine.specs.Jobs.{all_closed}
-use Rattle.spec_machine.specs.Room.{output_of, version_of, is_claimed, current_versions, held_versions}
+use Rattle.spec_machine.specs.Room.{output_of, version_of, is_claimed, current_versions, pinned_versions}
 use Rattle.spec_machine.specs.Runs.{IsFresh}
 use Rattle.spec_machine.specs.Sound.{output_for, writes_at, version_for, Exists, AreAlike, IsSound}
 use Rattle.spec_machine.proofs.SlotLaws.{slot-set_cases, slot-empty}
@@ -24,20 +24,20 @@ same_place-equal a b e =
     let x = eqb-true a.name.ext b.name.ext h.1 in
     λ i. record { ppn = p i; name = record { name = n i; ext = x i } }
 
--- How a state goes on from another: the output sides that were there, and perhaps one more, of job n on
--- channel ch, at a place that was free; the versions that were there, and perhaps a new one.
+-- How a state follows from another: the output sides that were there, and perhaps one more, of job n on channel ch, at
+-- a place that was free; the versions that were there, and perhaps a new one.
 
-abbrev pub OldSide : State → ℕ → ℕ → Output → Type 0
-OldSide s m k new = (o : Output) × (writes_at s m k ≡ Some o) × (new.place ≡ o.place) × (new.kind ≡ o.kind)
+abbrev pub OldSide : State → ℕ → ℕ → SpecOutput → Type 0
+OldSide s m k new = (o : SpecOutput) × (writes_at s m k ≡ Some o) × (new.place ≡ o.place) × (new.kind ≡ o.kind)
 
-abbrev pub NewSide : State → ℕ → ℕ → ℕ → ℕ → Output → Type 0
+abbrev pub NewSide : State → ℕ → ℕ → ℕ → ℕ → SpecOutput → Type 0
 NewSide s n ch m k new =
     (m ≡ n) × (k ≡ ch) × (is_claimed s new.place ≡ false)
     × (is_create new.kind ≡ false → IsSome (file_at s.files new.place)) × IsSome (get s.files new.place.ppn)
 
 -- Versions that are alike.
 
-pub alike_same : {v w : Version} → v ≡ w → AreAlike v w
+pub alike_same : {v w : SpecVersion} → v ≡ w → AreAlike v w
 alike_same e = record {
   mode = ap (λ x. x.file.mode) e;
   time = ap (λ x. x.file.time) e;
@@ -45,38 +45,38 @@ alike_same e = record {
   body = ap (λ x. x.file.body) e;
 }
 
-alike_on : {u v w : Version} → AreAlike u v → AreAlike v w → AreAlike u w
+alike_on : {u v w : SpecVersion} → AreAlike u v → AreAlike v w → AreAlike u w
 alike_on a b = record { mode = a.mode ∙ b.mode; time = a.time ∙ b.time; date = a.date ∙ b.date; body = a.body ∙ b.body }
 
-alike_back : {v w : Version} → AreAlike v w → AreAlike w v
+alike_back : {v w : SpecVersion} → AreAlike v w → AreAlike w v
 alike_back a = record { mode = sym a.mode; time = sym a.time; date = sym a.date; body = sym a.body }
 
--- a version that was there, but for its protection
-abbrev pub Known : State → Version → Type 0
-Known s w = (u : Version) × Exists s u × (u.serial ≡ w.serial) × AreAlike u w
+-- a version that was there, except for its protection
+abbrev pub Known : State → SpecVersion → Type 0
+Known s w = (u : SpecVersion) × Exists s u × (u.serial ≡ w.serial) × AreAlike u w
 
-pub known : (s : State) (w : Version) → Exists s w → Known s w
+pub known : (s : State) (w : SpecVersion) → Exists s w → Known s w
 known s w there = (w, there, refl, alike_same refl)
 
-pub record Goes (s s' : State) (v : Version) (n ch : ℕ) : Type 0 where
-  pub writes : (m k : ℕ) (o : Output) → writes_at s' m k ≡ Some o → OldSide s m k o ⊎ NewSide s n ch m k o
-  pub versions : (w : Version) → Exists s' w → Known s w ⊎ (w ≡ v)
-  -- what an output side stands for stays
-  pub stays : (m k : ℕ) (o : Output) → writes_at s' m k ≡ Some o → IsSome (file_at s.files o.place)
+pub record Goes (s s' : State) (v : SpecVersion) (n ch : ℕ) : Type 0 where
+  pub writes : (m k : ℕ) (o : SpecOutput) → writes_at s' m k ≡ Some o → OldSide s m k o ⊎ NewSide s n ch m k o
+  pub versions : (w : SpecVersion) → Exists s' w → Known s w ⊎ (w ≡ v)
+  -- a file at an output side's place stays
+  pub stays : (m k : ℕ) (o : SpecOutput) → writes_at s' m k ≡ Some o → IsSome (file_at s.files o.place)
       → IsSome (file_at s'.files o.place)
-  pub keeps : (m k : ℕ) (o : Output) → writes_at s' m k ≡ Some o → IsSome (get s.files o.place.ppn)
+  pub keeps : (m k : ℕ) (o : SpecOutput) → writes_at s' m k ≡ Some o → IsSome (get s.files o.place.ppn)
       → IsSome (get s'.files o.place.ppn)
 
--- a version of a fresh serial is none that exists
-pub fresh_is_new : (s : State) (serial : ℕ) → IsFresh s serial → (w : Version) → Exists s w → w.serial ≡ serial → ⊥
+-- a version of a fresh serial is one that doesn't exist
+pub fresh_is_new : (s : State) (serial : ℕ) → IsFresh s serial → (w : SpecVersion) → Exists s w → w.serial ≡ serial → ⊥
 fresh_is_new s serial fresh w there e =
     let h = version_of_all s (λ v. (v.serial == serial) ≡ false)
-    (none_passes (λ v. v.serial == serial) (current_versions s ++ held_versions s) fresh) w there in
+    (none_passes (λ v. v.serial == serial) (current_versions s ++ pinned_versions s) fresh) w there in
     let g = eq-eqb w.serial serial e in
     let wrong = sym h ∙ g in cc
 
-module _ (s s' : State) (v : Version) (n ch : ℕ) (sound : IsSound s) (goes : Goes s s' v n ch) where
-  single_on : (a b x y : ℕ) (o p : Output) → OldSide s a x o ⊎ NewSide s n ch a x o → OldSide s b y p
+module _ (s s' : State) (v : SpecVersion) (n ch : ℕ) (sound : IsSound s) (goes : Goes s s' v n ch) where
+  single_on : (a b x y : ℕ) (o p : SpecOutput) → OldSide s a x o ⊎ NewSide s n ch a x o → OldSide s b y p
       ⊎ NewSide s n ch b y p → same_place o.place p.place ≡ true → (a ≡ b) × (x ≡ y)
   single_on a b x y o p (inl old) (inl was) e =
       sound.single a b x y old.0 was.0 old.1 was.1 (ap (λ l. same_place l was.0.place) (sym old.2)
@@ -91,18 +91,18 @@ module _ (s s' : State) (v : Version) (n ch : ℕ) (sound : IsSound s) (goes : G
       ∙ ap (λ l. same_place l p.place) (sym here) ∙ e in cc
   single_on a b x y o p (inr new) (inr also) e = (new.0 ∙ sym also.0, new.1 ∙ sym also.1)
 
-  present_on : (a x : ℕ) (o : Output) → OldSide s a x o ⊎ NewSide s n ch a x o → is_create o.kind ≡ false
+  present_on : (a x : ℕ) (o : SpecOutput) → OldSide s a x o ⊎ NewSide s n ch a x o → is_create o.kind ≡ false
       → IsSome (file_at s.files o.place)
   present_on a x o (inl old) e = subst (λ l. IsSome (file_at s.files l)) (sym old.2)
       (sound.present a x old.0 old.1 (ap is_create (sym old.3) ∙ e))
   present_on a x o (inr new) e = new.3 e
 
-  housed_on : (a x : ℕ) (o : Output) → OldSide s a x o ⊎ NewSide s n ch a x o → IsSome (get s.files o.place.ppn)
+  housed_on : (a x : ℕ) (o : SpecOutput) → OldSide s a x o ⊎ NewSide s n ch a x o → IsSome (get s.files o.place.ppn)
   housed_on a x o (inl old) = subst (λ (l : Place). IsSome (get s.files l.ppn)) (sym old.2)
       (sound.housed a x old.0 old.1)
   housed_on a x o (inr new) = new.4
 
-  serials_on : (w u : Version) → IsFresh s v.serial → Known s w ⊎ (w ≡ v) → Known s u ⊎ (u ≡ v) → w.serial ≡ u.serial
+  serials_on : (w u : SpecVersion) → IsFresh s v.serial → Known s w ⊎ (w ≡ v) → Known s u ⊎ (u ≡ v) → w.serial ≡ u.serial
       → AreAlike w u
   serials_on w u fresh (inl a) (inl b) e = alike_on (alike_back a.3)
       (alike_on (sound.serials a.0 b.0 a.1 b.1 (a.2 ∙ e ∙ sym b.2)) b.3)
@@ -122,21 +122,21 @@ module _ (s s' : State) (v : Version) (n ch : ℕ) (sound : IsSound s) (goes : G
 
 -- A job's new record.
 
-pub record GoodJob (s : State) (v : Version) (n ch : ℕ) (job : Job) : Type 0 where
-  pub writes : (k : ℕ) (o : Output) → output_of (channel_at job k) ≡ Some o → OldSide s n k o ⊎ NewSide s n ch n k o
-  pub versions : (k : ℕ) (w : Version) → version_of (channel_at job k) ≡ Some w → Exists s w ⊎ (w ≡ v)
+pub record GoodJob (s : State) (v : SpecVersion) (n ch : ℕ) (job : SpecJob) : Type 0 where
+  pub writes : (k : ℕ) (o : SpecOutput) → output_of (channel_at job k) ≡ Some o → OldSide s n k o ⊎ NewSide s n ch n k o
+  pub versions : (k : ℕ) (w : SpecVersion) → version_of (channel_at job k) ≡ Some w → Exists s w ⊎ (w ≡ v)
 
-pub good_self : (s : State) (v : Version) (n ch : ℕ) (job : Job) → job_at s n ≡ Some job → (core : List ℕ)
+pub good_self : (s : State) (v : SpecVersion) (n ch : ℕ) (job : SpecJob) → job_at s n ≡ Some job → (core : List ℕ)
     → GoodJob s v n ch (record job { core = core })
 good_self s v n ch job there core = record {
   writes = λ k o h. inl (o, ap (output_for k) there ∙ h, refl, refl);
   versions = λ k w h. inl (inr (n, k, ap (version_for k) there ∙ h));
 }
 
-pub good_channel : (s : State) (v : Version) (n ch : ℕ) (job : Job) → job_at s n ≡ Some job
+pub good_channel : (s : State) (v : SpecVersion) (n ch : ℕ) (job : SpecJob) → job_at s n ≡ Some job
     → (core : List ℕ) (x : Option Channel)
-    → ((o : Output) → output_of x ≡ Some o → OldSide s n ch o ⊎ NewSide s n ch n ch o)
-    → ((w : Version) → version_of x ≡ Some w → Exists s w ⊎ (w ≡ v))
+    → ((o : SpecOutput) → output_of x ≡ Some o → OldSide s n ch o ⊎ NewSide s n ch n ch o)
+    → ((w : SpecVersion) → version_of x ≡ Some w → Exists s w ⊎ (w ≡ v))
     → GoodJob s v n ch (with_channel (record job { core = core }) ch x)
 good_channel s v n ch job there core x sides holds = record {
   writes = λ k o h. ⊎_elim
@@ -151,21 +151,21 @@ good_channel s v n ch job there core x sides holds = record {
 }
 
 -- a job that has all its channels closed
-pub good_closed : (s : State) (v : Version) (n ch ppn : ℕ) (core : List ℕ)
+pub good_closed : (s : State) (v : SpecVersion) (n ch ppn : ℕ) (core : List ℕ)
     → GoodJob s v n ch (record { ppn = ppn; core = core; channels = all_closed })
 good_closed s v n ch ppn core = record {
   writes = λ k o h. let wrong = ap output_of (sym (slot-empty 16 k)) ∙ h in cc;
   versions = λ k w h. let wrong = ap version_of (sym (slot-empty 16 k)) ∙ h in cc;
 }
 
-module _ (s : State) (v : Version) (n ch : ℕ) (files : Files Version) (job : Job) where
+module _ (s : State) (v : SpecVersion) (n ch : ℕ) (files : Files SpecVersion) (job : SpecJob) where
   -- the state with these files and the job's new record
   abbrev after : State
   after = record s { files = files; jobs = slice_set s.jobs n (Some job) }
 
-  versions_by : ((k : ℕ) (w : Version) → version_of (channel_at job k) ≡ Some w → Exists s w ⊎ (w ≡ v))
-      → ((place : Place) (w : Version) → file_at files place ≡ Some w → Known s w ⊎ (w ≡ v))
-      → (w : Version) → Exists after w → Known s w ⊎ (w ≡ v)
+  versions_by : ((k : ℕ) (w : SpecVersion) → version_of (channel_at job k) ≡ Some w → Exists s w ⊎ (w ≡ v))
+      → ((place : Place) (w : SpecVersion) → file_at files place ≡ Some w → Known s w ⊎ (w ≡ v))
+      → (w : SpecVersion) → Exists after w → Known s w ⊎ (w ≡ v)
   versions_by holds current_versions w there = ⊎_elim (λ at. current_versions at.0 w at.1)
       (λ at. ⊎_elim
       (λ here. ⊎_elim (λ was. inl (known s w was)) (λ new. inr new) (holds at.1 w (ap (version_for at.1) (sym here.0)
@@ -173,8 +173,8 @@ module _ (s : State) (v : Version) (n ch : ℕ) (files : Files Version) (job : J
       (λ other. inl (known s w (inr (at.0, at.1, ap (version_for at.1) (sym other) ∙ at.2))))
       (slot-set_cases s.jobs n at.0 (Some job))) there
 
-  -- with files that have the versions that there were, and perhaps the new one
-  pub goes_with : GoodJob s v n ch job → ((place : Place) (w : Version) → file_at files place ≡ Some w
+  -- with files that have the versions that existed, and perhaps the new one
+  pub goes_with : GoodJob s v n ch job → ((place : Place) (w : SpecVersion) → file_at files place ≡ Some w
       → Exists s w ⊎ (w ≡ v))
       → ((place : Place) → IsSome (file_at s.files place) → IsSome (file_at files place))
       → ((ppn : ℕ) → IsSome (get s.files ppn) → IsSome (get files ppn))
@@ -190,13 +190,13 @@ module _ (s : State) (v : Version) (n ch : ℕ) (files : Files Version) (job : J
     keeps = λ m k o h is. keeps o.place.ppn is;
   }
 
-  -- with the same output sides, and files that have what these stand for
-  pub goes_kept : ((k : ℕ) (o : Output) → output_of (channel_at job k) ≡ Some o → OldSide s n k o)
-      → ((k : ℕ) (w : Version) → version_of (channel_at job k) ≡ Some w → Exists s w)
-      → ((place : Place) (w : Version) → file_at files place ≡ Some w → Known s w)
-      → ((m k : ℕ) (o : Output) → writes_at s m k ≡ Some o → IsSome (file_at s.files o.place)
+  -- with the same output sides, and files that have those at their places
+  pub goes_kept : ((k : ℕ) (o : SpecOutput) → output_of (channel_at job k) ≡ Some o → OldSide s n k o)
+      → ((k : ℕ) (w : SpecVersion) → version_of (channel_at job k) ≡ Some w → Exists s w)
+      → ((place : Place) (w : SpecVersion) → file_at files place ≡ Some w → Known s w)
+      → ((m k : ℕ) (o : SpecOutput) → writes_at s m k ≡ Some o → IsSome (file_at s.files o.place)
       → IsSome (file_at files o.place))
-      → ((m k : ℕ) (o : Output) → writes_at s m k ≡ Some o → IsSome (get s.files o.place.ppn)
+      → ((m k : ℕ) (o : SpecOutput) → writes_at s m k ≡ Some o → IsSome (get s.files o.place.ppn)
       → IsSome (get files o.place.ppn))
       → Goes s after v n ch
   goes_kept sides holds current_versions stays keeps = record {
@@ -210,18 +210,18 @@ module _ (s : State) (v : Version) (n ch : ℕ) (files : Files Version) (job : J
         (keeps m k was.0 was.1 (subst (λ (q : Place). IsSome (get s.files q.ppn)) was.2 is));
   }
     where
-      old : (m k : ℕ) (o : Output) → writes_at after m k ≡ Some o → OldSide s m k o
+      old : (m k : ℕ) (o : SpecOutput) → writes_at after m k ≡ Some o → OldSide s m k o
       old m k o h = ⊎_elim
           (λ here. subst (λ q. OldSide s q k o) (sym here.1) (sides k o (ap (output_for k) (sym here.0) ∙ h)))
           (λ other. (o, ap (output_for k) (sym other) ∙ h, refl, refl)) (slot-set_cases s.jobs n m (Some job))
 
--- nothing but the job's record
-pub goes_job : (s : State) (v : Version) (n ch : ℕ) (job : Job) → GoodJob s v n ch job
+-- only the job's record
+pub goes_job : (s : State) (v : SpecVersion) (n ch : ℕ) (job : SpecJob) → GoodJob s v n ch job
     → Goes s (record s { jobs = slice_set s.jobs n (Some job) }) v n ch
 goes_job s v n ch job good = goes_with s v n ch s.files job good (λ place w is. inl (inl (place, is)))
     (λ place is. is) (λ ppn is. is)
 
-pub goes_nowhere : (s : State) (v : Version) (n ch : ℕ) → Goes s s v n ch
+pub goes_nowhere : (s : State) (v : SpecVersion) (n ch : ℕ) → Goes s s v n ch
 goes_nowhere s v n ch = record {
   writes = λ m k o h. inl (o, h, refl, refl);
   versions = λ w there. inl (known s w there);

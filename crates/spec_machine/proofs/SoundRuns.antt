@@ -1,11 +1,11 @@
--- Every run from a start comes to sound states alone.
+-- Every run from a start comes only to sound states.
 use Rattle.std.proofs.Common.{◌≡◌, ℕ, false, List, [], ◌∷◌, ◌++◌, None, refl, sym, ap, subst, ◌∙◌, ⊎_elim}
 use Rattle.std.specs.List.{AllByRecursion}
 use Rattle.std.specs.Prelude.{◌==◌, flat_map}
 use Rattle.std.proofs.lemmas.Bool.{eq-eqb}
-use Rattle.spec_image.specs.Common.{File, Files, Version, Pack}
+use Rattle.spec_image.specs.Common.{File, Files, SpecVersion, Pack}
 use Rattle.spec_machine.specs.Jobs.{State, job_at, slot, no_jobs}
-use Rattle.spec_machine.specs.Room.{current_versions, held_versions, held_by}
+use Rattle.spec_machine.specs.Room.{current_versions, pinned_versions, pinned_by}
 use Rattle.spec_machine.specs.Runs.{Serving, Broken, Answers, AnswersAll, HaveDistinctSerials, IsStart}
 use Rattle.spec_machine.specs.Sound.{output_for, IsSound}
 use Rattle.spec_machine.specs.declared.call.Event.{Event}
@@ -29,16 +29,16 @@ all_same P Q h [] a = tt
 all_same P Q h (x ∷ xs) a = (h x a.0, all_same P Q h xs a.1)
 
 -- each other one with the serial of v is v
-abbrev Only : List Version → Version → Type 0
+abbrev Only : List SpecVersion → SpecVersion → Type 0
 Only ws v = AllByRecursion (λ w. v.serial ≡ w.serial → v ≡ w) ws
 
-differ : (v w : Version) → (w.serial == v.serial) ≡ false → v.serial ≡ w.serial → v ≡ w
+differ : (v w : SpecVersion) → (w.serial == v.serial) ≡ false → v.serial ≡ w.serial → v ≡ w
 differ v w e same = let wrong = sym e ∙ eq-eqb w.serial v.serial (sym same) in cc
 
-differ_back : (v w : Version) → (w.serial == v.serial) ≡ false → w.serial ≡ v.serial → w ≡ v
+differ_back : (v w : SpecVersion) → (w.serial == v.serial) ≡ false → w.serial ≡ v.serial → w ≡ v
 differ_back v w e same = let wrong = sym e ∙ eq-eqb w.serial v.serial same in cc
 
-each_only : (vs : List Version) → HaveDistinctSerials vs → AllByRecursion (Only vs) vs
+each_only : (vs : List SpecVersion) → HaveDistinctSerials vs → AllByRecursion (Only vs) vs
 each_only [] d = tt
 each_only (v ∷ vs) d =
     let other = none_passes (λ w. w.serial == v.serial) vs d.0 in (
@@ -58,21 +58,21 @@ no_job s e n = ap (λ jobs. slot jobs n) e ∙ slot-empty 65 n
 
 pub start_sound : (found : Files File) (s : State) → IsStart found s → IsSound s
 start_sound found s start =
-    let all : current_versions s ++ held_versions s ≡ current_versions s ++ []
-    = ap (λ jobs. current_versions s ++ flat_map held_by jobs) start.jobs in
-    let distinct : HaveDistinctSerials (current_versions s ++ held_versions s) = subst HaveDistinctSerials
+    let all : current_versions s ++ pinned_versions s ≡ current_versions s ++ []
+    = ap (λ jobs. current_versions s ++ flat_map pinned_by jobs) start.jobs in
+    let distinct : HaveDistinctSerials (current_versions s ++ pinned_versions s) = subst HaveDistinctSerials
     (sym (all ∙ append_none (current_versions s))) start.serials in
     record {
       single = λ n m ch k o p h g e. let wrong = ap (output_for ch) (sym (no_job s start.jobs n)) ∙ h in cc;
       housed = λ n ch o h. let wrong = ap (output_for ch) (sym (no_job s start.jobs n)) ∙ h in cc;
       present = λ n ch o h e. let wrong = ap (output_for ch) (sym (no_job s start.jobs n)) ∙ h in cc;
       serials = λ v w a b e. alike_same (version_of_all s (λ w. v.serial ≡ w.serial
-          → v ≡ w) (version_of_all s (Only (current_versions s ++ held_versions s))
-          (each_only (current_versions s ++ held_versions s) distinct) v a)
+          → v ≡ w) (version_of_all s (Only (current_versions s ++ pinned_versions s))
+          (each_only (current_versions s ++ pinned_versions s) distinct) v a)
           w b e);
     }
   where
-    append_none : (vs : List Version) → vs ++ [] ≡ vs
+    append_none : (vs : List SpecVersion) → vs ++ [] ≡ vs
     append_none [] = refl
     append_none (v ∷ vs) = ap (λ ws. v ∷ ws) (append_none vs)
 

@@ -1,26 +1,27 @@
--- Each row goes on to a sound state.
+-- Each row leads to a sound state.
 use Rattle.std.proofs.Common.{◌≡◌, ℕ, Bool, true, false, if◌then◌else◌, List, Option, Some, None, refl, sym, ap}
 use Rattle.std.proofs.Common.{subst, ◌∙◌, ◌⊎◌, inl, inr, ⊎_elim}
 use Rattle.std.specs.Prelude.{◌+◌, ◌==◌, ◌||◌, not, is_some, is_none, option_map, [], IsSome}
 use Rattle.words36.specs.Common.{left, right}
 use Rattle.words36.specs.declared.moment.Moment.{Moment}
-use Rattle.spec_image.specs.Common.{get, size, Place, Version, file_at, Pack, growth}
+use Rattle.spec_image.specs.Common.{get, size, Place, SpecVersion, file_at, Pack, growth}
 use Rattle.spec_machine.specs.Rights.{may_create, may_look, may_append, may_update, may_supersede}
 use Rattle.spec_machine.specs.Cores.{lies_outside}
-use Rattle.spec_machine.specs.Jobs.{Channel, Job, Input, Output, State, is_create, channel_at, job_at, with_channel}
+use Rattle.spec_machine.specs.Jobs.{Channel, SpecJob, SpecInput, SpecOutput, State, is_create, channel_at, job_at}
+use Rattle.spec_machine.specs.Jobs.{with_channel}
 use Rattle.spec_machine.specs.Room.{output_of, version_of, is_claimed, entry_count, exceeds_room, has_no_room}
 use Rattle.spec_machine.specs.Charges.{exceeds_left, exceeds_limits}
 use Rattle.spec_machine.specs.Outcomes.{settled, clean, stopped_in, refused_at}
-use Rattle.spec_machine.specs.Opening.{opens, open_answer, open_done, ring_answer, sets_up}
-use Rattle.spec_machine.specs.Looking.{lookup, lookup_answer, lookup_done, looked_up, place_at, has_no_directory}
-use Rattle.spec_machine.specs.Looking.{is_absent, directory_digit_at, digit_at}
-use Rattle.spec_machine.specs.Updating.{is_elsewhere, present_cost, update_answer, output_updating, input_updating}
-use Rattle.spec_machine.specs.Entering.{enter, enter_answer, enter_done, begin_answer, create_answer}
-use Rattle.spec_machine.specs.Entering.{supersede_answer, output_opened}
+use Rattle.spec_machine.specs.Open.{opens, open_answer, open_done, ring_answer, sets_up}
+use Rattle.spec_machine.specs.Lookup.{lookup, lookup_answer, lookup_done, looked_up, place_at, has_no_directory}
+use Rattle.spec_machine.specs.Lookup.{is_absent, directory_digit_at, digit_at}
+use Rattle.spec_machine.specs.Update.{is_elsewhere, present_cost, update_answer, output_updating, input_updating}
+use Rattle.spec_machine.specs.Enter.{enter, enter_answer, enter_done, begin_answer, create_answer}
+use Rattle.spec_machine.specs.Enter.{supersede_answer, output_opened}
 use Rattle.spec_machine.specs.Inputs.{moved_on, input_at}
 use Rattle.spec_machine.specs.Outputs.{Outgoing, outgoing, put_on, put_done, output_at, out_answer, out_done, puts}
-use Rattle.spec_machine.specs.Closing.{published}
-use Rattle.spec_machine.specs.Making.{make_answer, is_stranger}
+use Rattle.spec_machine.specs.Close.{published}
+use Rattle.spec_machine.specs.MakeDir.{make_answer, is_stranger}
 use Rattle.spec_machine.specs.Sound.{output_for, version_for, Exists}
 use Rattle.spec_machine.specs.declared.call.Reply.{Reply}
 use Rattle.spec_machine.specs.declared.call.Reply.TheVariants.{Done, Refused, AddressCheck}
@@ -30,9 +31,9 @@ use Rattle.spec_machine.proofs.LookupLaws.{passed_test, is_none_of}
 use Rattle.spec_machine.proofs.SideLaws.{or_false}
 use Rattle.spec_machine.proofs.SoundLaws.{GoodJob, good_self, good_channel}
 
--- What ENTER and MakeDir have seen where they are done.
+-- What ENTER and MakeDir have seen if they are done.
 
-pub enter_needs : (pack : Pack) (s : State) (job : Job) (c : Channel) (e : ℕ) (place : Place)
+pub enter_needs : (pack : Pack) (s : State) (job : SpecJob) (c : Channel) (e : ℕ) (place : Place)
     → enter_answer pack s job c e place ≡ Done
     → (has_no_directory s place ≡ false) × (begin_answer pack s job c.input place ≡ Done)
 enter_needs pack s job c e place done =
@@ -42,7 +43,7 @@ enter_needs pack s job c e place done =
     let f = passed_test (place.name.name == 0) (Refused 0) _ (λ x. cc) d.1 in
     (d.0, f.1)
 
-pub create_needs : (pack : Pack) (s : State) (job : Job) (place : Place) → create_answer pack s job place ≡ Done
+pub create_needs : (pack : Pack) (s : State) (job : SpecJob) (place : Place) → create_answer pack s job place ≡ Done
     → (is_claimed s place ≡ false) × (exceeds_room pack s (1 + growth (entry_count s place.ppn)) ≡ false)
     × (exceeds_left s place.ppn (1 + growth (entry_count s place.ppn)) ≡ false)
 create_needs pack s job place h =
@@ -53,7 +54,7 @@ create_needs pack s job place h =
     let both = or_false (exceeds_room pack s (1 + growth (entry_count s place.ppn))) _ d.0 in
     (b.0, both.0, both.1)
 
-pub supersede_needs : (pack : Pack) (s : State) (job : Job) (place : Place) → supersede_answer pack s job place ≡ Done
+pub supersede_needs : (pack : Pack) (s : State) (job : SpecJob) (place : Place) → supersede_answer pack s job place ≡ Done
     → (is_claimed s place ≡ false) × (has_no_room pack s ≡ false) × (exceeds_left s place.ppn 1 ≡ false)
 supersede_needs pack s job place h =
     let a = passed_test (not (may_look (directory_digit_at s job place)) || not (may_supersede (digit_at s job place)))
@@ -63,7 +64,7 @@ supersede_needs pack s job place h =
     let both = or_false (has_no_room pack s) _ d.0 in
     (b.0, both.0, both.1)
 
-pub update_needs : (pack : Pack) (s : State) (job : Job) (place : Place) → update_answer pack s job place ≡ Done
+pub update_needs : (pack : Pack) (s : State) (job : SpecJob) (place : Place) → update_answer pack s job place ≡ Done
     → (is_absent s place ≡ false) × (is_claimed s place ≡ false)
     × (exceeds_room pack s (present_cost (file_at s.files place)) ≡ false)
     × (exceeds_left s place.ppn (present_cost (file_at s.files place)) ≡ false)
@@ -82,7 +83,7 @@ pub by_presence : (absent : Bool) (new old : Reply) → (if absent then new else
 by_presence true new old h = inl (refl, h)
 by_presence false new old h = inr (refl, h)
 
-pub begin_free : (pack : Pack) (s : State) (job : Job) (input : Option Input) (place : Place)
+pub begin_free : (pack : Pack) (s : State) (job : SpecJob) (input : Option SpecInput) (place : Place)
     → begin_answer pack s job input place ≡ Done → is_claimed s place ≡ false
 begin_free pack s job None place h = ⊎_elim
     (λ new. (create_needs pack s job place new.1).0)
@@ -90,7 +91,7 @@ begin_free pack s job None place h = ⊎_elim
     (by_presence (is_absent s place) (create_answer pack s job place) (supersede_answer pack s job place) h)
 begin_free pack s job (Some i) place h = (update_needs pack s job place h).1
 
-pub make_needs : (pack : Pack) (s : State) (job : Job) (e owner : ℕ) → make_answer pack s job e owner ≡ Done
+pub make_needs : (pack : Pack) (s : State) (job : SpecJob) (e owner : ℕ) → make_answer pack s job e owner ≡ Done
     → (get s.files owner ≡ None) × (exceeds_room pack s (1 + growth (size s.files)) ≡ false)
 make_needs pack s job e owner done =
     let a = passed_test (lies_outside job.core e 2) AddressCheck _ (λ x. cc) done in
@@ -102,11 +103,11 @@ make_needs pack s job e owner done =
 
 -- A version of a serial, of which nothing else is known.
 
-abbrev pub blank : ℕ → Version
+abbrev pub blank : ℕ → SpecVersion
 blank serial = record { file = record { protection = 0; mode = 0; time = 0; date = 0; body = [] }; serial = serial }
 
 -- the version that an output side would publish
-abbrev pub would_be : ℕ → Option Output → Version
+abbrev pub would_be : ℕ → Option SpecOutput → SpecVersion
 would_be serial None = blank serial
 would_be serial (Some o) = published serial o
 
@@ -116,40 +117,40 @@ is_some_there (Some x) e = refl
 
 -- Rows of a channel that is open.
 
-abbrev pub Like : Option Output → Option Output → Type 0
-Like was is = (p : Output) → is ≡ Some p → (o : Output) × (was ≡ Some o) × (p.place ≡ o.place) × (p.kind ≡ o.kind)
+abbrev pub Like : Option SpecOutput → Option SpecOutput → Type 0
+Like was is = (p : SpecOutput) → is ≡ Some p → (o : SpecOutput) × (was ≡ Some o) × (p.place ≡ o.place) × (p.kind ≡ o.kind)
 
-pub like_itself : (o : Option Output) → Like o o
+pub like_itself : (o : Option SpecOutput) → Like o o
 like_itself o p h = (p, h, refl, refl)
 
-pub like_put : (o : Option Output) (words : List ℕ) → Like o (put_on o words)
+pub like_put : (o : Option SpecOutput) (words : List ℕ) → Like o (put_on o words)
 like_put None words p h = let wrong = h in cc
 like_put (Some o) words p h = (
   o,
   refl,
-  ap (λ (x : Output). x.place) (sym (some_same h)),
-  ap (λ (x : Output). x.kind) (sym (some_same h)),
+  ap (λ (x : SpecOutput). x.place) (sym (some_same h)),
+  ap (λ (x : SpecOutput). x.kind) (sym (some_same h)),
 )
 
-pub like_at : (o : Option Output) (n : ℕ) → Like o (output_at o n)
+pub like_at : (o : Option SpecOutput) (n : ℕ) → Like o (output_at o n)
 like_at None n p h = let wrong = h in cc
 like_at (Some o) n p h = (
   o,
   refl,
-  ap (λ (x : Output). x.place) (sym (some_same h)),
-  ap (λ (x : Output). x.kind) (sym (some_same h)),
+  ap (λ (x : SpecOutput). x.place) (sym (some_same h)),
+  ap (λ (x : SpecOutput). x.kind) (sym (some_same h)),
 )
 
-pub same_moved : (i : Option Input) (k : ℕ) → option_map (λ i. i.version) (moved_on i k) ≡ option_map (λ i. i.version) i
+pub same_moved : (i : Option SpecInput) (k : ℕ) → option_map (λ i. i.version) (moved_on i k) ≡ option_map (λ i. i.version) i
 same_moved None k = refl
 same_moved (Some i) k = refl
 
-pub same_input_at : (i : Option Input) (k : ℕ) → option_map (λ i. i.version) (input_at i k)
+pub same_input_at : (i : Option SpecInput) (k : ℕ) → option_map (λ i. i.version) (input_at i k)
     ≡ option_map (λ i. i.version) i
 same_input_at None k = refl
 same_input_at (Some i) k = refl
 
-module _ (s : State) (v : Version) (n : ℕ) (job : Job) (there : job_at s n ≡ Some job) where
+module _ (s : State) (v : SpecVersion) (n : ℕ) (job : SpecJob) (there : job_at s n ≡ Some job) where
   -- a channel that was open, with the sides that it had
   pub good_like : (ch : ℕ) (c d : Channel) (core : List ℕ) → channel_at job ch ≡ Some c → Like c.output d.output
       → version_of (Some d) ≡ version_of (Some c)
@@ -201,7 +202,7 @@ module _ (s : State) (v : Version) (n : ℕ) (job : Job) (there : job_at s n ≡
       settled_by (λ x. GoodJob s v n ch x.1) (out_answer pack s job c a) (out_done job ch c a) (stopped_in job ch c)
       (λ done. good_put ch c (outgoing job c a) is) (λ differs. good_stopped ch c _ is)
 
-  pub good_looked_up : (pack : Pack) (ch : ℕ) (c : Channel) (e : ℕ) (place : Place) (found : Option Version)
+  pub good_looked_up : (pack : Pack) (ch : ℕ) (c : Channel) (e : ℕ) (place : Place) (found : Option SpecVersion)
       → channel_at job ch ≡ Some c → file_at s.files place ≡ found
       → GoodJob s v n ch (looked_up pack job ch c e place found)
   good_looked_up pack ch c e place None is at = good_self s v n ch job there job.core
@@ -219,13 +220,13 @@ module _ (s : State) (v : Version) (n : ℕ) (job : Job) (there : job_at s n ≡
       (λ differs. good_refused ch e _)
 
   -- the side that an ENTER opens
-  updating_side : (place : Place) (digit : ℕ) (w : Version) (b : Bool) → may_update digit ≡ b
+  updating_side : (place : Place) (digit : ℕ) (w : SpecVersion) (b : Bool) → may_update digit ≡ b
       → (output_updating digit place w).place ≡ place
   updating_side place digit w true e = rw e refl
   updating_side place digit w false e = rw e refl
 
-  opened_side : (c : Channel) (e : ℕ) (moment : Moment) (place : Place) (digit : ℕ) (input : Option Input)
-      (found : Option Version) → file_at s.files place ≡ found
+  opened_side : (c : Channel) (e : ℕ) (moment : Moment) (place : Place) (digit : ℕ) (input : Option SpecInput)
+      (found : Option SpecVersion) → file_at s.files place ≡ found
       → ((output_opened job c e moment place digit input found).place ≡ place)
       × (is_create (output_opened job c e moment place digit input found).kind ≡ false → IsSome (file_at s.files place))
   opened_side c e moment place digit input None at = (refl, λ h. let wrong = h in cc)
@@ -235,10 +236,10 @@ module _ (s : State) (v : Version) (n : ℕ) (job : Job) (there : job_at s n ≡
     λ h. ap is_some at,
   )
 
-  -- the version that its input side holds
-  held_updated : (place : Place) (input : Option Input) (found : Option Version) → file_at s.files place ≡ found
-      → ((w : Version) → option_map (λ i. i.version) input ≡ Some w → Exists s w)
-      → (w : Version) → option_map (λ i. i.version) (input_updating input found) ≡ Some w → Exists s w
+  -- the version that its input side pins
+  held_updated : (place : Place) (input : Option SpecInput) (found : Option SpecVersion) → file_at s.files place ≡ found
+      → ((w : SpecVersion) → option_map (λ i. i.version) input ≡ Some w → Exists s w)
+      → (w : SpecVersion) → option_map (λ i. i.version) (input_updating input found) ≡ Some w → Exists s w
   held_updated place None found at was w h = let wrong = h in cc
   held_updated place (Some i) None at was w h = was w h
   held_updated place (Some i) (Some x) at was w h = inl (place, at ∙ h)
@@ -251,12 +252,12 @@ module _ (s : State) (v : Version) (n : ℕ) (job : Job) (there : job_at s n ≡
       let new = output_opened job c e moment place (digit_at s job place) c.input (file_at s.files place) in
       good_channel s v n ch job there _ _
       (λ o h. let same : new ≡ o = some_same h in
-      let at : o.place ≡ place = ap (λ (x : Output). x.place) (sym same) ∙ side.0 in
+      let at : o.place ≡ place = ap (λ (x : SpecOutput). x.place) (sym same) ∙ side.0 in
       inr (
         refl,
         refl,
         ap (is_claimed s) at ∙ free,
-        λ f. subst (λ q. IsSome (file_at s.files q)) (sym at) (side.1 (ap (λ (x : Output). is_create x.kind) same ∙ f)),
+        λ f. subst (λ q. IsSome (file_at s.files q)) (sym at) (side.1 (ap (λ (x : SpecOutput). is_create x.kind) same ∙ f)),
         subst (λ (q : Place). IsSome (get s.files q.ppn)) (sym at) (is_some_there (get s.files place.ppn) housed),
       ))
       (λ w h. inl (held_updated place c.input (file_at s.files place) refl

@@ -1,11 +1,11 @@
--- Laws of one event: an IN depends on its own job alone, what isn't done leaves the files, and no event of
--- another job changes a job's record.
+-- Laws of one event: an IN depends only on its own job, what isn't done leaves the files, and no event of another job
+-- changes a job's record.
 use Rattle.std.proofs.Common.{◌≡◌, ℕ, Bool, true, false, if◌then◌else◌, Option, Some, None, refl, sym, subst, ◌∙◌}
 use Rattle.std.proofs.Common.{◌≢◌}
 use Rattle.std.specs.Prelude.{nat_lt, nat_le}
 use Rattle.words36.specs.declared.moment.Moment.{Moment}
-use Rattle.spec_image.specs.Common.{Files, Version, Pack}
-use Rattle.spec_machine.specs.Jobs.{Channel, Job, State, channel_at, job_at, with_job}
+use Rattle.spec_image.specs.Common.{Files, SpecVersion, Pack}
+use Rattle.spec_machine.specs.Jobs.{Channel, SpecJob, State, channel_at, job_at, with_job}
 use Rattle.spec_machine.specs.Inputs.{reads}
 use Rattle.spec_machine.specs.Outcomes.{settled}
 use Rattle.spec_machine.specs.Step.{step, job_of, last_date, on_job, on_channel, of_job, of_files, call_of}
@@ -26,27 +26,27 @@ use Rattle.spec_machine.proofs.SlotLaws.{slot-set_same, slot-set_other}
 abbrev pub Alike : ℕ → Reply × State → Reply × State → Type 0
 Alike n a b = (a.0 ≡ b.0) × (job_at a.1 n ≡ job_at b.1 n)
 
-alike_of_job : (s t : State) (n : ℕ) (job : Job) → job_at s n ≡ Some job → job_at t n ≡ Some job → (r : Reply × Job)
+alike_of_job : (s t : State) (n : ℕ) (job : SpecJob) → job_at s n ≡ Some job → job_at t n ≡ Some job → (r : Reply × SpecJob)
     → Alike n (of_job s n r) (of_job t n r)
 alike_of_job s t n job e f r = (refl, slot-set_same s.jobs n r.1 job e ∙ sym (slot-set_same t.jobs n r.1 job f))
 
--- a row of the job's record alone
-abbrev own_row : State → ℕ → (Job → ℕ → Channel → Reply × Job) → ℕ → Option Job → Reply × State
+-- a row that changes only the job's record
+abbrev own_row : State → ℕ → (SpecJob → ℕ → Channel → Reply × SpecJob) → ℕ → Option SpecJob → Reply × State
 own_row s n row ch job = on_job s job (λ job. on_channel s (channel_at job ch) (λ c. of_job s n (row job ch c)))
 
-alike_on_channel : (s t : State) (n : ℕ) (job : Job) → job_at s n ≡ Some job → job_at t n ≡ Some job
-    → (row : Channel → Reply × Job) (c : Option Channel)
+alike_on_channel : (s t : State) (n : ℕ) (job : SpecJob) → job_at s n ≡ Some job → job_at t n ≡ Some job
+    → (row : Channel → Reply × SpecJob) (c : Option Channel)
     → Alike n (on_channel s c (λ c. of_job s n (row c))) (on_channel t c (λ c. of_job t n (row c)))
 alike_on_channel s t n job e f row None = (refl, e ∙ sym f)
 alike_on_channel s t n job e f row (Some c) = alike_of_job s t n job e f (row c)
 
-alike_on_job : (s t : State) (n : ℕ) (row : Job → ℕ → Channel → Reply × Job) (ch : ℕ) (job : Option Job)
+alike_on_job : (s t : State) (n : ℕ) (row : SpecJob → ℕ → Channel → Reply × SpecJob) (ch : ℕ) (job : Option SpecJob)
     → job_at s n ≡ job → job_at t n ≡ job → Alike n (own_row s n row ch job) (own_row t n row ch job)
 alike_on_job s t n row ch None e f = (refl, e ∙ sym f)
 alike_on_job s t n row ch (Some job) e f = alike_on_channel s t n job e f (row job ch) (channel_at job ch)
 
 alike_own : (s t : State) (n : ℕ) → job_at s n ≡ job_at t n
-    → (row : Job → ℕ → Channel → Reply × Job) (ch : ℕ) (late : Bool)
+    → (row : SpecJob → ℕ → Channel → Reply × SpecJob) (ch : ℕ) (late : Bool)
     → Alike n (if late then (DateRange, s) else own_row s n row ch (job_at s n)) (if late then (DateRange, t)
     else own_row t n row ch (job_at t n))
 alike_own s t n same row ch true = (refl, same)
@@ -60,9 +60,9 @@ pub in_alike : (pack : Pack) (serial other : ℕ) (s t : State) (n ch a : ℕ) (
 in_alike pack serial other s t n ch a moment same =
     alike_own s t n same (λ job ch c. reads job ch c a) ch (nat_lt (last_date pack.layout) moment.date)
 
--- What isn't done leaves the files as they were.
+-- What isn't done leaves the files unchanged.
 
-kept : {A : Type 0} (files : A → Files Version) (were : Files Version) (reply : Reply) (done : A) (other : Reply → A)
+kept : {A : Type 0} (files : A → Files SpecVersion) (were : Files SpecVersion) (reply : Reply) (done : A) (other : Reply → A)
     → ((r : Reply) → files (other r) ≡ were) → (settled reply done other).0 ≢ Done
     → files (settled reply done other).1 ≡ were
 kept files were reply done other h =
@@ -77,7 +77,7 @@ keeps_on_channel : (s : State) (row : Channel → Reply × State) (c : Option Ch
 keeps_on_channel s row None h differs = refl
 keeps_on_channel s row (Some c) h differs = h c differs
 
-keeps_of_files : (s : State) (n : ℕ) (reply : Reply) (done : Job × Files Version) (other : Reply → Job × Files Version)
+keeps_of_files : (s : State) (n : ℕ) (reply : Reply) (done : SpecJob × Files SpecVersion) (other : Reply → SpecJob × Files SpecVersion)
     → ((r : Reply) → (other r).1 ≡ s.files) → Keeps s (of_files s n (settled reply done other))
 keeps_of_files s n reply done other h differs = kept (λ x. x.1) s.files reply done other h differs
 
@@ -86,11 +86,11 @@ keeps_if : (s : State) (b : Bool) (reply : Reply) (r : Reply × State) → Keeps
 keeps_if s true reply r h differs = refl
 keeps_if s false reply r h differs = h differs
 
-keeps_open : (s : State) (b : Bool) (n : ℕ) (r : Reply × Job) → Keeps s (if b then of_job s n r else (NoChannel, s))
+keeps_open : (s : State) (b : Bool) (n : ℕ) (r : Reply × SpecJob) → Keeps s (if b then of_job s n r else (NoChannel, s))
 keeps_open s true n r differs = refl
 keeps_open s false n r differs = refl
 
-keeps_call : (pack : Pack) (serial : ℕ) (s : State) (n : ℕ) (job : Job) (call : Call) (moment : Moment)
+keeps_call : (pack : Pack) (serial : ℕ) (s : State) (n : ℕ) (job : SpecJob) (call : Call) (moment : Moment)
     → Keeps s (call_of pack serial s n job call moment)
 keeps_call pack serial s n job (Open ch a) moment = keeps_open s (nat_le ch 15) n _
 keeps_call pack serial s n job (Inbuf ch k) moment = keeps_on_channel s _ (channel_at job ch) (λ c differs. refl)
@@ -113,7 +113,7 @@ keeps_call pack serial s n job (MakeDir e) moment = keeps_of_files s n _ _ _ (λ
 keeps_call pack serial s n job (DeleteDir e) moment = keeps_of_files s n _ _ _ (λ r. refl)
 keeps_call pack serial s n job (Quota e) moment = keeps_of_files s n _ _ _ (λ r. refl)
 
-keeps_on_job : (s : State) (row : Job → Reply × State) (job : Option Job) → ((job : Job) → Keeps s (row job))
+keeps_on_job : (s : State) (row : SpecJob → Reply × State) (job : Option SpecJob) → ((job : SpecJob) → Keeps s (row job))
     → Keeps s (on_job s job row)
 keeps_on_job s row None h differs = refl
 keeps_on_job s row (Some job) h differs = h job differs
@@ -141,7 +141,7 @@ spares_channel : (m : ℕ) (s : State) (row : Channel → Reply × State) (c : O
 spares_channel m s row None h = refl
 spares_channel m s row (Some c) h = h c
 
-spares_job : (m : ℕ) (s : State) (row : Job → Reply × State) (job : Option Job) → ((job : Job) → Spares m s (row job))
+spares_job : (m : ℕ) (s : State) (row : SpecJob → Reply × State) (job : Option SpecJob) → ((job : SpecJob) → Spares m s (row job))
     → Spares m s (on_job s job row)
 spares_job m s row None h = refl
 spares_job m s row (Some job) h = h job
@@ -152,10 +152,10 @@ spares_if m s true one other g h = g
 spares_if m s false one other g h = h
 
 module _ (pack : Pack) (serial : ℕ) (s : State) (n m : ℕ) (apart : m ≢ n) where
-  spares_with : (job : Job) → job_at (with_job s n job) m ≡ job_at s m
+  spares_with : (job : SpecJob) → job_at (with_job s n job) m ≡ job_at s m
   spares_with job = slot-set_other s.jobs n m (Some job) apart
 
-  spares_call : (job : Job) (call : Call) (moment : Moment) → Spares m s (call_of pack serial s n job call moment)
+  spares_call : (job : SpecJob) (call : Call) (moment : Moment) → Spares m s (call_of pack serial s n job call moment)
   spares_call job (Open ch a) moment = spares_if m s (nat_le ch 15) _ _ (spares_with _) refl
   spares_call job (Inbuf ch k) moment = spares_channel m s _ (channel_at job ch) (λ c. spares_with _)
   spares_call job (Outbuf ch k) moment = spares_channel m s _ (channel_at job ch) (λ c. spares_with _)

@@ -1,13 +1,13 @@
--- What isn't done leaves what Undone says, and with it the files and the room.
+-- What isn't done leaves what Undone states, and with it the files and the room.
 use Rattle.std.proofs.Common.{◌≡◌, ◌≢◌, ℕ, ◌+◌, ◌++◌, Bool, true, false, if◌then◌else◌, List, length, Option, Some}
 use Rattle.std.proofs.Common.{None, refl, sym, ap, ◌∙◌}
 use Rattle.std.specs.Prelude.{nat_lt, nat_le, pos, ◌-ℤ◌, ◌==◌, ◌&&◌, flat_map}
 use Rattle.words36.specs.declared.moment.Moment.{Moment}
-use Rattle.spec_image.specs.Common.{size, values, total, sum_entries, Files, version_cost, directory_cost, Version}
+use Rattle.spec_image.specs.Common.{size, values, total, sum_entries, Files, version_cost, directory_cost, SpecVersion}
 use Rattle.spec_image.specs.Common.{Pack}
-use Rattle.spec_machine.specs.Jobs.{Channel, Job, Output, State, is_create, channel_at, job_at, with_job}
+use Rattle.spec_machine.specs.Jobs.{Channel, SpecJob, SpecOutput, State, is_create, channel_at, job_at, with_job}
 use Rattle.spec_machine.specs.Jobs.{with_channel}
-use Rattle.spec_machine.specs.Room.{room, space, booked, distinct_cost, outputs_of, held_by, output_of, version_of}
+use Rattle.spec_machine.specs.Room.{room, space, booked, distinct_cost, outputs_of, pinned_by, output_of, version_of}
 use Rattle.spec_machine.specs.Outcomes.{settled, stopped_in, refused_at}
 use Rattle.spec_machine.specs.Step.{step, last_date, on_job, on_channel, of_job, of_files, call_of}
 use Rattle.spec_machine.specs.Undone.{stopped_on, job_undone, call_undone, undone}
@@ -25,39 +25,39 @@ use Rattle.spec_machine.proofs.SlotLaws.{set-slot, flat_map-set, filter_map-set}
 abbrev Leaves : (Reply → State) → Reply × State → Type 0
 Leaves left r = r.0 ≢ Done → r.1 ≡ left r.0
 
--- One call of a job that is there.
+-- One call of a job that exists.
 
-module _ (s : State) (n : ℕ) (job : Job) (there : job_at s n ≡ Some job) where
+module _ (s : State) (n : ℕ) (job : SpecJob) (there : job_at s n ≡ Some job) where
   pub put_back : s ≡ with_job s n job
   put_back = ap (λ jobs. record s { jobs = jobs }) (sym (set-slot s.jobs n job there))
 
-  of_job_leaves : (reply : Reply) (done : Job) (other : Reply → Job)
+  of_job_leaves : (reply : Reply) (done : SpecJob) (other : Reply → SpecJob)
       → Leaves (λ r. with_job s n (other r)) (of_job s n (settled reply done other))
   of_job_leaves reply done other =
       settled_by (λ r. r.0 ≢ Done → with_job s n r.1 ≡ with_job s n (other r.0)) reply done other
       (λ is differs. absurd (differs refl)) (λ no differs. refl)
 
-  of_files_leaves : (reply : Reply) (done : Job × Files Version) (other : Reply → Job)
+  of_files_leaves : (reply : Reply) (done : SpecJob × Files SpecVersion) (other : Reply → SpecJob)
       → Leaves (λ r. with_job s n (other r)) (of_files s n (settled reply done (λ r. (other r, s.files))))
   of_files_leaves reply done other =
       settled_by (λ r. r.0 ≢ Done → (of_files s n r).1 ≡ with_job s n (other r.0)) reply done (λ r. (other r, s.files))
       (λ is differs. absurd (differs refl)) (λ no differs. refl)
 
-  on_channel_leaves : (left : Reply → Job) (row : Channel → Reply × State) (o : Option Channel) → left NoChannel ≡ job
+  on_channel_leaves : (left : Reply → SpecJob) (row : Channel → Reply × State) (o : Option Channel) → left NoChannel ≡ job
       → ((c : Channel) → o ≡ Some c → Leaves (λ r. with_job s n (left r)) (row c))
       → Leaves (λ r. with_job s n (left r)) (on_channel s o row)
   on_channel_leaves left row None h rows differs = put_back ∙ ap (with_job s n) (sym h)
   on_channel_leaves left row (Some c) h rows differs = rows c refl differs
 
   -- a row that stops with a status in its channel
-  stops : (ch : ℕ) (c : Channel) (reply : Reply) (done : Job) → channel_at job ch ≡ Some c
+  stops : (ch : ℕ) (c : Channel) (reply : Reply) (done : SpecJob) → channel_at job ch ≡ Some c
       → Leaves (λ r. with_job s n (stopped_on job ch (channel_at job ch) r))
       (of_job s n (settled reply done (stopped_in job ch c)))
   stops ch c reply done e differs =
       of_job_leaves reply done (stopped_in job ch c) differs
       ∙ ap (λ o. with_job s n (stopped_on job ch o (settled reply done (stopped_in job ch c)).0)) (sym e)
 
-  stops_files : (ch : ℕ) (c : Channel) (reply : Reply) (done : Job × Files Version) → channel_at job ch ≡ Some c
+  stops_files : (ch : ℕ) (c : Channel) (reply : Reply) (done : SpecJob × Files SpecVersion) → channel_at job ch ≡ Some c
       → Leaves (λ r. with_job s n (stopped_on job ch (channel_at job ch) r))
       (of_files s n (settled reply done (λ r. (stopped_in job ch c r, s.files))))
   stops_files ch c reply done e differs =
@@ -74,7 +74,7 @@ module _ (s : State) (n : ℕ) (job : Job) (there : job_at s n ≡ Some job) whe
   late ch None = refl
   late ch (Some c) = refl
 
-  opens_leaves : (ch : ℕ) (b : Bool) (reply : Reply) (done : Job)
+  opens_leaves : (ch : ℕ) (b : Bool) (reply : Reply) (done : SpecJob)
       → Leaves (λ r. with_job s n job) (if b then of_job s n (settled reply done (λ r. job)) else (NoChannel, s))
   opens_leaves ch true reply done = of_job_leaves reply done (λ r. job)
   opens_leaves ch false reply done = λ differs. put_back
@@ -137,7 +137,7 @@ state_leaves s reply done = settled_by (Leaves (λ r. s)) reply done (λ r. s) (
     (λ no differs. refl)
 
 event_leaves : (pack : Pack) (serial : ℕ) (s : State) (n : ℕ) (call : Call) (moment : Moment) (late : Bool)
-    (o : Option Job) → job_at s n ≡ o
+    (o : Option SpecJob) → job_at s n ≡ o
     → Leaves (call_undone s n o call) (if late then (DateRange, s)
     else on_job s o (λ job. call_of pack serial s n job call moment))
 event_leaves pack serial s n call moment true None e differs = refl
@@ -147,7 +147,7 @@ event_leaves pack serial s n call moment false None e differs = refl
 event_leaves pack serial s n call moment false (Some job) e differs = call_leaves s n job e pack serial
     call moment differs
 
-words_leave : (s : State) (row : Job → Reply × State) (o : Option Job) → ((job : Job) → Leaves (λ r. s) (row job))
+words_leave : (s : State) (row : SpecJob → Reply × State) (o : Option SpecJob) → ((job : SpecJob) → Leaves (λ r. s) (row job))
     → Leaves (λ r. s) (on_job s o row)
 words_leave s row None h differs = refl
 words_leave s row (Some job) h differs = h job differs
@@ -162,8 +162,8 @@ step_leaves pack serial s (Calls n call moment) = event_leaves pack serial s n c
 
 -- The room.
 
--- what is booked, of files, held versions and output sides
-abbrev pub booked_of : Files Version → List Version → List Output → ℕ
+-- what is booked, of files, pinned versions and output sides
+abbrev pub booked_of : Files SpecVersion → List SpecVersion → List SpecOutput → ℕ
 booked_of files versions outs =
     (directory_cost (size files) + sum_entries
     (λ ppn d. directory_cost (size d.files + total (λ o. if is_create o.kind && (o.place.ppn == ppn) then 1
@@ -171,16 +171,16 @@ booked_of files versions outs =
     + distinct_cost (flat_map (λ d. values d.files) (values files) ++ versions)
     + total (λ o. version_cost (length o.pending.body)) outs
 
--- the same versions held, the same output sides
-abbrev pub SameSides : Job → Job → Type 0
-SameSides new old = (held_by (Some new) ≡ held_by (Some old)) × (outputs_of (Some new) ≡ outputs_of (Some old))
+-- the same versions pinned, the same output sides
+abbrev pub SameSides : SpecJob → SpecJob → Type 0
+SameSides new old = (pinned_by (Some new) ≡ pinned_by (Some old)) × (outputs_of (Some new) ≡ outputs_of (Some old))
 
-pub booked-same_sides : (s : State) (n : ℕ) (new old : Job) → job_at s n ≡ Some old → SameSides new old
+pub booked-same_sides : (s : State) (n : ℕ) (new old : SpecJob) → job_at s n ≡ Some old → SameSides new old
     → booked (with_job s n new) ≡ booked s
-booked-same_sides s n new old e h = λ i. booked_of s.files (flat_map-set held_by s.jobs n new old e h.0 i)
+booked-same_sides s n new old e h = λ i. booked_of s.files (flat_map-set pinned_by s.jobs n new old e h.0 i)
     (flat_map-set outputs_of s.jobs n new old e h.1 i)
 
-pub same_sides : (job : Job) (core : List ℕ) (ch : ℕ) (c d : Channel) → channel_at job ch ≡ Some c
+pub same_sides : (job : SpecJob) (core : List ℕ) (ch : ℕ) (c d : Channel) → channel_at job ch ≡ Some c
     → version_of (Some d) ≡ version_of (Some c) → d.output ≡ c.output
     → SameSides (with_channel (record job { core = core }) ch (Some d)) job
 same_sides job core ch c d e v o = (
@@ -188,17 +188,17 @@ same_sides job core ch c d e v o = (
   filter_map-set output_of job.channels ch d c e o,
 )
 
-stopped_sides : (job : Job) (ch : ℕ) (o : Option Channel) → channel_at job ch ≡ o → (reply : Reply)
+stopped_sides : (job : SpecJob) (ch : ℕ) (o : Option Channel) → channel_at job ch ≡ o → (reply : Reply)
     → SameSides (stopped_on job ch o reply) job
 stopped_sides job ch None e reply = (refl, refl)
 stopped_sides job ch (Some c) e reply =
     stopped_by (λ j. SameSides j job) job ch c reply (refl, refl)
     (λ status. same_sides job job.core ch c (record c { status = status }) e refl refl)
 
-refused_sides : (job : Job) (e : ℕ) (reply : Reply) → SameSides (refused_at job e reply) job
+refused_sides : (job : SpecJob) (e : ℕ) (reply : Reply) → SameSides (refused_at job e reply) job
 refused_sides job e reply = refused_by (λ j. SameSides j job) job e reply (λ core. (refl, refl))
 
-pub undone_sides : (job : Job) (call : Call) (reply : Reply) → SameSides (job_undone job call reply) job
+pub undone_sides : (job : SpecJob) (call : Call) (reply : Reply) → SameSides (job_undone job call reply) job
 undone_sides job (Open ch a) reply = (refl, refl)
 undone_sides job (Inbuf ch k) reply = (refl, refl)
 undone_sides job (Outbuf ch k) reply = (refl, refl)
@@ -217,7 +217,7 @@ undone_sides job (MakeDir e) reply = refused_sides job e reply
 undone_sides job (DeleteDir e) reply = refused_sides job e reply
 undone_sides job (Quota e) reply = refused_sides job e reply
 
-call_undone_booked : (s : State) (n : ℕ) (o : Option Job) (call : Call) (reply : Reply) → job_at s n ≡ o
+call_undone_booked : (s : State) (n : ℕ) (o : Option SpecJob) (call : Call) (reply : Reply) → job_at s n ≡ o
     → booked (call_undone s n o call reply) ≡ booked s
 call_undone_booked s n None call reply e = refl
 call_undone_booked s n (Some job) call reply e = booked-same_sides s n (job_undone job call reply) job e

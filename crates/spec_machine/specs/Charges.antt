@@ -1,6 +1,6 @@
--- What a directory is charged for, and what its quota leaves: a second limit beside the room, in layout 2 alone.
+-- What a directory is charged for, and what its quota leaves: a second limit besides the room, only in layout 2.
 use Rattle.std.specs.Prelude.{ℕ, ◌+◌, ◌==◌, ◌&&◌, ◌||◌, not, nat_lt, Bool, if◌then◌else◌, length, Option, Some, None}
-use Rattle.spec_image.specs.Common.{version_cost, directory_cost, Directory, get, size, sum_over, total, Version}
+use Rattle.spec_image.specs.Common.{version_cost, directory_cost, Directory, get, size, sum_over, total, SpecVersion}
 use Rattle.spec_image.specs.Common.{Pack}
 use Rattle.spec_machine.specs.Jobs.{State}
 use Rattle.spec_machine.specs.Room.{outputs, pending_creations, exceeds_room}
@@ -11,17 +11,17 @@ pending_cost_in s ppn =
     total (λ o. if o.place.ppn == ppn then version_cost (length o.pending.body) else 0) (outputs s)
 
 -- the directory's own cost, with what is being created in it, and its current files
-abbrev pub charge_in : Option (Directory Version) → ℕ → ℕ
+abbrev pub charge_in : Option (Directory SpecVersion) → ℕ → ℕ
 charge_in None creations = 0
 charge_in (Some d) creations =
     directory_cost (size d.files + creations) + sum_over (λ v. version_cost (length v.file.body)) d.files
 
--- What a directory is charged for. A version that is current counts once, whoever reads it; one that is only held
--- doesn't count; one that is being written counts beside the current one.
+-- What a directory is charged for. A version that is current counts once, whoever reads it; one that is only pinned
+-- doesn't count; one that is being written counts besides the current one.
 abbrev pub charge : State → ℕ → ℕ
 charge s ppn = charge_in (get s.files ppn) (pending_creations s ppn) + pending_cost_in s ppn
 
-abbrev pub quota_in : Option (Directory Version) → ℕ
+abbrev pub quota_in : Option (Directory SpecVersion) → ℕ
 quota_in None = 0
 quota_in (Some d) = d.quota
 

@@ -4,23 +4,23 @@ use Rattle.std.specs.Prelude.{slice_set}
 use Rattle.words36.specs.Common.{left, join}
 use Rattle.spec_machine.specs.declared.area.Area.{Area}
 
--- the job word whose right half says where the next ring of buffers goes, and where the first one does
+-- the job word whose right half names the place of the next ring of buffers, and the place of the first one
 abbrev pub first_free : ℕ
 first_free = 0o121
 
 abbrev pub rings_begin : ℕ
 rings_begin = 0o140
 
--- not all of so many words from an address on are there
+-- not all of the `count` words at an address and after it are in the core
 abbrev pub lies_outside : List ℕ → ℕ → ℕ → Bool
 lies_outside core address count = nat_lt (length core) (address + count)
 
--- the core after writes of a word at an address each, in their order
+-- the core after writes, each of a word at an address, in their order
 abbrev pub after_writes : List ℕ → List (ℕ × ℕ) → List ℕ
 after_writes core [] = core
 after_writes core (w ∷ ws) = after_writes (slice_set core w.0 w.1) ws
 
--- the writes that put these words from an address on
+-- the writes that put these words at consecutive addresses
 abbrev pub placed : ℕ → List ℕ → List (ℕ × ℕ)
 placed address [] = []
 placed address (w ∷ ws) = (address, w) ∷ placed (address + 1) ws

@@ -1,6 +1,6 @@
--- What a crash may leave while a list of events runs: between the moment after one event and the moment
--- after the next, the files before that event or those after it, and no third; those before it alone, where its
--- answer is one that changes no file.
+-- What a crash may leave while a list of events runs: between the moment after one event and the moment after the next,
+-- the files before that event or those after it, and no third; only those before it, if its answer is one that changes
+-- no file.
 use Rattle.std.specs.Prelude.{◌≡◌, ℕ, ◌≤◌, ◌⊎◌, Bool, true, false, IsTrue, List, [], ◌∷◌}
 use Rattle.blockdisk.specs.Common.{Contents, DiskState, MayLeave, Between}
 use Rattle.spec_image.specs.Common.{StandsOn, without_serials, Pack}
@@ -30,22 +30,23 @@ may_change Device = true
 may_change Failed = false
 may_change DateRange = false
 
--- They stand for the files before an event that was answered so; or, with such an answer alone, for those that the
--- event makes of them, which are the same whatever serial is chosen.
+-- The contents stand for the files before an event with this answer; or, only with an answer that may change files, for
+-- those that the event makes of them, which are the same whatever serial is chosen.
 abbrev pub StandsForEither : Pack → State → Event → Reply → Contents → Type 0
 StandsForEither pack s event reply contents =
     StandsForState pack s contents ⊎ (IsTrue (may_change reply) × StandsForState pack (step pack 0 s event).1 contents)
 
--- how it goes on from moment t, where the event was answered and the service was `mid` after it: `rest`
--- is what is so from a moment on and a state
+-- how a run continues from moment t, if the event was answered and the service was `mid` after it: `rest` is what holds
+-- from a moment and a state
 abbrev pub GoesOn : Pack → DiskState → ℕ → State → Event → Reply → Service → (ℕ → Service → Type 0) → Type 0
 GoesOn pack d t s event reply Broken rest = rest t Broken
     × ((c : Contents) → d.left_since t c → StandsForEither pack s event reply c)
 GoesOn pack d t s event reply (Serving after) rest = (u : ℕ) × (t ≤ u)
     × Between d t u (StandsForEither pack s event reply) × rest u (Serving after)
 
--- The service gives these replies, and d is the disk after them: from moment t on there was a moment after
--- each event. Where an event met a fault of the disk both stay possible from then on, and no event makes a third.
+-- The service gives these replies, and d is the disk after them: from moment t, there was a moment after each event. If
+-- the disk had a fault in an event, the files before it and those after it both stay possible after that, and no event
+-- makes a third.
 abbrev pub RunsOn : Pack → DiskState → ℕ → Service → List Event → List Reply → Service → Type 0
 RunsOn pack d t Broken events replies new = AnswersAll pack Broken events replies new
 RunsOn pack d t (Serving s) [] [] new = (new ≡ Serving s) × (t ≡ d.clock)

@@ -14,7 +14,7 @@ digit protection who owner =
     else if left who == left owner then protection / 8 % 8
     else protection % 8
 
--- A file's digit forbids: each one all that the next lower one does, and 0 nothing.
+-- A file's digit forbids: each digit forbids all that the next lower one does, and 0 forbids nothing.
 abbrev pub file_digit : ℕ → ℕ → ℕ → ℕ
 file_digit protection who owner = if who == system then 0 else digit protection who owner
 

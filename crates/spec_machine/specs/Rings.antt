@@ -1,13 +1,13 @@
 -- Buffer rings: steps of a core, which is a list of words.
 --
--- A header has three words. The right half of the first names the current buffer, and its bit 0 is set while
--- the ring isn't in use yet; the second is a byte pointer, the third a byte count. A buffer is named by the
--- address of its second word, which has a use bit, the size of the buffer's data and one more in bits 1 to
--- 17, and the next buffer in its right half. The word before it is for a status, the right half of the one
--- behind it counts the words of data, and these follow.
+-- A header has three words. The right half of the first names the current buffer, and its bit 0 is set while the ring
+-- isn't in use yet; the second is a byte pointer, the third a byte count. A buffer is named by the address of its
+-- second word, which has a use bit, the size of the buffer's data and one more in bits 1 to 17, and the next buffer in
+-- its right half. The word before it is for a status, the right half of the word after it counts the words of data, and
+-- these follow.
 --
--- A step is a list of writes, made in their order in the core in which all that it reads is read. Where a ring
--- is set up first, that is a step of its own, and what follows reads the core that it left.
+-- A step is a list of writes, made in their order in the core from which the step reads everything. If a ring is set up
+-- first, that is a step of its own, and what follows reads the core that it left.
 use Rattle.std.specs.Prelude.{ℕ, zero, suc, ◌+◌, ◌-◌, ◌*◌, ◌/◌, ◌%◌, ◌^◌, ◌==◌, ◌&&◌, ◌||◌, nat_lt, nat_le, not, Bool}
 use Rattle.std.specs.Prelude.{false, if◌then◌else◌, List, [], ◌∷◌, ◌++◌, length, replicate, Option, Some, None}
 use Rattle.std.specs.Prelude.{slice_index, slice_range}
@@ -48,13 +48,13 @@ data_words = 0o200
 abbrev pub buffer_words : ℕ
 buffer_words = 0o203
 
--- it lies in core, and has the size of a disk buffer
+-- it lies in the core, and has the size of a disk buffer
 abbrev pub is_good : List ℕ → ℕ → Bool
 is_good core a = nat_le 1 a && nat_lt (a + 0o201) (length core) && (left (slice_index core a) % 2 ^ 17 == 0o201)
 
 -- A ring that is set up.
 
--- the three words of a header whose ring isn't in use: the first buffer, or 0
+-- the three words of a header whose ring isn't in use: they name the first buffer, or 0
 abbrev pub unused_header : ℕ → ℕ → ℕ → List (ℕ × ℕ)
 unused_header header size first = placed header (join 0o400000 first ∷ pointer size 0 ∷ 0 ∷ [])
 
@@ -83,13 +83,13 @@ setup_writes core header size n =
     ++ (first_free, join (left (slice_index core first_free)) (base core + n * buffer_words))
     ∷ unused_header header size (buffer_at (base core) 0)
 
--- The core after a setup of n buffers. None is AddressCheck: the ring doesn't fit.
+-- The core after a setup of n buffers. None is AddressCheck: the ring or the header doesn't fit.
 unfoldable pub setup : List ℕ → ℕ → ℕ → ℕ → Option (List ℕ)
 setup core header size n =
     if lies_outside core (base core) (n * buffer_words) || lies_outside core header 3 then None
     else Some (after_writes core (setup_writes core header size n))
 
--- how many buffers a number asks for
+-- how many buffers a number means
 abbrev pub buffers_of : ℕ → ℕ
 buffers_of n = if n == 0 then 2 else n
 
@@ -105,18 +105,18 @@ is_unused core header = is_marked (slice_index core header)
 abbrev pub next : List ℕ → ℕ → ℕ
 next core header = right (slice_index core (current core header))
 
--- the buffer that a step goes on to
+-- the buffer that a step moves on to
 abbrev pub target : List ℕ → ℕ → ℕ
 target core header = if is_unused core header then current core header else next core header
 
--- the core in which an IN or OUT finds its ring: one of two buffers is set up where the header names none
+-- the core in which an IN or OUT finds its ring: a ring of two buffers is set up if the header names none
 abbrev pub with_ring : List ℕ → ℕ → ℕ → Option (List ℕ)
 with_ring core header size =
     if current core header == 0 then setup core header size 2
     else if lies_outside core header 3 then None
     else Some core
 
--- a core, where a test of it passes
+-- a core, if a test of it passes
 abbrev pub kept_if : (List ℕ → Bool) → Option (List ℕ) → Option (List ℕ)
 kept_if test None = None
 kept_if test (Some core) = if test core then Some core else None
@@ -126,7 +126,7 @@ kept_if test (Some core) = if test core then Some core else None
 abbrev pub in_is_good : ℕ → List ℕ → Bool
 in_is_good header core = is_good core (current core header) && is_good core (target core header)
 
--- the core that it works on; None is AddressCheck
+-- the core that an IN works on; None is AddressCheck
 unfoldable pub in_ready : List ℕ → ℕ → ℕ → Option (List ℕ)
 in_ready core header size = kept_if (in_is_good header) (with_ring core header size)
 
@@ -174,7 +174,7 @@ buffer_data core header = slice_range core (current core header + 2) (current co
 abbrev pub ring_words : List ℕ → ℕ → List ℕ
 ring_words core header = if is_unused core header then [] else buffer_data core header
 
--- the buffer that was put keeps its count
+-- the count of the buffer that was put is written, and the buffer is no longer in use
 abbrev pub put_behind : List ℕ → ℕ → List (ℕ × ℕ)
 put_behind core header =
     if is_unused core header then []
@@ -195,7 +195,7 @@ out_writes core header size = put_behind core header ++ buffer_emptied header si
 abbrev pub has_last : List ℕ → ℕ → Bool
 has_last core header = if (header == 0) || is_unused core header then false else not (current core header == 0)
 
--- The words of the last buffer, none where there is no such buffer. None is AddressCheck.
+-- The words of the last buffer, none if there is no such buffer. None is AddressCheck.
 unfoldable pub last_words : List ℕ → ℕ → Option (List ℕ)
 last_words core header =
     if not (has_last core header) then Some []

@@ -1,10 +1,10 @@
--- Whole runs, where memory may be wanting and the disk may answer a fault.
+-- Whole runs, in which memory may run out and the disk may have a fault.
 use Rattle.std.specs.Prelude.{◌≡◌, ℕ, ◌==◌, ◌++◌, ◌⊎◌, not, Bool, true, false, IsTrue, IsFalse, List, [], ◌∷◌, Option}
 use Rattle.std.specs.Prelude.{Some, None, Result, Err}
-use Rattle.spec_image.specs.Common.{File, Files, Version, without_serials, Pack}
-use Rattle.spec_machine.specs.Jobs.{Channel, Job, State, channel_at, job_at, no_jobs}
-use Rattle.spec_machine.specs.Room.{current_versions, held_versions, has_serial}
-use Rattle.spec_machine.specs.Closing.{publishes}
+use Rattle.spec_image.specs.Common.{File, Files, SpecVersion, without_serials, Pack}
+use Rattle.spec_machine.specs.Jobs.{Channel, SpecJob, State, channel_at, job_at, no_jobs}
+use Rattle.spec_machine.specs.Room.{current_versions, pinned_versions, has_serial}
+use Rattle.spec_machine.specs.Close.{publishes}
 use Rattle.spec_machine.specs.Sessions.{list}
 use Rattle.spec_machine.specs.Step.{step}
 use Rattle.spec_image.specs.declared.entry.Entry.{Entry}
@@ -18,15 +18,15 @@ use Rattle.spec_machine.specs.declared.call.Reply.{Reply}
 use Rattle.spec_machine.specs.declared.call.Reply.TheVariants.{Done, Value, Refused, Stopped, NoChannel, AddressCheck}
 use Rattle.spec_machine.specs.declared.call.Reply.TheVariants.{NoJob, NoMemory, Device, Failed, DateRange}
 
--- a serial that no version has that is current or held
+-- a serial that no version has that is current or pinned
 abbrev pub IsFresh : State → ℕ → Type 0
-IsFresh s serial = IsFalse (has_serial serial (current_versions s ++ held_versions s))
+IsFresh s serial = IsFalse (has_serial serial (current_versions s ++ pinned_versions s))
 
--- The machine may give this reply and go on to this state.
+-- The machine may give this reply and come to this state.
 abbrev pub Steps : Pack → State → Event → Reply → State → Type 0
 Steps pack s event reply after = (serial : ℕ) × IsFresh s serial × (step pack serial s event ≡ (reply, after))
 
--- The same of a list of events: none met want of memory or a fault of the disk.
+-- The same for a list of events, in all of which memory sufficed and the disk had no fault.
 abbrev pub StepsAll : Pack → State → List Event → List Reply → State → Type 0
 StepsAll pack s [] [] after = after ≡ s
 StepsAll pack s (event ∷ events) (reply ∷ replies) after = (mid : State) × Steps pack s event reply mid
@@ -34,7 +34,7 @@ StepsAll pack s (event ∷ events) (reply ∷ replies) after = (mid : State) × 
 StepsAll pack s [] (reply ∷ replies) after = ⊥
 StepsAll pack s (event ∷ events) [] after = ⊥
 
--- What asks neither for memory nor for the disk.
+-- What needs neither memory nor the disk.
 
 -- the replies that are found before either is needed
 abbrev pub is_plain : Reply → Bool
@@ -50,7 +50,7 @@ is_plain Device = false
 is_plain Failed = false
 is_plain DateRange = true
 
-abbrev pub channel_of : Option Job → ℕ → Option Channel
+abbrev pub channel_of : Option SpecJob → ℕ → Option Channel
 channel_of None number = None
 channel_of (Some job) number = channel_at job number
 
@@ -90,18 +90,18 @@ touches_disk s (Deposit n address word) = false
 touches_disk s (Examine n address) = false
 touches_disk s (Calls n call moment) = not (is_light s n call)
 
--- the reply is one of those; it is the same whatever serial is chosen
+-- the reply is one of those that are found first; it is the same whatever serial is chosen
 abbrev pub is_decided : Pack → State → Event → Bool
 is_decided pack s event = is_plain ((step pack 0 s event).0)
 
 -- Runs.
 
--- the service serves from a state, or has failed
+-- the service serves, from a state, or has failed
 pub data Service : Type 0 where
   Serving : State → Service
   Broken : Service
 
--- The service may answer the event so, and be so after it.
+-- The service may give this reply to the event, and be like this after it.
 abbrev pub Answers : Pack → Service → Event → Reply → Service → Type 0
 Answers pack Broken event reply Broken = reply ≡ Failed
 Answers pack Broken event reply (Serving after) = ⊥
@@ -111,7 +111,7 @@ Answers pack (Serving s) event reply (Serving after) =
     Steps pack s event reply after
     ⊎ ((reply ≡ NoMemory) × (after ≡ s) × IsFalse (is_decided pack s event) × IsTrue (takes_memory s event))
 
--- The service may give these replies to these events, and be so after them.
+-- The service may give these replies to these events, and be like this after them.
 abbrev pub AnswersAll : Pack → Service → List Event → List Reply → Service → Type 0
 AnswersAll pack old [] [] new = new ≡ old
 AnswersAll pack old (event ∷ events) (reply ∷ replies) new = (mid : Service) × Answers pack old event reply mid
@@ -122,7 +122,7 @@ AnswersAll pack old (event ∷ events) [] new = ⊥
 abbrev pub IsNoJob : Result (List Entry) Reply → Type 0
 IsNoJob answer = answer ≡ Err NoJob
 
--- The service may answer so to who asks for the list of a directory.
+-- The service may give this answer to a job that reads the list of a directory.
 abbrev pub Lists : Service → ℕ → ℕ → Result (List Entry) Reply → Service → Type 0
 Lists Broken n owner answer after = (answer ≡ Err Failed) × (after ≡ Broken)
 Lists (Serving s) n owner answer Broken = (answer ≡ Err Device) × (IsNoJob (list s n owner) → ⊥)
@@ -132,7 +132,7 @@ Lists (Serving s) n owner answer (Serving after) = (after ≡ s)
 -- A start.
 
 -- all have serials of their own
-abbrev pub HaveDistinctSerials : List Version → Type 0
+abbrev pub HaveDistinctSerials : List SpecVersion → Type 0
 HaveDistinctSerials [] = Unit {0}
 HaveDistinctSerials (v ∷ vs) = IsFalse (has_serial v.serial vs) × HaveDistinctSerials vs
 

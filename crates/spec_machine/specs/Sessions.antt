@@ -2,10 +2,10 @@
 use Rattle.std.specs.Prelude.{ℕ, ◌==◌, ◌&&◌, ◌||◌, nat_lt, nat_le, not, Bool, if◌then◌else◌, List, length, map}
 use Rattle.std.specs.Prelude.{replicate, Option, Some, None, slice_index, slice_set, Result, Ok, Err}
 use Rattle.words36.specs.declared.names.FileName.{FileName}
-use Rattle.spec_image.specs.Common.{get, entries, Directory, blocks_of, Version}
+use Rattle.spec_image.specs.Common.{get, entries, Directory, blocks_of, SpecVersion}
 use Rattle.spec_machine.specs.Rights.{may_look, directory_digit}
 use Rattle.spec_machine.specs.Cores.{first_free, rings_begin, with_right}
-use Rattle.spec_machine.specs.Jobs.{Job, State, job_at, all_closed}
+use Rattle.spec_machine.specs.Jobs.{SpecJob, State, job_at, all_closed}
 use Rattle.spec_image.specs.declared.entry.Entry.{Entry}
 use Rattle.spec_machine.specs.declared.call.Reply.{Reply}
 use Rattle.spec_machine.specs.declared.call.Reply.TheVariants.{Done, Value, Refused, AddressCheck, NoJob}
@@ -19,31 +19,32 @@ login_answer n words =
     else if nat_lt words 0o1000 || nat_lt 0o400000 words then AddressCheck
     else Done
 
--- a job that logs in: nothing is left of one that had its number
-abbrev pub new_job : ℕ → ℕ → Job
+-- a job that logs in: nothing is left of an earlier job with its number
+abbrev pub new_job : ℕ → ℕ → SpecJob
 new_job ppn words = record {
   ppn = ppn;
   core = slice_set (replicate words 0) first_free rings_begin;
   channels = all_closed;
 }
 
-abbrev pub deposit_answer : Job → ℕ → Reply
+abbrev pub deposit_answer : SpecJob → ℕ → Reply
 deposit_answer job address = if nat_lt address (length job.core) then Done else AddressCheck
 
-abbrev pub deposit_done : Job → ℕ → ℕ → Job
+abbrev pub deposit_done : SpecJob → ℕ → ℕ → SpecJob
 deposit_done job address word = record job { core = slice_set job.core address word }
 
-abbrev pub examine_answer : Job → ℕ → Reply
+abbrev pub examine_answer : SpecJob → ℕ → Reply
 examine_answer job address = if nat_lt address (length job.core) then Value (slice_index job.core address)
     else AddressCheck
 
--- RESET: all channels are closed and what they wrote is dropped, the core kept but for that right half
-abbrev pub resets : Job → Reply × Job
+-- RESET: all channels are closed and what they wrote is dropped; of the core, only the right half of job word 121
+-- (octal) changes
+abbrev pub resets : SpecJob → Reply × SpecJob
 resets job = (Done, record job { core = with_right job.core first_free rings_begin; channels = all_closed })
 
 -- The list of a directory, by name and then extension.
 
-abbrev pub entry : FileName × Version → Entry
+abbrev pub entry : FileName × SpecVersion → Entry
 entry e = record {
   name = e.0;
   protection = e.1.file.protection;
@@ -54,12 +55,12 @@ entry e = record {
   blocks = blocks_of (length e.1.file.body);
 }
 
-abbrev pub listed : Job → ℕ → Option (Directory Version) → Result (List Entry) Reply
+abbrev pub listed : SpecJob → ℕ → Option (Directory SpecVersion) → Result (List Entry) Reply
 listed job owner None = Err (Refused 1)
 listed job owner (Some d) = if may_look (directory_digit d.protection job.ppn owner)
     then Ok (map entry (entries d.files)) else Err (Refused 2)
 
-abbrev pub list_for : State → Option Job → ℕ → Result (List Entry) Reply
+abbrev pub list_for : State → Option SpecJob → ℕ → Result (List Entry) Reply
 list_for s None owner = Err NoJob
 list_for s (Some job) owner = listed job owner (get s.files owner)
 

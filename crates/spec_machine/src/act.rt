@@ -1,3 +1,4 @@
+//! The acts that a protection allows.
 ghost use Rattle.std.specs.Prelude.{⊤, ◌≡◌, ◌<◌, [], ◌∷◌, codes};
 ghost use Rattle.spec_machine.specs.Rights.{acts_of};
 
@@ -32,24 +33,24 @@ impl Flags for Act {
 
     ghost set_of = { λ a. a.0 };
 
-    /// The acts, by their names.
+    /// Returns the acts, by their names.
     fn flags<'a>() -> &'a [Flag<Act>] {
         Act::FLAGS
     }
 
-    /// The bits.
+    /// Returns the bits.
     fn bits(&self) -> u8 {
         self.0
     }
 
-    /// The acts of these bits.
+    /// Returns the acts of these bits.
     fn from_bits_retain(bits: u8) -> Act {
         Act(bits)
     }
 }
 
 impl Act {
-    /// The acts that a digit of a file's protection allows: the lower the digit, the more.
+    /// Returns the acts that a digit of a file's protection allows: the lower the digit, the more.
     pub fn of_digit(digit: u32) -> Act
         requires { digit < 8 }
         ensures { result.0 ≡ acts_of digit }

@@ -1,8 +1,10 @@
-/// Words of a core in a row.
+//! An area of words in a core.
+
+/// Consecutive words of a core.
 #[derive(Clone, Copy, Debug, PartialEq, Eq)]
 pub struct Area {
-    /// The address of the first.
+    /// The address of the first word.
     pub first: usize,
-    /// How many there are.
+    /// The number of words.
     pub count: usize,
 }

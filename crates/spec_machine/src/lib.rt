@@ -1,13 +1,13 @@
-//! What every call answers and leaves: the file machine, as definitions, and laws of them.
+//! The file machine, which determines what every call answers and leaves: definitions, and laws about them.
 //!
-//! The definitions stand in `specs/`, to be read in this order: `Jobs` (jobs, their channels, and the machine's state),
+//! The definitions are in `specs/`. Read them in this order: `Jobs` (jobs, their channels, and the machine's state),
 //! `Rights`, `Room` and `Charges` (what is allowed, and what there is room for), `Outcomes` (how a call ends), then the
 //! calls, `Opening`, `Looking`, `Entering`, `Updating`, `Renaming`, `Inputs`, `Outputs` (with `Cores`, `CommandLists`
-//! and `Rings`: the words of a core), `Closing`, `Making` and `Sessions`, and `Step`, which is the machine. `Runs` plays
-//! lists of events, and `Crashes`, `Holding`, `Undone` and `Sound` say what holds along them. `Common` passes on what
-//! other crates cite.
+//! and `Rings`: the words of a core), `Closing`, `Making` and `Sessions`, and `Step`, which is the machine. `Runs`
+//! plays lists of events, and `Crashes`, `Holding`, `Undone` and `Sound` define what is true along them. `Common`
+//! passes on what other crates cite.
 //!
-//! A law is the contract of a function without parameters. In `src/` there are besides only the plain types that
+//! A law is the contract of a function that does nothing. Besides laws, `src/` has only the plain types that
 //! definitions and code share.
 #![tactic(auto)]
 

@@ -1,3 +1,4 @@
+//! Laws of the file machine.
 ghost use Rattle.std.specs.Prelude.{◌≡◌, ◌≢◌, ◌<◌, ◌≤◌, ◌+◌, ◌++◌, ◌∷◌, [], ◌⊎◌, ℕ, List, length, pos, slice_index};
 ghost use Rattle.std.specs.Prelude.{true, false, Some, None};
 ghost use Rattle.words36.specs.declared.moment.Moment.{Moment};
@@ -9,12 +10,12 @@ ghost use Rattle.spec_machine.specs.declared.call.Reply.TheVariants.{Done, Refus
 ghost use Rattle.blockdisk.specs.Common.{Contents, MayLeave, LeavesOnly};
 ghost use Rattle.spec_machine.specs.Charges.{charge, quota_of, is_limited};
 ghost use Rattle.spec_machine.specs.Crashes.{StandsForState, StandsForEither, RunsOn};
-ghost use Rattle.spec_image.specs.Common.{File, Files, Directory, Place, get, Version, file_at, with_protection};
+ghost use Rattle.spec_image.specs.Common.{File, Files, Directory, Place, get, SpecVersion, file_at, with_protection};
 ghost use Rattle.spec_image.specs.Common.{without_serials, Pack, splice, length_after, block_start};
-ghost use Rattle.spec_machine.specs.Holding.{SpareAll, FoundBy, MovesWordsOf};
-ghost use Rattle.spec_machine.specs.Jobs.{Channel, Input, Job, State, channel_at, job_at};
-ghost use Rattle.spec_machine.specs.Looking.{place_at};
-ghost use Rattle.spec_machine.specs.Renaming.{deletes_at, protection_at};
+ghost use Rattle.spec_machine.specs.PinnedVersions.{SpareAll, FoundBy, MovesWordsOf};
+ghost use Rattle.spec_machine.specs.Jobs.{Channel, SpecInput, SpecJob, State, channel_at, job_at};
+ghost use Rattle.spec_machine.specs.Lookup.{place_at};
+ghost use Rattle.spec_machine.specs.Rename.{deletes_at, protection_at};
 ghost use Rattle.spec_machine.specs.Room.{booked, room};
 ghost use Rattle.spec_machine.specs.Runs.{Service, Serving, Broken, Answers, IsFresh, IsStart, AnswersAll, Steps};
 ghost use Rattle.spec_machine.specs.Runs.{StepsAll};
@@ -25,8 +26,8 @@ ghost use Rattle.spec_machine.specs.Undone.{undone};
 
 use blockdisk::Disk;
 
-/// What is put at a block of a body is found there, and all other words stay: zeros stand where the body
-/// ended before that block.
+/// Proves that the words that are put at a block of a body are found there, and that all other words stay: zeros fill
+/// the gap if the body ended before that block.
 pub fn splices_put_words()
     ensures length { (body : List ℕ) (block : ℕ) (words : List ℕ) → length (splice body block words)
         ≡ length_after (length body) block (length words) }
@@ -37,14 +38,14 @@ pub fn splices_put_words()
         → slice_index (splice body block words) i ≡ slice_index body i }
 {}
 
-/// No event of another job changes a job's record.
+/// Proves that no event of another job changes a job's record.
 pub fn jobs_are_apart()
     ensures { (pack : Pack) (serial : ℕ) (s : State) (m : ℕ) (event : Event) → m ≢ job_of event
         → job_at (step pack serial s event).1 m ≡ job_at s m }
 {}
 
-/// Reading holds still: what an IN answers and leaves is told by its own job's record alone; and over every
-/// run of events, whatever other jobs do, it moves the words of the version that the channel's LOOKUP found.
+/// Proves that reading holds still: its own job's record alone determines what an IN answers and leaves; and over every
+/// run of events, whatever other jobs do, an IN moves the words of the version that the channel's LOOKUP found.
 pub fn reading_holds_still()
     ensures alike { (pack : Pack) (serial other : ℕ) (s t : State) (n ch a : ℕ) (moment : Moment)
         → job_at s n ≡ job_at t n
@@ -55,11 +56,11 @@ pub fn reading_holds_still()
         (replies : List Reply)
         → Answers pack (Serving s) (Calls n (Lookup ch e) first) Done (Serving s')
         → AnswersAll pack (Serving s') events replies (Serving t) → SpareAll n ch events
-        → Answers pack (Serving t) (Calls n (In ch a) last) Done (Serving u) → (v : Version) × FoundBy s n e v
+        → Answers pack (Serving t) (Calls n (In ch a) last) Done (Serving u) → (v : SpecVersion) × FoundBy s n e v
         × MovesWordsOf t u n ch a v }
 {}
 
-/// A run goes on by one event.
+/// Proves that a run continues by one event.
 pub fn runs_go_on()
     ensures { (pack : Pack) (old mid new : Service) (events : List Event) (replies : List Reply) (event : Event)
         (reply : Reply)
@@ -67,8 +68,8 @@ pub fn runs_go_on()
         → AnswersAll pack old (events ++ event ∷ []) (replies ++ reply ∷ []) new }
 {}
 
-/// What isn't done changes almost nothing: a refusal's code stands in the block that the call named, a
-/// status in the channel that could not go on. Files and room are as they were.
+/// Proves that an event that isn't done changes almost nothing: a refusal's code is written into the block that the
+/// call named, and a status into the channel that couldn't continue. Files and room are unchanged.
 pub fn undone_changes_nothing()
     ensures left { (pack : Pack) (serial : ℕ) (s : State) (event : Event) → (step pack serial s event).0 ≢ Done
         → (step pack serial s event).1 ≡ undone s event (step pack serial s event).0 }
@@ -78,8 +79,8 @@ pub fn undone_changes_nothing()
         → room pack (step pack serial s event).1 ≡ room pack s }
 {}
 
-/// Every run from a start comes to sound states alone: a name has at most one output side, and a serial
-/// at most one version.
+/// Proves that every run from a start comes only to sound states: a name has at most one output side, and a serial at
+/// most one version.
 pub fn states_are_sound()
     ensures started { (pack : Pack) (found : Files File) (s t : State) (events : List Event) (replies : List Reply)
         → IsStart found s → AnswersAll pack (Serving s) events replies (Serving t) → IsSound t }
@@ -87,27 +88,27 @@ pub fn states_are_sound()
         → IsSound (step pack serial s event).1 }
 {}
 
-/// A call that is done and takes room leaves room: where more is booked afterwards than before, the room
-/// is a natural number, at least 0.
+/// Proves that a call that is done and takes room leaves room: if more is booked after it than before, the room is a
+/// natural number, at least 0.
 pub fn room_is_not_overdrawn()
     ensures { (pack : Pack) (serial : ℕ) (s : State) (event : Event) → IsFresh s serial → IsSound s
         → (step pack serial s event).0 ≡ Done
         → booked s < booked (step pack serial s event).1 → (k : ℕ) × (room pack (step pack serial s event).1 ≡ pos k) }
 {}
 
-/// No call but QUOTA takes a directory above its quota: what is charged stays within the quota that there was, and no
-/// other call changes a quota.
+/// Proves that no call except QUOTA takes a directory above its quota: what is charged stays within the quota from
+/// before the call, and no other call changes a quota.
 pub fn quotas_are_not_overdrawn()
     ensures within { (pack : Pack) (s t : State) (event : Event) (reply : Reply) (ppn : ℕ) → IsSound s
         → Steps pack s event reply t → is_limited s ppn ≡ true → charge s ppn ≤ quota_of s ppn
         → charge t ppn ≤ quota_of s ppn }
-    ensures quota { (pack : Pack) (s t : State) (event : Event) (reply : Reply) (ppn : ℕ) (d new : Directory Version)
+    ensures quota { (pack : Pack) (s t : State) (event : Event) (reply : Reply) (ppn : ℕ) (d new : Directory SpecVersion)
         → ((n e : ℕ) (moment : Moment) → event ≢ Calls n (Quota e) moment) → Steps pack s event reply t
         → get s.files ppn ≡ Some d → get t.files ppn ≡ Some new → new.quota ≡ d.quota }
 {}
 
-/// Who reads a version keeps it where others rename, delete and remove: a RENAME closes the input side of its
-/// own channel alone, the removal of a directory none; and a RENAME that is refused leaves all files.
+/// Proves that a reader of a version keeps it when others rename, delete and remove: a RENAME closes only the input
+/// side of its own channel, the removal of a directory closes none, and a refused RENAME leaves all files.
 pub fn readers_keep_versions()
     ensures renamed { (pack : Pack) (serial : ℕ) (s : State) (n ch e : ℕ) (moment : Moment) (m k : ℕ)
         → (m ≢ n) ⊎ (k ≢ ch)
@@ -119,38 +120,38 @@ pub fn readers_keep_versions()
         → (step pack serial s (Calls n (Rename ch e) moment)).1.files ≡ s.files }
 {}
 
-/// A RENAME that is done moves one version and no other: it stands at the new place with the protection given, or
-/// nowhere, and all other places have what they had.
+/// Proves that a RENAME that is done moves one version and no other: the version is then at the new place with the
+/// protection given, or nowhere, and all other places have what they had.
 pub fn renames_move_one_version()
-    ensures moved { (pack : Pack) (serial : ℕ) (s : State) (n ch e : ℕ) (moment : Moment) (job : Job) (c : Channel)
-        (i : Input) → job_at s n ≡ Some job → channel_at job ch ≡ Some c → c.input ≡ Some i
-        → (v : Version) → (step pack serial s (Calls n (Rename ch e) moment)).0 ≡ Done
+    ensures moved { (pack : Pack) (serial : ℕ) (s : State) (n ch e : ℕ) (moment : Moment) (job : SpecJob) (c : Channel)
+        (i : SpecInput) → job_at s n ≡ Some job → channel_at job ch ≡ Some c → c.input ≡ Some i
+        → (v : SpecVersion) → (step pack serial s (Calls n (Rename ch e) moment)).0 ≡ Done
         → file_at s.files i.place ≡ Some v → deletes_at job e ≡ false
         → file_at (step pack serial s (Calls n (Rename ch e) moment)).1.files (place_at job e)
         ≡ Some (with_protection v (protection_at job e)) }
-    ensures gone { (pack : Pack) (serial : ℕ) (s : State) (n ch e : ℕ) (moment : Moment) (job : Job) (c : Channel)
-        (i : Input) → job_at s n ≡ Some job → channel_at job ch ≡ Some c → c.input ≡ Some i
+    ensures gone { (pack : Pack) (serial : ℕ) (s : State) (n ch e : ℕ) (moment : Moment) (job : SpecJob) (c : Channel)
+        (i : SpecInput) → job_at s n ≡ Some job → channel_at job ch ≡ Some c → c.input ≡ Some i
         → (step pack serial s (Calls n (Rename ch e) moment)).0 ≡ Done → deletes_at job e ≡ true
         → file_at (step pack serial s (Calls n (Rename ch e) moment)).1.files i.place ≡ None }
-    ensures left { (pack : Pack) (serial : ℕ) (s : State) (n ch e : ℕ) (moment : Moment) (job : Job) (c : Channel)
-        (i : Input) → job_at s n ≡ Some job → channel_at job ch ≡ Some c → c.input ≡ Some i
-        → (v : Version) → (step pack serial s (Calls n (Rename ch e) moment)).0 ≡ Done
+    ensures left { (pack : Pack) (serial : ℕ) (s : State) (n ch e : ℕ) (moment : Moment) (job : SpecJob) (c : Channel)
+        (i : SpecInput) → job_at s n ≡ Some job → channel_at job ch ≡ Some c → c.input ≡ Some i
+        → (v : SpecVersion) → (step pack serial s (Calls n (Rename ch e) moment)).0 ≡ Done
         → file_at s.files i.place ≡ Some v → deletes_at job e ≡ false → i.place ≢ place_at job e
         → file_at (step pack serial s (Calls n (Rename ch e) moment)).1.files i.place ≡ None }
-    ensures untouched { (pack : Pack) (serial : ℕ) (s : State) (n ch e : ℕ) (moment : Moment) (job : Job)
-        (c : Channel) (i : Input) → job_at s n ≡ Some job → channel_at job ch ≡ Some c → c.input ≡ Some i
-        → (v : Version) → (step pack serial s (Calls n (Rename ch e) moment)).0 ≡ Done
+    ensures untouched { (pack : Pack) (serial : ℕ) (s : State) (n ch e : ℕ) (moment : Moment) (job : SpecJob)
+        (c : Channel) (i : SpecInput) → job_at s n ≡ Some job → channel_at job ch ≡ Some c → c.input ≡ Some i
+        → (v : SpecVersion) → (step pack serial s (Calls n (Rename ch e) moment)).0 ≡ Done
         → file_at s.files i.place ≡ Some v → (q : Place) → q ≢ i.place → q ≢ place_at job e
         → file_at (step pack serial s (Calls n (Rename ch e) moment)).1.files q ≡ file_at s.files q }
 {}
 
-/// An IN never changes the room.
+/// Proves that an IN never changes the room.
 pub fn reading_takes_no_room()
     ensures { (pack : Pack) (serial : ℕ) (s : State) (n ch a : ℕ) (moment : Moment)
         → room pack (step pack serial s (Calls n (In ch a) moment)).1 ≡ room pack s }
 {}
 
-/// No reply tells which serial an event chose, nor do the files without serials.
+/// Proves that neither the reply to an event nor the files without serials show which serial the event chose.
 pub fn serials_are_not_seen()
     ensures files { (pack : Pack) (a b : ℕ) (s : State) (event : Event)
         → without_serials (step pack a s event).1.files ≡ without_serials (step pack b s event).1.files }
@@ -158,8 +159,8 @@ pub fn serials_are_not_seen()
         → (step pack a s event).0 ≡ (step pack b s event).0 }
 {}
 
-/// Nor do the replies of a whole run, nor what its end shows: from one state, whatever serials were chosen,
-/// the replies to the same events are the same, and so are the files, the lists of directories and the room.
+/// Proves that neither the replies of a whole run nor its end show serials: from one state, whatever serials were
+/// chosen, the replies to the same events are the same, and so are the files, the lists of directories and the room.
 pub fn runs_tell_no_serials()
     ensures { (pack : Pack) (s t u : State) (events : List Event) (one other : List Reply)
         → StepsAll pack s events one t → StepsAll pack s events other u
@@ -167,8 +168,8 @@ pub fn runs_tell_no_serials()
         × ((n owner : ℕ) → list t n owner ≡ list u n owner) × (room pack t ≡ room pack u) }
 {}
 
-/// The moments of a run go on by one event, from one state of a disk to another, with what a crash leaves
-/// between them: the files before the event, or those after it where its answer is one that may change files.
+/// Proves that the moments of a run continue by one event, from one state of a disk to another, with what a crash
+/// leaves between them: the files before the event, or those after it if its answer is one that may change files.
 pub fn moments_go_on<D: Disk>(old: &D, new: &D)
     ensures start { (pack : Pack) (s : State)
         → ((c : Contents) → MayLeave (D.state old.now) c → StandsForState pack s c)

@@ -1,9 +1,10 @@
+//! The status of a channel.
 ghost use Rattle.std.specs.Prelude.{⊤, ◌≡◌, ◌+◌, ◌<◌, ◌^◌, [], ◌∷◌, codes};
 ghost use Rattle.spec_machine.specs.Jobs.{cleared, block_too_large, end_of_file, improper_mode};
 
 use bitflags::{Flag, Flags, bitflag_items};
 
-/// A channel's status: 18 bits. Five of them report how a call went; below them stands the mode.
+/// A channel's status: 18 bits. Five of them report how a call went; the mode is below them.
 #[derive(Clone, Copy, Debug, PartialEq, Eq)]
 pub struct IoStatus(
     /// The 18 bits.
@@ -31,24 +32,24 @@ impl Flags for IoStatus {
 
     ghost set_of = { λ s. s.0 };
 
-    /// The flags, by their names.
+    /// Returns the flags, by their names.
     fn flags<'a>() -> &'a [Flag<IoStatus>] {
         IoStatus::FLAGS
     }
 
-    /// The 18 bits.
+    /// Returns the 18 bits.
     fn bits(&self) -> u32 {
         self.0
     }
 
-    /// The status of these bits.
+    /// Returns the status of these bits.
     fn from_bits_retain(bits: u32) -> IoStatus {
         IoStatus(bits)
     }
 }
 
 impl IoStatus {
-    /// The status of a channel that was opened in a mode.
+    /// Returns the status of a channel that was opened in a mode.
     pub fn of_mode(mode: u32) -> IoStatus
         requires { mode < 16 }
         ensures { result.0 ≡ mode }
@@ -56,7 +57,7 @@ impl IoStatus {
         IoStatus(mode)
     }
 
-    /// The status of an OPEN that knows no such device or mode.
+    /// Returns the status of an OPEN that names a device or a mode that doesn't exist.
     pub fn improper(mode: u32) -> IoStatus
         requires { mode < 16 }
         ensures { result.0 ≡ improper_mode + mode }
@@ -64,21 +65,21 @@ impl IoStatus {
         IoStatus::of_mode(mode).union(IoStatus::IMP)
     }
 
-    /// The status with none of the five bits that report.
+    /// Returns the status with none of the five bits that report.
     pub fn cleared(self) -> IoStatus
         ensures { result.0 ≡ cleared self.0 }
     {
         self.intersection(IoStatus::KEPT)
     }
 
-    /// The status that reports a block number that is too large, or that there is no room.
+    /// Returns the status that reports a block number that is too large, or that there is no room.
     pub fn block_too_large(self) -> IoStatus
         ensures { result.0 ≡ cleared self.0 + block_too_large }
     {
         self.cleared().union(IoStatus::BKT)
     }
 
-    /// The status that reports the end of the file.
+    /// Returns the status that reports the end of the file.
     pub fn end_of_file(self) -> IoStatus
         ensures { result.0 ≡ cleared self.0 + end_of_file }
     {

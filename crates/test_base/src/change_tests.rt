@@ -1,13 +1,15 @@
+//! Tests of change sets, commits and recovery.
 ghost use Rattle.std.specs.Prelude.{◌≡◌, ◌<◌, ◌≤◌, length};
 ghost use Rattle.std.specs.List.{AllByRecursion};
 ghost use Rattle.spec_image.specs.Common.{IsTarget, targets};
 
-use crate::disk_tests::{beginning, expect_block, filled};
-use blockdisk::{Disk, Fault, MemDisk, NoMemory};
+use crate::disk_tests::expect_block;
+use blockdisk::{Disk, MemDisk, NoMemory};
 use changeset::{ChangeSet, LogError, MAX_PUTS, commit, recover};
 use std::alloc::Global;
 use std::process::Abort;
 use std::test::Fail;
+use test_support::{FailingDisk, OPEN, beginning, filled, v1};
 use words36::{Block, Word};
 
 /// The smallest volume. Its log has room for 9 images, and block 15 is the first of its free space.
@@ -19,9 +21,6 @@ const HEADER: u32 = 4;
 
 const FIRST_IMAGE: u32 = 5;
 
-/// Each word of an open gate.
-const OPEN: u64 = 0o252525252525;
-
 fn load(rt: &impl Abort, disk: &mut MemDisk, n: u32, block: &Block) {
     assert!(rt; n < disk.blocks());
     disk.load(n, block);
@@ -32,7 +31,7 @@ fn damage(rt: &impl Abort, disk: &mut MemDisk, n: u32) {
     disk.damage(n);
 }
 
-/// Adds a put of a block that is all this number.
+/// Adds a put of a block whose words are all this number.
 fn add(rt: &impl Abort, set: &mut ChangeSet, block: u32, number: u64)
     requires target { (14 ≤ block) × (block < 64) }
     requires targets { AllByRecursion (IsTarget 64) (targets set.old) }
@@ -44,7 +43,7 @@ fn add(rt: &impl Abort, set: &mut ChangeSet, block: u32, number: u64)
     }
 }
 
-/// Puts for so many blocks from 20 on, the first of them all 100s, the next all 101s.
+/// Returns puts for `count` blocks from block 20: the words of the first are all 100, those of the next all 101.
 fn puts(rt: &impl Abort, count: u32) -> ChangeSet
     requires { count ≤ 37 }
     ensures { AllByRecursion (IsTarget 64) (targets result) }
@@ -103,54 +102,10 @@ fn a_log_has_room_for_its_images(rt: HostRuntime) -> Result<(), Fail> {
     Ok(())
 }
 
-/// A disk that counts its writes and syncs.
-#[derive(Drop)]
-struct CountedDisk {
-    disk: MemDisk,
-    writes: u32,
-    syncs: u32,
-}
-
-impl Disk for CountedDisk {
-    ghost use Rattle.blockdisk.specs.Common.{memory_state};
-    ghost use Rattle.blockdisk.specs.Common.{only_now, reaches_back};
-    ghost use Rattle.std.proofs.Common.{inr};
-
-    ghost state = { λ counted. memory_state counted.disk };
-
-    ghost counts_now = { λ counted t c h le left. inr left };
-
-    ghost only_now = { λ counted c h left. only_now counted.disk c left };
-
-    ghost reaches_back = { λ counted t u c h le left. reaches_back counted.disk t u c le left };
-
-    fn blocks(&self) -> u32 {
-        self.disk.blocks()
-    }
-
-    fn read(&mut self, n: u32) -> Result<Block, Fault> {
-        self.disk.read(n)
-    }
-
-    fn write(&mut self, n: u32, block: &Block) -> Result<(), Fault> {
-        self.writes = self.writes.saturating_add(1);
-        self.disk.write(n, block)
-    }
-
-    fn sync(&mut self) -> Result<(), Fault> {
-        self.syncs = self.syncs.saturating_add(1);
-        self.disk.sync()
-    }
-}
-
 #[test]
 fn a_commit_counts_its_calls(rt: HostRuntime) -> Result<(), Fail> {
     for count in 0..10 {
-        let mut counted = CountedDisk {
-            disk: MemDisk::new(rt.alloc(), SIZE, 100)?,
-            writes: 0,
-            syncs: 0,
-        };
+        let mut counted = FailingDisk::counting(MemDisk::new(rt.alloc(), SIZE, 100)?);
         assert_eq!(rt; commit_to(&rt, &mut counted, &puts(&rt, count)), Ok(()));
         if count == 0 {
             assert_eq!(rt; (counted.writes, counted.syncs), (0, 1));
@@ -161,7 +116,7 @@ fn a_commit_counts_its_calls(rt: HostRuntime) -> Result<(), Fail> {
     Ok(())
 }
 
-/// Starts the disk again after a full record, until its log is done with.
+/// Starts the disk again after its record was full, and recovers it until its log is done with.
 fn restart(rt: &impl Abort, disk: &mut MemDisk) {
     load(rt, disk, 0, &filled(0));
     if recover(disk) == Err(LogError::Device) {
@@ -189,51 +144,9 @@ fn a_commit_that_stops_is_all_or_none(rt: HostRuntime) -> Result<(), Fail> {
     Ok(())
 }
 
-/// A small volume with one directory and in it one file, closed.
-fn volume(rt: &impl Abort, alloc: Global) -> Result<MemDisk, NoMemory> {
-    let mut disk = MemDisk::new(alloc, SIZE, 100)?;
-    let home = beginning(&[0o465154634562, 1, 0o100, 1, 0o11, 0o17]);
-    load(rt, &mut disk, 1, &home);
-    load(rt, &mut disk, 2, &home);
-    load(rt, &mut disk, 14, &beginning(&[0o777777400000]));
-    load(
-        rt,
-        &mut disk,
-        15,
-        &beginning(&[0, 1, 0o000010000020, 0o775000000000, 0o20]),
-    );
-    load(
-        rt,
-        &mut disk,
-        16,
-        &beginning(&[0, 1, 0o465757000000, 0o647064000000, 0o21]),
-    );
-    load(
-        rt,
-        &mut disk,
-        17,
-        &beginning(&[
-            0o625142000000,
-            0o465757000000,
-            0o647064000000,
-            0o057000007777,
-            0o000010000020,
-            2,
-            1,
-        ]),
-    );
-    load(
-        rt,
-        &mut disk,
-        18,
-        &beginning(&[0o442131446236, 0o064240000000]),
-    );
-    Ok(disk)
-}
-
-/// The same with its gate open and a log that empties the master directory and the table.
+/// Returns V1 with its gate open and a log that empties the master directory and the table.
 fn open_volume(rt: &impl Abort, alloc: Global) -> Result<MemDisk, NoMemory> {
-    let mut disk = volume(rt, alloc)?;
+    let mut disk = v1(alloc, 100)?;
     load(rt, &mut disk, GATE, &filled(OPEN));
     load(
         rt,

@@ -1,28 +1,9 @@
+//! Tests of disks in memory.
 use blockdisk::{Disk, Fault, MemDisk, NoMemory, write_copies, write_through};
 use std::process::Abort;
 use std::test::Fail;
-use words36::{BLOCK_WORDS, Block, Word};
-
-fn word(number: u64) -> Word {
-    match Word::new(number) {
-        Some(word) => word,
-        None => Word::ZERO,
-    }
-}
-
-/// A block whose words are all this number.
-pub(crate) fn filled(number: u64) -> Block {
-    [word(number); BLOCK_WORDS]
-}
-
-/// A block that begins with these words, and is zero behind them.
-pub(crate) fn beginning(words: &[u64]) -> Block {
-    let mut block = [Word::ZERO; BLOCK_WORDS];
-    for (place, &number) in block.iter_mut().zip(words) {
-        *place = word(number);
-    }
-    block
-}
+use test_support::filled;
+use words36::Block;
 
 pub(crate) fn expect_block<D: Disk>(rt: &impl Abort, disk: &mut D, n: u32, block: &Block) {
     assert!(rt; n < disk.blocks());

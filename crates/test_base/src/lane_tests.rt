@@ -1,16 +1,17 @@
+//! Tests of the search for clear bits.
 use alloctab::{count_clear, first_clear};
 use std::process::Abort;
 use words36::Word;
 
-/// How many words the longest lists have.
+/// The number of words in the longest lists.
 const MOST: usize = 40;
 
-/// Whether a bit of a list of words is clear.
+/// Returns whether a bit of a list of words is clear.
 fn is_clear(words: &[Word], n: usize) -> bool {
     n / 36 < words.len() && (words[n / 36].bits() >> (35 - n % 36)) % 2 == 0
 }
 
-/// The lowest bit that is clear in both lists, bit by bit.
+/// Returns the lowest bit that is clear in both lists, bit by bit.
 fn first_by_bits(set: &[Word], held: &[Word]) -> Option<usize> {
     for n in 0..set.len().saturating_mul(36) {
         if is_clear(set, n) && is_clear(held, n) {
@@ -20,7 +21,7 @@ fn first_by_bits(set: &[Word], held: &[Word]) -> Option<usize> {
     None
 }
 
-/// How many bits are clear in both lists, bit by bit.
+/// Returns the number of bits that are clear in both lists, bit by bit.
 fn count_by_bits(set: &[Word], held: &[Word]) -> usize {
     let mut count: usize = 0;
     for n in 0..set.len().saturating_mul(36) {
@@ -31,25 +32,26 @@ fn count_by_bits(set: &[Word], held: &[Word]) -> usize {
     count
 }
 
-/// The search by lanes finds what the one by bits does, and counts the same.
+/// Checks that the search by lanes finds what the one by bits does, and counts the same.
 fn expect_same(rt: &impl Abort, set: &[Word], held: &[Word]) {
     assert!(rt; set.len() == held.len() && set.len() <= MOST);
     assert_eq!(rt; first_clear(set, held), first_by_bits(set, held));
     assert_eq!(rt; count_clear(set, held), count_by_bits(set, held));
 }
 
-/// The next of a fixed row of numbers, as random as a test needs.
+/// Returns the next of a fixed row of numbers, as random as a test needs.
 fn next(seed: u64) -> u64 {
     seed.wrapping_mul(6364136223846793005)
         .wrapping_add(1442695040888963407)
 }
 
-/// The word of a number's upper 36 bits.
+/// Returns the word of a number's upper 36 bits.
 fn word_of(seed: u64) -> Word {
     Word::from_bits(seed >> 28)
 }
 
-/// Words of which so many have each bit in one of the two lists, the next all but one, and the rest any.
+/// Fills the words of both lists: in the first `full` places each bit is set in one of the two lists, in the next place
+/// all but one, and in the rest any.
 fn fill(set: &mut [Word; MOST], held: &mut [Word; MOST], full: usize, seed: u64) {
     let mut seed = seed;
     for place in 0..MOST {

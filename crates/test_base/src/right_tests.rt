@@ -1,3 +1,4 @@
+//! Tests of rights.
 use protect::{Act, DirectoryAct, dir_right, right};
 use std::test::Fail;
 use words36::Ppn;

@@ -1,10 +1,10 @@
-use crate::disk_tests::beginning;
+//! Tests of tables of blocks.
 use alloctab::{Reached, Table, TableError};
-use blockdisk::{Disk, Fault, MemDisk, NoMemory};
+use blockdisk::{Disk, MemDisk, NoMemory};
 use changeset::ChangeSet;
 use std::process::Abort;
 use std::test::Fail;
-use words36::Block;
+use test_support::{Answer, FailingDisk, beginning};
 
 /// Gives a disk of 64 blocks a table that begins with these words.
 fn load_table(rt: &impl Abort, disk: &mut MemDisk, first: u64, second: u64) {
@@ -34,72 +34,23 @@ fn the_table_of_a_small_disk(rt: HostRuntime) -> Result<(), Fail> {
     Ok(())
 }
 
-/// A disk that fails from its next read on but so many. It is called dishonest, so that nothing is asked
-/// of it but its count of failures.
-#[derive(Drop)]
-struct FailingDisk {
-    disk: MemDisk,
-    reads: u32,
-    failures: u64,
-}
-
-impl Disk for FailingDisk {
-    ghost use Rattle.blockdisk.specs.Common.{memory_state};
-
-    ghost state = { λ failing. record (memory_state failing.disk) { honest = ⊥; failures = failing.failures } };
-
-    ghost counts_now = { λ failing t c honest. absurd honest };
-
-    ghost only_now = { λ failing c honest. absurd honest };
-
-    ghost reaches_back = { λ failing t u c honest. absurd honest };
-
-    fn blocks(&self) -> u32 {
-        self.disk.blocks()
-    }
-
-    fn read(&mut self, n: u32) -> Result<Block, Fault> {
-        if self.reads == 0 {
-            self.failures = self.failures.saturating_add(1);
-            return Err(Fault::Device);
-        }
-        self.reads -= 1;
-        match self.disk.read(n) {
-            Err(Fault::Device) => {
-                self.failures = self.failures.saturating_add(1);
-                Err(Fault::Device)
-            }
-            answer => answer,
-        }
-    }
-
-    fn write(&mut self, _n: u32, _block: &Block) -> Result<(), Fault> {
-        self.failures = self.failures.saturating_add(1);
-        Err(Fault::Device)
-    }
-
-    fn sync(&mut self) -> Result<(), Fault> {
-        self.failures = self.failures.saturating_add(1);
-        Err(Fault::Device)
-    }
+/// Returns a disk that fails after `reads` reads, and at each write and sync.
+fn unwritable(disk: MemDisk, reads: u32) -> FailingDisk {
+    FailingDisk::new(disk, reads, Answer::Fails, Answer::Fails)
 }
 
 /// A table block has a bit for each of 36 * 128 = 4608 blocks, so that the tables of these disks have 1, 1, 2 and 29
-/// blocks. A table stands behind the log, whose images begin at block 5 and are as many as the table has blocks, and
-/// 8 more: it begins at 14, 14, 15 and 42, and its last block is 14, 14, 16 and 70.
+/// blocks. A table is after the log, whose images begin at block 5 and are 8 more than the table has blocks: it begins
+/// at 14, 14, 15 and 42, and its last block is 14, 14, 16 and 70.
 #[test]
 fn the_last_block_of_each_table(rt: HostRuntime) -> Result<(), Fail> {
     for (size, blocks, last) in [(64, 1, 14), (4608, 1, 14), (4609, 2, 16), (131072, 29, 70)] {
         // It fails at a read beyond the blocks of the table.
-        let mut failing = FailingDisk {
-            disk: MemDisk::new(rt.alloc(), size, 0)?,
-            reads: blocks,
-            failures: 0,
-        };
+        let mut failing = unwritable(MemDisk::new(rt.alloc(), size, 0)?, blocks);
         assert!(rt; failing.blocks() == size);
         assert!(rt; 64 <= size && size <= 131072);
         let mut table = Table::load(rt.alloc(), &mut failing)?;
-        assert_eq!(rt; failing.reads, 0);
+        assert_eq!(rt; failing.left, 0);
         assert_eq!(rt; table.is_free(size - 1), true);
         table.set(size - 1);
         let mut set = ChangeSet::new();
@@ -196,11 +147,7 @@ fn what_is_reached_is_set(rt: HostRuntime) -> Result<(), Fail> {
 #[test]
 fn a_read_that_fails(rt: HostRuntime) -> Result<(), Fail> {
     for reads in 0..3 {
-        let mut failing = FailingDisk {
-            disk: MemDisk::new(rt.alloc(), 4609, 0)?,
-            reads,
-            failures: 0,
-        };
+        let mut failing = unwritable(MemDisk::new(rt.alloc(), 4609, 0)?, reads);
         assert!(rt; failing.blocks() == 4609);
         let answer = Table::load(rt.alloc(), &mut failing).err();
         if reads < 2 {

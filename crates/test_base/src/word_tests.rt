@@ -1,3 +1,4 @@
+//! Tests of words and what is written in them.
 use std::test::Fail;
 use words36::{
     BLOCK_WORDS, Day, Half, Moment, Ppn, Word, WordError, block_from_bytes, block_to_bytes,

@@ -1,7 +1,8 @@
+//! Calls of a disk, with checks of their answers.
 use blockdisk::{Disk, Fault, MemDisk, NoMemory};
 use std::alloc::Global;
 use std::process::Abort;
-use words36::{BLOCK_WORDS, Block, Word};
+use test_support::filled;
 
 /// A call of a disk. A block that is written is filled with one number.
 #[derive(Clone, Copy)]
@@ -9,27 +10,20 @@ pub(crate) enum Asked {
     Read(u32),
     Write(u32, u64),
     Sync,
-    /// A look at the blocks from the first on before the second.
+    /// A check of the blocks from the first number up to the second.
     Verify(u32, u32),
-    /// Three neighbours are read.
+    /// A read of three neighbours.
     ReadRun(u32),
-    /// Three neighbours are written, each filled with one number.
+    /// A write of three neighbours, each filled with one number.
     WriteRun(u32, u64),
 }
 
-/// What it answers: the number that fills the block that was read, or the last one of a run; the first damaged block
-/// that was met, or 0 of a look that met none; and 0 for a write or a sync.
+/// The answer to a call: the number that fills the block that was read, or the last one of a run; the first damaged
+/// block that was met, or 0 if a check met none; and 0 for a write or a sync.
 pub(crate) type Answer = Result<u64, Fault>;
 
-/// A block whose words are all this number.
-fn filled(number: u64) -> Block {
-    match Word::new(number) {
-        Some(word) => [word; BLOCK_WORDS],
-        None => [Word::ZERO; BLOCK_WORDS],
-    }
-}
-
-/// A disk in memory: block 20 is filled with 20, block 21 with 21, block 19 is damaged, and the others are zeros.
+/// Returns a disk in memory: block 20 is filled with 20, block 21 with 21, block 19 is damaged, and the others are
+/// zeros.
 pub(crate) fn disk(rt: &impl Abort, alloc: Global) -> Result<MemDisk, NoMemory> {
     let mut disk = MemDisk::new(alloc, 22, 16)?;
     for n in [20, 21] {
@@ -41,7 +35,7 @@ pub(crate) fn disk(rt: &impl Abort, alloc: Global) -> Result<MemDisk, NoMemory> 
     Ok(disk)
 }
 
-/// A disk in memory of 400 blocks, each filled with its number, but for one that may be damaged.
+/// Returns a disk in memory of 400 blocks, each filled with its number, except for one that may be damaged.
 pub(crate) fn numbered(
     rt: &impl Abort,
     alloc: Global,
@@ -59,7 +53,7 @@ pub(crate) fn numbered(
     Ok(disk)
 }
 
-/// A read of a block is answered so.
+/// Checks the answer to a read of a block.
 fn expect_read<D: Disk>(rt: &impl Abort, disk: &mut D, n: u32, wanted: Answer) {
     assert!(rt; n < disk.blocks());
     match (disk.read(n), wanted) {
@@ -69,7 +63,7 @@ fn expect_read<D: Disk>(rt: &impl Abort, disk: &mut D, n: u32, wanted: Answer) {
     }
 }
 
-/// A write or a sync was answered so.
+/// Checks the answer to a write or a sync.
 fn expect_done(rt: &impl Abort, answered: Result<(), Fault>, wanted: Answer) {
     match (answered, wanted) {
         (Ok(()), Ok(_)) => {}
@@ -78,7 +72,7 @@ fn expect_done(rt: &impl Abort, answered: Result<(), Fault>, wanted: Answer) {
     }
 }
 
-/// A look at blocks is answered so.
+/// Checks the answer to a check of blocks.
 fn expect_verified<D: Disk>(rt: &impl Abort, disk: &mut D, first: u32, end: u32, wanted: Answer) {
     assert!(rt; end <= disk.blocks());
     match (disk.verify(first, end), wanted) {
@@ -88,7 +82,7 @@ fn expect_verified<D: Disk>(rt: &impl Abort, disk: &mut D, first: u32, end: u32,
     }
 }
 
-/// A read of three neighbours is answered so: the number that fills the last, or the damaged block.
+/// Checks the answer to a read of three neighbours: the number that fills the last, or the damaged block.
 fn expect_run_read<D: Disk>(rt: &impl Abort, disk: &mut D, first: u32, wanted: Answer) {
     let mut places = [filled(0); 3];
     assert!(rt; first < 1000 && first + 3 <= disk.blocks());
@@ -100,7 +94,7 @@ fn expect_run_read<D: Disk>(rt: &impl Abort, disk: &mut D, first: u32, wanted: A
     }
 }
 
-/// These calls of a disk, one after the other, are answered so.
+/// Makes these calls of a disk, one after the other, and checks their answers.
 pub(crate) fn expect_calls<D: Disk>(rt: &impl Abort, disk: &mut D, calls: &[(Asked, Answer)]) {
     for &(asked, wanted) in calls {
         match asked {

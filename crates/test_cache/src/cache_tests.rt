@@ -1,3 +1,4 @@
+//! Tests of a disk with a cache.
 use crate::asking::{Answer, Asked, expect_calls, numbered};
 use blockcache::Cached;
 use blockdisk::{Fail as Failing, Fault, FuseDisk, MemDisk, NoMemory};
@@ -6,14 +7,14 @@ use std::num::NonZeroUsize;
 use std::process::Abort;
 use std::test::Fail;
 
-/// What a fuse answers once it is blown.
+/// The answer of a fuse that has blown.
 const DEVICE: Answer = Err(Fault::Device);
 
-/// A block that holds no words.
+/// The answer for a block that holds no words.
 const DAMAGED: Answer = Err(Fault::Damaged);
 
-/// Checks the answers to these calls of a disk that keeps so many blocks, over a fuse that lets so many calls pass, and
-/// then those to these calls of the disk under it.
+/// Checks the answers to these calls of a disk that caches this number of blocks, over a fuse that lets a number of
+/// calls pass, and then those to these calls of the disk underneath.
 fn expect_cached(
     rt: &impl Abort,
     alloc: Global,
@@ -37,8 +38,8 @@ fn expect_cached(
     }
 }
 
-/// Checks the answers to these calls of a numbered disk, of which one block may be damaged, and one is kept beside the
-/// windows. The fuse counts each block that is read or written, and each sync.
+/// Checks the answers to these calls of a numbered disk, of which one block may be damaged, and one is cached besides
+/// the windows. The fuse counts each block that is read or written, and each sync.
 fn expect_answers(
     rt: &impl Abort,
     alloc: Global,
@@ -51,7 +52,7 @@ fn expect_answers(
     expect_cached(rt, alloc, disk, NonZeroUsize::MIN, fuse, calls, under)
 }
 
-/// Two reads of block 100 ask the device once, for it and for the block before it.
+/// Two reads of block 100 call the device once, for it and for the block before it.
 #[test]
 fn a_block_that_is_kept_asks_no_device(rt: HostRuntime) -> Result<(), Fail> {
     let calls = [
@@ -65,7 +66,7 @@ fn a_block_that_is_kept_asks_no_device(rt: HostRuntime) -> Result<(), Fail> {
     Ok(())
 }
 
-/// As long as reads stay near, each asks for twice as many blocks as the one before it, from where that one ended.
+/// As long as reads stay near, each reads twice as many blocks as the one before it, from where that one ended.
 #[test]
 fn neighbours_are_read_along(rt: HostRuntime) -> Result<(), Fail> {
     let calls = [
@@ -75,7 +76,7 @@ fn neighbours_are_read_along(rt: HostRuntime) -> Result<(), Fail> {
         (Asked::Read(107), Ok(107)), // 106 to 113
         (Asked::Read(106), Ok(106)),
         (Asked::Read(113), Ok(113)),
-        (Asked::Read(104), Ok(104)), // of the window before
+        (Asked::Read(104), Ok(104)), // from the window before
         (Asked::Read(101), DEVICE),
     ];
     let fuse = (14, Failing::All);
@@ -83,7 +84,7 @@ fn neighbours_are_read_along(rt: HostRuntime) -> Result<(), Fail> {
     Ok(())
 }
 
-/// A read that is far from the one before it asks for two blocks, and one that is near but not reached from there ends
+/// A read that is far from the one before it reads two blocks, and one that is near but not reached from there ends
 /// with its block.
 #[test]
 fn far_blocks_are_read_singly(rt: HostRuntime) -> Result<(), Fail> {
@@ -101,7 +102,7 @@ fn far_blocks_are_read_singly(rt: HostRuntime) -> Result<(), Fail> {
     Ok(())
 }
 
-/// No block behind the last of the disk is asked for.
+/// No block after the last one of the disk is read.
 #[test]
 fn the_disk_ends(rt: HostRuntime) -> Result<(), Fail> {
     let calls = [
@@ -115,8 +116,8 @@ fn the_disk_ends(rt: HostRuntime) -> Result<(), Fail> {
     Ok(())
 }
 
-/// Three neighbours that are written go past block 101, which was kept, and a read of it asks the device again; a read
-/// of three asks it for each.
+/// A write of three neighbours bypasses block 101, which was cached, and a read of that calls the device again; a
+/// read of three calls it for each.
 #[test]
 fn a_run_goes_past_what_is_kept(rt: HostRuntime) -> Result<(), Fail> {
     let calls = [
@@ -134,7 +135,8 @@ fn a_run_goes_past_what_is_kept(rt: HostRuntime) -> Result<(), Fail> {
     Ok(())
 }
 
-/// If there is room for one block beside the windows, the one used last is kept; if there is room for two, both are.
+/// If there is room for one block besides the windows, the one used last is cached; if there is room for two, both
+/// are.
 #[test]
 fn another_block_takes_the_place(rt: HostRuntime) -> Result<(), Fail> {
     let alloc = rt.alloc();
@@ -153,7 +155,7 @@ fn another_block_takes_the_place(rt: HostRuntime) -> Result<(), Fail> {
     Ok(())
 }
 
-/// A block that holds no words is asked for each time.
+/// A block that holds no words is read from the device each time.
 #[test]
 fn a_damaged_block_is_never_kept(rt: HostRuntime) -> Result<(), Fail> {
     let calls = [
@@ -167,7 +169,7 @@ fn a_damaged_block_is_never_kept(rt: HostRuntime) -> Result<(), Fail> {
     Ok(())
 }
 
-/// A block behind a damaged one that was to be read with it is read by itself.
+/// A block after a damaged one, with which it would have been read, is read by itself.
 #[test]
 fn damage_before_a_block(rt: HostRuntime) -> Result<(), Fail> {
     let calls = [
@@ -183,7 +185,7 @@ fn damage_before_a_block(rt: HostRuntime) -> Result<(), Fail> {
     Ok(())
 }
 
-/// Blocks before a damaged one are kept, and those behind it aren't.
+/// Blocks before a damaged one are cached, and those after it aren't.
 #[test]
 fn damage_behind_a_block(rt: HostRuntime) -> Result<(), Fail> {
     let calls = [
@@ -200,8 +202,8 @@ fn damage_behind_a_block(rt: HostRuntime) -> Result<(), Fail> {
     Ok(())
 }
 
-/// A look at blocks asks for those from the first on that isn't in a window, also for one that is kept by itself, and
-/// keeps none.
+/// A check of blocks calls the device for those from the first that isn't in a window, even for one that is cached by
+/// itself, and caches none.
 #[test]
 fn blocks_that_are_looked_at(rt: HostRuntime) -> Result<(), Fail> {
     let calls = [
@@ -218,7 +220,7 @@ fn blocks_that_are_looked_at(rt: HostRuntime) -> Result<(), Fail> {
     Ok(())
 }
 
-/// A block that was written is kept, and stands on the disk; the blocks that were read with it are read again.
+/// A block that was written is cached, and is on the disk; the blocks that were read with it are read again.
 #[test]
 fn a_block_that_was_written_is_kept(rt: HostRuntime) -> Result<(), Fail> {
     let calls = [
@@ -235,7 +237,7 @@ fn a_block_that_was_written_is_kept(rt: HostRuntime) -> Result<(), Fail> {
     Ok(())
 }
 
-/// A window stays after a sync, and after a write of a block behind it.
+/// A window stays after a sync, and after a write of a block that follows it.
 #[test]
 fn a_write_beside_a_window_leaves_it(rt: HostRuntime) -> Result<(), Fail> {
     let calls = [
@@ -251,7 +253,7 @@ fn a_write_beside_a_window_leaves_it(rt: HostRuntime) -> Result<(), Fail> {
     Ok(())
 }
 
-/// After a write that failed the block is read from the disk, as it is there.
+/// After a write that failed, the block is read from the disk, as it is there.
 #[test]
 fn a_write_that_failed_leaves_nothing_kept(rt: HostRuntime) -> Result<(), Fail> {
     let calls = [
@@ -264,7 +266,7 @@ fn a_write_that_failed_leaves_nothing_kept(rt: HostRuntime) -> Result<(), Fail> 
     Ok(())
 }
 
-/// After a sync that failed each block is read from the disk.
+/// After a sync that failed, each block is read from the disk.
 #[test]
 fn a_sync_that_failed_leaves_nothing_kept(rt: HostRuntime) -> Result<(), Fail> {
     let calls = [
@@ -278,7 +280,7 @@ fn a_sync_that_failed_leaves_nothing_kept(rt: HostRuntime) -> Result<(), Fail> {
     Ok(())
 }
 
-/// If the device fails at a block, none of those that were read with it is kept.
+/// If the device fails at a block, none of those that were read with it is cached.
 #[test]
 fn a_read_that_failed_leaves_nothing_kept(rt: HostRuntime) -> Result<(), Fail> {
     let once = [
@@ -293,7 +295,7 @@ fn a_read_that_failed_leaves_nothing_kept(rt: HostRuntime) -> Result<(), Fail> {
     Ok(())
 }
 
-/// So much room as there is nowhere: the disk is handed back as it was.
+/// More room than there is anywhere: the disk is handed back as it was.
 #[test]
 fn a_cache_without_memory(rt: HostRuntime) -> Result<(), Fail> {
     let all = NonZeroUsize::MAX;
@@ -305,8 +307,7 @@ fn a_cache_without_memory(rt: HostRuntime) -> Result<(), Fail> {
     Ok(())
 }
 
-/// Run with each allocation refused in turn: no answer of a call is another one, and the answer to the making of the
-/// cache is `NoMemory`.
+/// Run with each allocation refused in turn: every call has the same answer, and making the cache answers `NoMemory`.
 #[test]
 fn each_allocation_refused(rt: HostRuntime) {
     let calls = [

@@ -1,10 +1,11 @@
+//! Tests of a disk that fails on purpose.
 use crate::asking::{Answer, Asked, disk, expect_calls};
 use blockdisk::{Fail as Failing, Fault, FuseDisk};
 use std::alloc::Global;
 use std::process::Abort;
 use std::test::Fail;
 
-/// These calls of a disk behind a fuse are answered so, and then those of the disk under it.
+/// Checks the answers to these calls of a disk with a fuse, and then those to these calls of the disk underneath.
 fn expect_fused(
     rt: &impl Abort,
     alloc: Global,
@@ -49,7 +50,7 @@ fn all_calls_fail(rt: HostRuntime) -> Result<(), Fail> {
         (Asked::Sync, device),
         (Asked::Read(20), device),
     ];
-    // both writes were made all the same
+    // Both writes were made all the same.
     let under = [(Asked::Read(20), Ok(7)), (Asked::Read(21), Ok(8))];
     expect_fused(&rt, rt.alloc(), 2, Failing::All, &calls, &under)
 }

@@ -1,5 +1,5 @@
-//! Tests of disks that fail on purpose and of blocks that are kept, by their public calls alone. They stand apart from
-//! the crates that they test so that each of these is proved once. There is no code here beside them.
+//! Tests of disks that fail on purpose and of cached blocks, by their public calls alone. They are apart from the
+//! crates that they test so that each of these is proved once. There is no other code here.
 #![tactic(auto)]
 
 #[cfg(test)]

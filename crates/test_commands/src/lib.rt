@@ -1,7 +1,7 @@
-//! Tests of sessions, call scripts and exchanges over a monitor and a disk in memory that no text of lines can play: readers and
-//! writers that fail or go in small pieces, refused allocations, long lines, lines of quotas and what they leave on the
-//! disk, and what is counted. What lines and events come to is played by the program `scenarios`. There is no code here
-//! beside them.
+//! Tests of sessions, call scripts and exchanges over a monitor and a disk in memory that no text of lines can play:
+//! readers and writers that fail or work in small pieces, refused allocations, long lines, lines of quotas and what
+//! they leave on the disk, and what is counted. The program `scenarios` plays what lines and events come to. There is
+//! no code here besides the tests.
 #![tactic(auto)]
 
 #[cfg(test)]

@@ -1,3 +1,4 @@
+//! Long lines, the tally of refused lines, and the texts of refusals.
 use crate::service::{Language, counted, printed};
 use commands::refusal;
 use spec_machine::Reply;
@@ -6,7 +7,7 @@ use std::process::Abort;
 use std::test::Fail;
 use words36::Word;
 
-/// `LOGIN` with so many blanks before the number, and this behind it, prints so.
+/// Checks what `LOGIN` prints with this many blanks before the number, and this end after it.
 fn expect_long_line(
     rt: &impl Abort,
     alloc: Global,
@@ -26,7 +27,7 @@ fn expect_long_line(
     Ok(())
 }
 
-/// A line has at most 255 bytes, a carriage return counted.
+/// Checks that a line has at most 255 bytes, a carriage return counted.
 #[test]
 fn long_lines(rt: HostRuntime) -> Result<(), Fail> {
     let job = b"Job 1 [10,20]\n".as_slice();
@@ -48,7 +49,8 @@ fn long_lines(rt: HostRuntime) -> Result<(), Fail> {
     Ok(())
 }
 
-/// These lines print so, and are counted so: how many were refused, which is the first, and whether one met a fault.
+/// Checks what lines print, and what is counted: how many were refused, which is the first, and whether one met a
+/// fault.
 fn expect_counted(
     rt: &impl Abort,
     alloc: Global,
@@ -62,7 +64,7 @@ fn expect_counted(
     Ok(())
 }
 
-/// How many lines of a session were refused, and which. Nothing is counted for the RESET at its end.
+/// Checks how many lines of a session were refused, and which. The RESET at its end isn't counted.
 #[test]
 fn session_tallies(rt: HostRuntime) -> Result<(), Fail> {
     for (calls, lines, text, tally) in [
@@ -96,7 +98,7 @@ fn session_tallies(rt: HostRuntime) -> Result<(), Fail> {
     Ok(())
 }
 
-/// How many lines of a script were refused, and which.
+/// Checks how many lines of a script were refused, and which.
 #[test]
 fn script_tallies(rt: HostRuntime) -> Result<(), Fail> {
     for (calls, lines, text, tally) in [
@@ -125,7 +127,7 @@ fn script_tallies(rt: HostRuntime) -> Result<(), Fail> {
     Ok(())
 }
 
-/// What a refused call prints.
+/// Checks what a refused call prints.
 #[test]
 fn refusals(rt: HostRuntime) {
     for (reply, text) in [

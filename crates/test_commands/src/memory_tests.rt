@@ -1,13 +1,15 @@
+//! Sessions, scripts, imports and exports with each allocation refused in turn.
 use crate::service::{Language, drop_monitor, serve, started};
 use blockdisk::MemDisk;
 use commands::{Encoding, Export, Exported, Import, Monitor, SessionError, export, import};
 use std::alloc::Global;
 use std::process::Abort;
 use std::test::Fail;
-use words36::{FileName, Half, Moment, Ppn, Word};
+use test_support::{foo, owner};
+use words36::{FileName, Half, Moment, Word};
 
-/// Run with each allocation refused in turn: a line whose calls find no memory says so, and a text that finds none ends
-/// the session behind the texts of whole lines.
+/// Checks how lines end if an allocation is refused: a line whose calls find no memory prints so, and a text that finds
+/// none ends the session after the texts of whole lines.
 fn expect_ended(
     rt: &impl Abort,
     alloc: Global,
@@ -18,7 +20,7 @@ fn expect_ended(
     let Ok(mut writer) = Vec::with_capacity(alloc, 200) else {
         return Ok(());
     };
-    let Ok(Some(mut monitor)) = started(rt, alloc, 64) else {
+    let Ok(Some(mut monitor)) = started(alloc, 64) else {
         return Ok(());
     };
     let mut reader = lines;
@@ -50,7 +52,7 @@ fn each_allocation_of_a_script_refused(rt: HostRuntime) -> Result<(), Fail> {
     expect_ended(&rt, rt.alloc(), Language::Script, lines, text)
 }
 
-/// BAR in [10,20].
+/// Returns the name BAR, which isn't on the image.
 fn bar() -> FileName {
     FileName {
         name: Word::from_bits(0o424162000000),
@@ -58,18 +60,10 @@ fn bar() -> FileName {
     }
 }
 
-/// FOO.TXT, which is there.
-fn foo() -> FileName {
-    FileName {
-        name: Word::from_bits(0o465757000000),
-        ext: Half::from_bits(0o647064),
-    }
-}
-
-/// BAR is made of bytes. If memory was refused, that is said, or nothing is written.
+/// Imports BAR from bytes. If memory was refused, that is printed, or nothing is written.
 fn expect_imported(rt: &impl Abort, alloc: Global, monitor: &mut Monitor<MemDisk>) {
     let file = Import {
-        owner: Ppn::new(0o10, 0o20).unwrap(),
+        owner: owner(),
         name: bar(),
         encoding: Encoding::Characters,
         moment: Moment::new(0, 0).unwrap(),
@@ -93,10 +87,10 @@ fn expect_imported(rt: &impl Abort, alloc: Global, monitor: &mut Monitor<MemDisk
     }
 }
 
-/// FOO.TXT is taken out whole. If memory was refused, there are no bytes.
+/// Exports FOO.TXT, and checks that it is whole. If memory was refused, there are no bytes.
 fn expect_exported(rt: &impl Abort, alloc: Global, monitor: &mut Monitor<MemDisk>) {
     let file = Export {
-        owner: Ppn::new(0o10, 0o20).unwrap(),
+        owner: owner(),
         name: foo(),
         mode: 0o17,
         moment: Moment::new(0, 0).unwrap(),
@@ -110,7 +104,7 @@ fn expect_exported(rt: &impl Abort, alloc: Global, monitor: &mut Monitor<MemDisk
 
 #[test]
 fn each_allocation_of_an_import_refused(rt: HostRuntime) -> Result<(), Fail> {
-    let Ok(Some(mut monitor)) = started(&rt, rt.alloc(), 64) else {
+    let Ok(Some(mut monitor)) = started(rt.alloc(), 64) else {
         return Ok(());
     };
     expect_imported(&rt, rt.alloc(), &mut monitor);
@@ -120,7 +114,7 @@ fn each_allocation_of_an_import_refused(rt: HostRuntime) -> Result<(), Fail> {
 
 #[test]
 fn each_allocation_of_an_export_refused(rt: HostRuntime) -> Result<(), Fail> {
-    let Ok(Some(mut monitor)) = started(&rt, rt.alloc(), 64) else {
+    let Ok(Some(mut monitor)) = started(rt.alloc(), 64) else {
         return Ok(());
     };
     expect_exported(&rt, rt.alloc(), &mut monitor);

@@ -1,29 +1,24 @@
-use crate::service::{image, start};
+//! Puts that the device stops.
+use crate::service::start;
 use blockdisk::{Disk, MemDisk, NoMemory};
-use commands::{Encoding, Existing, Monitor, Put, get, put};
+use commands::{Encoding, Existing, Monitor, NewFile, get, put};
 use std::alloc::Global;
 use std::process::Abort;
 use std::test::Fail;
-use words36::{BLOCK_WORDS, FileName, Half, Moment, Ppn, Word};
+use test_support::{filled, foo, owner, v1};
+use words36::Moment;
 
-/// What FOO.TXT has on the image.
+/// The bytes of FOO.TXT on the image.
 const OLD: &[u8] = b"HELLO\r\n";
 
-/// How many writes and syncs a start and a put of two blocks make: the start syncs, each block is written, and a
-/// publication makes 8 writes and 4 syncs.
+/// The number of writes and syncs that a start and a put of two blocks make: the start syncs, each block is written,
+/// and a publication makes 8 writes and 4 syncs.
 const WHOLE: usize = 1 + 2 + 8 + 4;
 
-/// After so many of them the put counts: its log is on the disk, and the gate is open.
+/// The put counts if the disk takes more than this many of them: then its log is on the disk, and the gate is open.
 const COUNTS: usize = 1 + 2 + 5;
 
-fn foo() -> FileName {
-    FileName {
-        name: Word::from_bits(0o465757000000),
-        ext: Half::from_bits(0o647064),
-    }
-}
-
-/// FOO.TXT of [10,20] is put with these bytes, and this is printed.
+/// Puts FOO.TXT of [10,20] with these bytes, and checks what is printed.
 fn put_foo(
     rt: &impl Abort,
     alloc: Global,
@@ -32,9 +27,8 @@ fn put_foo(
     printed: &[u8],
 ) {
     let moment = Moment::new(0, 0).unwrap();
-    let owner = Ppn::new(0o10, 0o20).unwrap();
-    let file = Put {
-        owner,
+    let file = NewFile {
+        owner: owner(),
         name: foo(),
         encoding: Encoding::Characters,
         existing: Existing::Replace,
@@ -45,26 +39,26 @@ fn put_foo(
     assert!(rt; writer.as_slice() == printed, "{writer:?}");
 }
 
-/// FOO.TXT of [10,20] has these bytes.
+/// Checks that FOO.TXT of [10,20] has these bytes.
 fn expect_foo(rt: &impl Abort, alloc: Global, monitor: &mut Monitor<MemDisk>, text: &[u8]) {
     let moment = Moment::new(0, 0).unwrap();
-    let owner = Ppn::new(0o10, 0o20).unwrap();
     let mut writer = Vec::new(alloc);
     let _ = get(
         alloc,
         &mut writer,
         monitor,
         moment,
-        owner,
+        owner(),
         Encoding::Characters,
         foo(),
     );
     assert!(rt; writer.as_slice() == text, "{writer:?}");
 }
 
-/// A put on a disk that takes so many writes and syncs; the next start finds the old file, or the new one.
+/// Makes a put on a disk that takes `calls` writes and syncs, and checks that the next start finds the old file or the
+/// new one.
 fn stop_after(rt: &impl Abort, alloc: Global, calls: usize, text: &[u8]) -> Result<(), NoMemory> {
-    let Some(mut monitor) = start(alloc, image(rt, alloc, calls)?) else {
+    let Some(mut monitor) = start(alloc, v1(alloc, calls)?) else {
         panic!(rt; "the image is refused");
     };
     let printed: &[u8] = if calls == WHOLE {
@@ -75,7 +69,7 @@ fn stop_after(rt: &impl Abort, alloc: Global, calls: usize, text: &[u8]) -> Resu
     put_foo(rt, alloc, &mut monitor, text, printed);
     let mut disk = monitor.finish();
     assert!(rt; disk.blocks() == 64);
-    disk.load(0, &[Word::ZERO; BLOCK_WORDS]); // the record is empty then
+    disk.load(0, &filled(0)); // this empties the record
     let Some(mut monitor) = start(alloc, disk) else {
         panic!(rt; "what is left is refused");
     };
@@ -89,7 +83,7 @@ fn stop_after(rt: &impl Abort, alloc: Global, calls: usize, text: &[u8]) -> Resu
     Ok(())
 }
 
-/// A put that the device stops at each write and sync in turn leaves the old file or the new one.
+/// Checks that a put that the device stops at each write and sync in turn leaves the old file or the new one.
 #[test]
 fn a_put_that_is_stopped(rt: HostRuntime) -> Result<(), Fail> {
     let text = [b'A'; 700];

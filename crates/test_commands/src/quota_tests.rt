@@ -1,17 +1,19 @@
-use crate::service::{Language, image, image_of_layout_2, serve, start};
+//! Lines of quotas, and what they leave on the disk.
+use crate::service::{Language, serve, start};
 use blockdisk::{Disk, MemDisk};
 use commands::Monitor;
 use std::alloc::Global;
 use std::process::Abort;
 use std::test::Fail;
+use test_support::{v1, v2};
 use words36::{BLOCK_WORDS, Word};
 
-/// What a line is answered with that is no command.
+/// The answer to a line that isn't a command.
 const WRONG: &[u8] = b"?Command error\n";
 
 const DONE: &[u8] = b"OK\n";
 
-/// What these lines print over a disk, and the disk behind them.
+/// Returns what these lines print over a disk, and the disk after them.
 fn play(
     rt: &impl Abort,
     alloc: Global,
@@ -27,12 +29,12 @@ fn play(
     disk_of(monitor)
 }
 
-/// The disk of a monitor.
+/// Returns the disk of a monitor.
 fn disk_of(monitor: Monitor<MemDisk>) -> MemDisk {
     monitor.finish()
 }
 
-/// The quota that the only directory has on a disk.
+/// Returns the quota that the only directory has on a disk.
 fn quota_on(rt: &impl Abort, disk: &mut MemDisk) -> u64 {
     assert!(rt; 15 < disk.blocks());
     match disk.read(15) {
@@ -41,7 +43,7 @@ fn quota_on(rt: &impl Abort, disk: &mut MemDisk) -> u64 {
     }
 }
 
-/// These lines print so over a disk, and the directory has this quota then.
+/// Checks what lines print over a disk, and which quota the directory has then.
 fn expect_played(
     rt: &impl Abort,
     alloc: Global,
@@ -55,7 +57,7 @@ fn expect_played(
     assert_eq!(rt; quota_on(rt, &mut disk), quota);
 }
 
-/// This line of [1,2] prints so in layout 2, and the directory, which had none, has this quota then.
+/// Checks what a line of [1,2] prints in layout 2, and which quota the directory, which had none, has then.
 fn expect_line(
     rt: &impl Abort,
     alloc: Global,
@@ -69,13 +71,13 @@ fn expect_line(
     let mut text = Vec::new(alloc);
     text.extend_from_slice(b"Job 1 [1,2]\n")?;
     text.extend_from_slice(answer)?;
-    let disk = image_of_layout_2(rt, alloc, 64)?;
+    let disk = v2(alloc, 0, 64)?;
     let played = (Language::Session, lines.as_slice());
     expect_played(rt, alloc, disk, played, (text.as_slice(), quota));
     Ok(())
 }
 
-/// A quota has one to six decimal digits behind one space, and is at most 262143.
+/// Checks that a quota has one to six decimal digits after one space, and is at most 262143.
 #[test]
 fn quotas_in_lines(rt: HostRuntime) -> Result<(), Fail> {
     for (line, answer, quota) in [
@@ -103,7 +105,7 @@ fn quotas_in_lines(rt: HostRuntime) -> Result<(), Fail> {
     Ok(())
 }
 
-/// A quota of 0 takes away the one that was there.
+/// Checks that a quota of 0 removes the one before.
 #[test]
 fn a_quota_of_zero(rt: HostRuntime) -> Result<(), Fail> {
     for line in [
@@ -115,7 +117,8 @@ fn a_quota_of_zero(rt: HostRuntime) -> Result<(), Fail> {
     Ok(())
 }
 
-/// Only [1,2] may set a quota, of a directory that is there, in layout 2. A wrong line is so before a login, too.
+/// Checks that only [1,2] may set a quota, of a directory that exists, in layout 2. A wrong line is wrong before a
+/// login, too.
 #[test]
 fn quotas_that_are_refused(rt: HostRuntime) -> Result<(), Fail> {
     for (lines, text) in [
@@ -134,14 +137,14 @@ fn quotas_that_are_refused(rt: HostRuntime) -> Result<(), Fail> {
         (b"QUOTA [10,20] 5\n", b"?Not logged in\n"),
         (b"QUOTA [10,20]  5\n", WRONG),
     ] {
-        let disk = image_of_layout_2(&rt, rt.alloc(), 1)?;
+        let disk = v2(rt.alloc(), 0, 1)?;
         let played = (Language::Session, lines);
         expect_played(&rt, rt.alloc(), disk, played, (text, 0));
     }
     Ok(())
 }
 
-/// Layout 1 has no quotas, whoever asks for one, and for which directory. A wrong line is wrong in it, too.
+/// Checks that layout 1 has no quotas, whoever sets one, and for which directory. A wrong line is wrong in it, too.
 #[test]
 fn quotas_in_layout_1(rt: HostRuntime) -> Result<(), Fail> {
     for (lines, text) in [
@@ -154,15 +157,15 @@ fn quotas_in_layout_1(rt: HostRuntime) -> Result<(), Fail> {
             b"Job 1 [10,20]\n?Illegal sequence\n?Illegal sequence\n",
         ),
     ] {
-        let disk = image(&rt, rt.alloc(), 1)?;
+        let disk = v1(rt.alloc(), 1)?;
         let played = (Language::Session, lines);
         expect_played(&rt, rt.alloc(), disk, played, (text, 0));
     }
     Ok(())
 }
 
-/// The lines of a script that follow the two words of a QUOTA for [10,20] in the core of job 1, and of job 2, print so,
-/// and leave this quota.
+/// Checks what the lines of a script print that follow the two words of a QUOTA for [10,20] in the core of job 1, and
+/// of job 2, and which quota they leave.
 fn expect_script(
     rt: &impl Abort,
     alloc: Global,
@@ -177,13 +180,13 @@ fn expect_script(
     let mut text = Vec::new(alloc);
     text.extend_from_slice(b"DONE\nDONE\nDONE\nDONE\nDONE\n")?;
     text.extend_from_slice(answers)?;
-    let disk = image_of_layout_2(rt, alloc, 64)?;
+    let disk = v2(alloc, 0, 64)?;
     let played = (Language::Script, lines.as_slice());
     expect_played(rt, alloc, disk, played, (text.as_slice(), quota));
     Ok(())
 }
 
-/// QUOTA in a script has the address of its two words, in octal.
+/// Checks that QUOTA in a script has the address of its two words, in octal.
 #[test]
 fn quotas_in_scripts(rt: HostRuntime) -> Result<(), Fail> {
     for (end, answers, quota) in [

@@ -1,3 +1,4 @@
+//! Sessions and scripts over readers and writers that fail or work in small pieces.
 use crate::service::{Language, counted, drop_monitor, serve, started};
 use commands::{SessionError, Tally};
 use std::alloc::Global;
@@ -5,7 +6,7 @@ use std::io::{self, ErrorKind, Read, Write};
 use std::process::Abort;
 use std::test::Fail;
 
-/// Gives the bytes of an input a few at a time, and fails in the place of its end where it is told to.
+/// A reader that returns the bytes of an input a few at a time, and fails at its end if it has a fault.
 #[derive(Drop)]
 struct Pieces<'a> {
     rest: &'a [u8],
@@ -26,7 +27,7 @@ impl Read for Pieces<'_> {
     }
 }
 
-/// Takes so many bytes, a few at a time, and then fails, or takes none.
+/// A writer that takes `room` bytes, a few at a time, and then fails, or takes none.
 #[derive(Drop)]
 struct Narrow {
     bytes: Vec<u8>,
@@ -51,7 +52,7 @@ impl Write for Narrow {
     }
 }
 
-/// Takes all bytes, and counts them and the calls.
+/// A writer that takes all bytes, and counts them and the calls.
 #[derive(Drop)]
 struct Counter {
     calls: u32,
@@ -70,7 +71,7 @@ impl Write for Counter {
     }
 }
 
-/// A stream of so many bytes at a time, which ends, or fails so.
+/// A stream of `size` bytes at a time, and the fault with which it ends, if it has one.
 #[derive(Clone, Copy)]
 struct Stream {
     size: usize,
@@ -85,7 +86,7 @@ const ENDLESS: Stream = Stream {
     fault: None,
 };
 
-/// Lines that come by one stream, and whose text goes by another, end so; the writer has this text then.
+/// Checks how lines end that come by one stream, and whose text goes by another, and what text the writer has then.
 fn expect_streamed(
     rt: &impl Abort,
     alloc: Global,
@@ -104,7 +105,7 @@ fn expect_streamed(
         room: to.room,
         fault: to.fault,
     };
-    let Some(mut monitor) = started(rt, alloc, 64)? else {
+    let Some(mut monitor) = started(alloc, 64)? else {
         panic!(rt; "the image is refused");
     };
     let served = serve(alloc, &mut monitor, language, &mut reader, &mut writer);
@@ -114,7 +115,7 @@ fn expect_streamed(
     Ok(())
 }
 
-/// Lines that come this many bytes at a time are answered by this many writes, and this many bytes.
+/// Checks that lines that come `size` bytes at a time are answered by this many writes, and this many bytes.
 fn expect_writes(
     rt: &impl Abort,
     alloc: Global,
@@ -128,7 +129,7 @@ fn expect_writes(
         fault: None,
     };
     let mut writer = Counter { calls: 0, bytes: 0 };
-    let Some(mut monitor) = started(rt, alloc, 64)? else {
+    let Some(mut monitor) = started(alloc, 64)? else {
         panic!(rt; "the image is refused");
     };
     let _served = serve(alloc, &mut monitor, language, &mut reader, &mut writer);
@@ -143,7 +144,7 @@ const TEXT: &[u8] = b"Job 1 [10,20]\nHELLO\r\n?Command error\n";
 
 const ORDERS: &[u8] = b"1 LOGIN 10,20 1000\n1 RESET\n1 EXA 0";
 
-/// The same is printed whatever pieces are read and written.
+/// Checks that the same is printed whatever pieces are read and written.
 #[test]
 fn small_pieces(rt: HostRuntime) -> Result<(), Fail> {
     let tally = counted(1, 3, false);
@@ -155,7 +156,8 @@ fn small_pieces(rt: HostRuntime) -> Result<(), Fail> {
     Ok(())
 }
 
-/// The texts of all lines that one read ends are written by one call; one that ends none makes no write.
+/// Checks that the texts of all lines that end in one read are written by one call, and that a read in which no line
+/// ends makes no write.
 #[test]
 fn one_write_for_each_read(rt: HostRuntime) -> Result<(), Fail> {
     for (size, calls) in [(31, 1), (14, 3), (13, 2), (1, 3)] {
@@ -165,7 +167,7 @@ fn one_write_for_each_read(rt: HostRuntime) -> Result<(), Fail> {
     expect_writes(&rt, rt.alloc(), (Language::Script, ORDERS), 100, (2, 29))
 }
 
-/// Texts of more than 64 KiB are written before all lines of a piece are answered, and none is lost.
+/// Checks that texts of more than 64 KiB are written before all lines of a piece are answered, and none is lost.
 #[test]
 fn many_texts_are_written_early(rt: HostRuntime) -> Result<(), Fail> {
     let mut lines = Vec::new(rt.alloc());
@@ -178,7 +180,7 @@ fn many_texts_are_written_early(rt: HostRuntime) -> Result<(), Fail> {
     expect_writes(&rt, rt.alloc(), input, 10, (404, 72823))
 }
 
-/// A writer that takes ten or seven bytes and then fails, takes none, or is interrupted, holds these.
+/// Checks what a writer has that takes ten or seven bytes and then fails, takes none, or is interrupted.
 #[test]
 fn a_writer_fails(rt: HostRuntime) -> Result<(), Fail> {
     for fault in [Some(ErrorKind::Other), Some(ErrorKind::Interrupted), None] {
@@ -199,7 +201,7 @@ fn a_writer_fails(rt: HostRuntime) -> Result<(), Fail> {
     Ok(())
 }
 
-/// A reader that fails in a line: the lines before it are answered, and it is not.
+/// Checks that, if a reader fails in a line, the lines before it are answered, and it is not.
 #[test]
 fn a_reader_fails(rt: HostRuntime) -> Result<(), Fail> {
     for kind in [ErrorKind::Other, ErrorKind::Interrupted] {

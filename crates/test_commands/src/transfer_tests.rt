@@ -1,17 +1,19 @@
+//! Puts, imports and exports of bytes in each encoding.
 use crate::service::{drop_monitor, started};
 use blockdisk::MemDisk;
 use commands::{
-    Encoding, Existing, Export, Exported, Import, Monitor, Put, encoding_of, entries, export,
+    Encoding, Existing, Export, Exported, Import, Monitor, NewFile, encoding_of, entries, export,
     import, put,
 };
 use std::alloc::Global;
 use std::process::Abort;
 use std::test::Fail;
-use words36::{FileName, Half, Moment, Ppn, Word};
+use test_support::{foo, owner};
+use words36::{FileName, Half, Moment, Word};
 
 type Service = Monitor<MemDisk>;
 
-/// A file's text as it is exported, what its bytes say, and whether it was no bytes or refused.
+/// A file's text as it is exported, in its encoding, or that it has no bytes or was refused.
 #[derive(Clone, Copy)]
 enum Wanted<'a> {
     Text(&'a [u8]),
@@ -21,30 +23,18 @@ enum Wanted<'a> {
     Refused,
 }
 
-/// Nine bytes, some of which are no characters.
+/// Nine bytes, some of which aren't characters.
 const BYTES: [u8; 9] = [0, 1, 255, 4, 128, 0, 0, 9, 0];
 
-/// A word that is no characters and no bytes, since bit 35 is set and 9 of its bytes would count; as text it is a line
-/// feed.
+/// A word that no characters and no bytes have, since bit 35 is set and 9 of its bytes would count; as text it is a
+/// line feed.
 const WORD: [u8; 8] = [0, 0, 0, 1, 0x40, 0, 0, 9];
-
-fn owner() -> Ppn {
-    Ppn::new(0o10, 0o20).unwrap()
-}
 
 fn moment() -> Moment {
     Moment::new(0, 0).unwrap()
 }
 
-/// The file that is on the image.
-fn foo() -> FileName {
-    FileName {
-        name: Word::from_bits(0o465757000000),
-        ext: Half::from_bits(0o647064),
-    }
-}
-
-/// One that isn't.
+/// Returns a name that isn't.
 fn bar() -> FileName {
     FileName {
         name: Word::from_bits(0o424162000000),
@@ -52,12 +42,12 @@ fn bar() -> FileName {
     }
 }
 
-/// A file is put so, and this is printed.
+/// Puts a file, and checks what is printed.
 fn expect_put(
     rt: &impl Abort,
     alloc: Global,
     monitor: &mut Service,
-    file: &Put,
+    file: &NewFile,
     bytes: &[u8],
     printed: &[u8],
 ) {
@@ -67,7 +57,7 @@ fn expect_put(
     assert!(rt; writer.as_slice() == printed, "{writer:?}");
 }
 
-/// BAR is imported from bytes behind a label, and this is printed.
+/// Imports BAR from bytes with a label, and checks what is printed.
 fn expect_imported(
     rt: &impl Abort,
     alloc: Global,
@@ -89,7 +79,7 @@ fn expect_imported(
     assert!(rt; writer.as_slice() == printed, "{writer:?}");
 }
 
-/// This was exported.
+/// Checks what was exported.
 fn expect_answer(rt: &impl Abort, exported: Exported, wanted: Wanted<'_>) {
     match (exported, wanted) {
         (Exported::File(Encoding::Characters, bytes), Wanted::Text(text)) => {
@@ -107,7 +97,7 @@ fn expect_answer(rt: &impl Abort, exported: Exported, wanted: Wanted<'_>) {
     }
 }
 
-/// A file is exported so.
+/// Exports a file, and checks what that gives.
 fn expect_exported(
     rt: &impl Abort,
     alloc: Global,
@@ -128,7 +118,7 @@ fn expect_exported(
     }
 }
 
-/// The directory has this many files.
+/// Checks that the directory has this many files.
 fn expect_entries(rt: &impl Abort, alloc: Global, monitor: &mut Service, count: usize) {
     match entries(alloc, monitor, moment(), owner()) {
         Ok(entries) => assert_eq!(rt; entries.len(), count),
@@ -136,15 +126,15 @@ fn expect_entries(rt: &impl Abort, alloc: Global, monitor: &mut Service, count: 
     }
 }
 
-/// The file of that name is put if it isn't there, and replaced only if that is asked for.
+/// Checks that a file is put if there is none of its name, and that an existing one is replaced only on request.
 fn check_existing(rt: &impl Abort, alloc: Global, monitor: &mut Service) {
-    let new = Put {
+    let new = NewFile {
         owner: owner(),
         name: bar(),
         encoding: Encoding::Characters,
         existing: Existing::Refuse,
     };
-    let old = Put {
+    let old = NewFile {
         owner: owner(),
         name: bar(),
         encoding: Encoding::Characters,
@@ -160,7 +150,7 @@ fn check_existing(rt: &impl Abort, alloc: Global, monitor: &mut Service) {
 
 #[test]
 fn a_name_that_is_there(rt: HostRuntime) -> Result<(), Fail> {
-    let Some(mut monitor) = started(&rt, rt.alloc(), 200)? else {
+    let Some(mut monitor) = started(rt.alloc(), 200)? else {
         panic!(rt; "the image is refused");
     };
     check_existing(&rt, rt.alloc(), &mut monitor);
@@ -168,7 +158,7 @@ fn a_name_that_is_there(rt: HostRuntime) -> Result<(), Fail> {
     Ok(())
 }
 
-/// Each import is answered behind its label.
+/// Checks that each import is answered after its label.
 fn check_imports(rt: &impl Abort, alloc: Global, monitor: &mut Service, long: &[u8]) {
     let text = Encoding::Characters;
     let exists = b"IT ?File name already exists\n".as_slice();
@@ -186,7 +176,7 @@ fn imports(rt: HostRuntime) -> Result<(), Fail> {
     for _ in 0..160 * 1024 + 1 {
         long.extend_from_slice(&[65; 64])?;
     }
-    let Some(mut monitor) = started(&rt, rt.alloc(), 200)? else {
+    let Some(mut monitor) = started(rt.alloc(), 200)? else {
         panic!(rt; "the image is refused");
     };
     check_imports(&rt, rt.alloc(), &mut monitor, &long);
@@ -194,7 +184,7 @@ fn imports(rt: HostRuntime) -> Result<(), Fail> {
     Ok(())
 }
 
-/// Bytes that are imported are exported again.
+/// Checks that bytes that are imported are exported again.
 fn check_returned(rt: &impl Abort, alloc: Global, monitor: &mut Service, bytes: &[u8]) {
     expect_imported(rt, alloc, monitor, Encoding::Octets, bytes, b"IT OK\n");
     expect_exported(
@@ -211,7 +201,7 @@ fn check_returned(rt: &impl Abort, alloc: Global, monitor: &mut Service, bytes: 
 #[test]
 fn bytes_of_each_length(rt: HostRuntime) -> Result<(), Fail> {
     for length in 0..10 {
-        let Some(mut monitor) = started(&rt, rt.alloc(), 64)? else {
+        let Some(mut monitor) = started(rt.alloc(), 64)? else {
             panic!(rt; "the image is refused");
         };
         check_returned(&rt, rt.alloc(), &mut monitor, &BYTES[..length]);
@@ -220,7 +210,7 @@ fn bytes_of_each_length(rt: HostRuntime) -> Result<(), Fail> {
     Ok(())
 }
 
-/// A file of characters in each encoding, and one that isn't there.
+/// Exports a file of characters in each encoding, and one that doesn't exist.
 fn check_characters(rt: &impl Abort, alloc: Global, monitor: &mut Service) {
     let text = Wanted::Text(b"HELLO\r\n");
     let words = Wanted::Words(b"\0\0\0\x09\x11\x66\x4c\x9e\0\0\0\x01\xa2\x80\0\0");
@@ -234,7 +224,7 @@ fn check_characters(rt: &impl Abort, alloc: Global, monitor: &mut Service) {
     expect_exported(rt, alloc, monitor, (bar(), 0, None), Wanted::Refused);
 }
 
-/// Words that no characters and no bytes have are exported as words.
+/// Checks that words that no characters and no bytes have are exported as words.
 fn check_words(rt: &impl Abort, alloc: Global, monitor: &mut Service) {
     expect_imported(rt, alloc, monitor, Encoding::Words, &WORD, b"IT OK\n");
     expect_exported(rt, alloc, monitor, (bar(), 0, None), Wanted::Words(&WORD));
@@ -259,7 +249,7 @@ fn check_words(rt: &impl Abort, alloc: Global, monitor: &mut Service) {
 
 #[test]
 fn exports(rt: HostRuntime) -> Result<(), Fail> {
-    let Some(mut monitor) = started(&rt, rt.alloc(), 64)? else {
+    let Some(mut monitor) = started(rt.alloc(), 64)? else {
         panic!(rt; "the image is refused");
     };
     check_characters(&rt, rt.alloc(), &mut monitor);

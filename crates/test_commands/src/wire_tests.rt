@@ -1,3 +1,4 @@
+//! Exchanges by records.
 use crate::service::{Language, drop_monitor, printed, serve, started};
 use commands::{SessionError, Tally};
 use std::alloc::{AllocError, Global};
@@ -74,7 +75,7 @@ fn push_record(bytes: &mut Vec<u8>, record: &Record<'_>) -> Result<(), AllocErro
     Ok(())
 }
 
-/// The bytes of records in a row.
+/// Returns the bytes of records in a row.
 fn spelled(alloc: Global, records: &[Record<'_>]) -> Result<Vec<u8>, AllocError> {
     let mut bytes = Vec::new(alloc);
     for record in records {
@@ -83,7 +84,7 @@ fn spelled(alloc: Global, records: &[Record<'_>]) -> Result<Vec<u8>, AllocError>
     Ok(bytes)
 }
 
-/// What is counted if a record was no order.
+/// The tally if a record was no order.
 const REFUSED: Tally = Tally {
     refused: true,
     broke: false,
@@ -100,7 +101,7 @@ fn orders_are_answered(rt: HostRuntime) -> Result<(), Fail> {
     Ok(())
 }
 
-/// A record that ends with the input is no order; one that announces too much ends the exchange.
+/// Checks that a record that ends with the input is no order, and that one that announces too much ends the exchange.
 #[test]
 fn what_is_left_is_no_order(rt: HostRuntime) -> Result<(), Fail> {
     let answer = spelled(rt.alloc(), &[(0, 0, 0, 0, 0, 0, &[])])?;
@@ -117,8 +118,8 @@ fn what_is_left_is_no_order(rt: HostRuntime) -> Result<(), Fail> {
     Ok(())
 }
 
-/// Run with each allocation refused in turn: what is answered is a beginning of the answers, in whole records; a call
-/// that finds no memory says so.
+/// Runs with each allocation refused in turn, and checks that what is answered is a beginning of the answers, in whole
+/// records, and that a call that finds no memory reports it.
 #[test]
 fn each_allocation_of_an_exchange_refused(rt: HostRuntime) -> Result<(), Fail> {
     let Ok(orders) = spelled(rt.alloc(), &ORDERS) else {
@@ -130,7 +131,7 @@ fn each_allocation_of_an_exchange_refused(rt: HostRuntime) -> Result<(), Fail> {
     let Ok(mut writer) = Vec::with_capacity(rt.alloc(), 500) else {
         return Ok(());
     };
-    let Ok(Some(mut monitor)) = started(&rt, rt.alloc(), 64) else {
+    let Ok(Some(mut monitor)) = started(rt.alloc(), 64) else {
         return Ok(());
     };
     let mut reader = orders.as_slice();

@@ -1,6 +1,6 @@
-//! Tests of a job's core by its public calls alone: its words, its command lists, its rings of buffers, and each step
-//! of these as the file machine takes it. They stand apart from the crate that they test so that it is proved once.
-//! There is no code here beside them.
+//! Tests of a job's core by its public calls alone: its words, its command lists, its rings of buffers, and each of
+//! their steps as the file machine takes it. They are apart from the crate that they test, so that it is proved once.
+//! Besides them there is no code here.
 #![tactic(auto)]
 
 #[cfg(test)]

@@ -1,16 +1,18 @@
-use crate::word_tests::{expect_words, place, word};
+//! Tests of command lists.
+use crate::word_tests::{expect_words, place};
 use std::alloc::Global;
 use std::process::Abort;
 use std::test::Fail;
-use usercore::{Area, Core, CoreError, word_count};
+use test_support::word;
+use usercore::{Core, CoreArea, CoreError, word_count};
 use words36::Word;
 
-/// The words 1 to 5.
+/// Returns the words 1 to 5.
 fn five_words() -> [Word; 5] {
     [word(1), word(2), word(3), word(4), word(5)]
 }
 
-/// The list at 400 names 600 to 602 and, after a command word that leads on to 410, 700 and 701.
+/// Returns a core whose list at 400 names 600 to 602 and, after a command word that leads to 410, 700 and 701.
 fn core_with_a_list(rt: &impl Abort, alloc: Global) -> Result<Core, CoreError> {
     let mut core = Core::new(alloc, 0o2000)?;
     place(rt, &mut core, 0o400, &[0o777775000577, 0o000000000410]);
@@ -18,7 +20,7 @@ fn core_with_a_list(rt: &impl Abort, alloc: Global) -> Result<Core, CoreError> {
     Ok(core)
 }
 
-/// Deals words by the list at an address; gives how many words the list names.
+/// Deals words by the list at an address; returns the number of words that the list names.
 fn deal(core: &mut Core, address: u32, words: &[Word]) -> Result<usize, CoreError> {
     let areas = core.dump_list(address)?;
     let count = word_count(areas.as_slice());
@@ -26,24 +28,24 @@ fn deal(core: &mut Core, address: u32, words: &[Word]) -> Result<usize, CoreErro
     Ok(count)
 }
 
-/// Words are dealt by the list at an address, which names so many.
+/// Checks that words are dealt by the list at an address, which names `count` words.
 fn expect_dealt(rt: &impl Abort, core: &mut Core, address: u32, words: &[Word], count: usize) {
     assert_eq!(rt; deal(core, address, words), Ok(count));
 }
 
-/// How many areas the list at an address names.
+/// Returns the number of areas that the list at an address names.
 fn count_areas(core: &Core, address: u32) -> Result<usize, CoreError> {
     let areas = core.dump_list(address)?;
     Ok(areas.len())
 }
 
-/// The list at an address is refused.
+/// Checks that the list at an address is refused.
 fn expect_refused(rt: &impl Abort, core: &Core, address: u32) {
     let failed = count_areas(core, address).err();
     assert_eq!(rt; failed, Some(CoreError::AddressCheck));
 }
 
-/// The list at an address is read.
+/// Checks that the list at an address is read.
 fn expect_read(rt: &impl Abort, core: &Core, address: u32) {
     let failed = count_areas(core, address).err();
     assert_eq!(rt; failed, None);
@@ -69,7 +71,7 @@ fn fewer_words_than_a_list_names(rt: HostRuntime) -> Result<(), Fail> {
     Ok(())
 }
 
-/// The words that the list at an address names are these.
+/// Checks that the words that the list at an address names are these.
 fn expect_gathered(rt: &impl Abort, core: &Core, address: u32, wanted: [Word; 5]) {
     let Ok(areas) = core.dump_list(address) else {
         panic!(rt; "the list is read");
@@ -99,15 +101,16 @@ fn a_list_is_read_before_words_are_moved(rt: HostRuntime) -> Result<(), Fail> {
     Ok(())
 }
 
-/// The list at an address is one command word with an area, and a word that ends it; or it is no such list.
-fn expect_lone(rt: &impl Abort, core: &Core, address: u32, wanted: Option<Area>) {
+/// Checks whether the list at an address is one command word with an area and a word that ends it, or isn't such a
+/// list.
+fn expect_lone(rt: &impl Abort, core: &Core, address: u32, wanted: Option<CoreArea>) {
     assert!(rt; core.lone_area(address) == wanted);
 }
 
 #[test]
 fn lists_of_one_area(rt: HostRuntime) -> Result<(), Fail> {
     let mut core = core_with_a_list(&rt, rt.alloc())?;
-    let area = Area {
+    let area = CoreArea {
         first: 0o700,
         count: 2,
     };
@@ -121,7 +124,7 @@ fn lists_of_one_area(rt: HostRuntime) -> Result<(), Fail> {
         &rt,
         &core,
         0o1775,
-        Some(Area {
+        Some(CoreArea {
             first: 0o1776,
             count: 2,
         }),
@@ -133,7 +136,7 @@ fn lists_of_one_area(rt: HostRuntime) -> Result<(), Fail> {
     Ok(())
 }
 
-/// Lists that name no words.
+/// Checks lists that name no words.
 fn expect_no_words(rt: &impl Abort, core: &Core) {
     for address in [0o411, 0o1777] {
         assert_eq!(rt; count_areas(core, address), Ok(0));
@@ -147,7 +150,7 @@ fn lists_that_name_no_words(rt: HostRuntime) -> Result<(), Fail> {
     Ok(())
 }
 
-/// Lists of one command word that are refused.
+/// Checks that lists of one command word are refused.
 fn expect_refused_commands(rt: &impl Abort, core: &mut Core) {
     // one that leads to itself, one that leads out of the core, and areas that end a word too late, or begin at
     // 2^18: addresses don't wrap
@@ -174,14 +177,14 @@ fn lists_that_are_refused(rt: HostRuntime) -> Result<(), Fail> {
     Ok(())
 }
 
-/// Each of the words from 1000 on leads to the next one, so many of them; what follows ends the list.
+/// Makes each of `steps` words from 1000 lead to the next one; the word after them ends the list.
 fn put_chain(rt: &impl Abort, core: &mut Core, steps: u32) {
     for address in 0o1000..0o1000u32.saturating_add(steps) {
         place(rt, core, address, &[u64::from(address) + 1]);
     }
 }
 
-/// A core of 2048 words with such a chain.
+/// Returns a core of 2048 words with such a chain.
 fn core_with_a_chain(rt: &impl Abort, alloc: Global, steps: u32) -> Result<Core, CoreError> {
     let mut core = Core::new(alloc, 0o4000)?;
     put_chain(rt, &mut core, steps);
@@ -201,7 +204,7 @@ fn lists_of_512_command_words(rt: HostRuntime) -> Result<(), Fail> {
 #[test]
 fn lists_of_131072_words(rt: HostRuntime) -> Result<(), Fail> {
     let mut core = Core::new(rt.alloc(), 0o400000)?;
-    // 131,071 words from 1 on, and then 1 or 2 more
+    // 131,071 words from address 1, and then 1 or 2 more
     place(&rt, &mut core, 0, &[0o400001000000]);
     place(&rt, &mut core, 0o20, &[0o400001000000, 0o777777000577, 0]);
     expect_read(&rt, &core, 0o20);

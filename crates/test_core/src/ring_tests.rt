@@ -1,27 +1,29 @@
-use crate::word_tests::{expect_words, holds, place, word};
+//! Tests of rings of buffers.
+use crate::word_tests::{expect_words, holds, place};
 use spec_machine::IoStatus;
 use std::process::Abort;
 use std::test::Fail;
-use usercore::{Area, ByteSize, Core, CoreError, RingStep};
+use test_support::word;
+use usercore::{ByteSize, Core, CoreArea, CoreError, RingStep};
 use words36::Word;
 
-/// Where the header of a ring stands in most tests.
+/// The address of the header of a ring in most tests.
 const HEADER: u32 = 0o1000;
 
-/// A core of 1024 words.
+/// Returns a core of 1024 words.
 fn small_core(rt: &HostRuntime) -> Result<Core, CoreError> {
     Core::new(rt.alloc(), 0o2000)
 }
 
-/// The two words of a text: HELLO, and the end of a line.
+/// Returns the two words of a text: HELLO, and the end of a line.
 fn hello() -> [Word; 2] {
     [word(0o442131446236), word(0o064240000000)]
 }
 
-/// A call is refused.
+/// The answer of a call that is refused.
 const REFUSED: Result<(), CoreError> = Err(CoreError::AddressCheck);
 
-/// What the setup of a ring of so many buffers answers.
+/// Checks what the setup of a ring of `buffers` buffers answers.
 fn expect_setup(
     rt: &impl Abort,
     core: &mut Core,
@@ -33,7 +35,7 @@ fn expect_setup(
     assert_eq!(rt; core.ring_setup(header, bytes, buffers), wanted);
 }
 
-/// What an IN of these words by a ring answers.
+/// Checks what an IN of these words by a ring answers.
 fn expect_in(
     rt: &impl Abort,
     core: &mut Core,
@@ -46,7 +48,7 @@ fn expect_in(
     assert_eq!(rt; core.ring_in(header, bytes, status, words), wanted);
 }
 
-/// What an OUT by a ring answers.
+/// Checks what an OUT by a ring answers.
 fn expect_out(
     rt: &impl Abort,
     core: &mut Core,
@@ -57,7 +59,7 @@ fn expect_out(
     assert_eq!(rt; core.ring_out(header, bytes), wanted);
 }
 
-/// A step of a ring is allowed, on so many words; gives where they are.
+/// Checks that a step of a ring is allowed, on `count` words; returns where they are.
 fn expect_check(
     rt: &impl Abort,
     core: &Core,
@@ -65,7 +67,7 @@ fn expect_check(
     header: u32,
     bytes: ByteSize,
     count: usize,
-) -> Area {
+) -> CoreArea {
     match core.ring_check(step, header, bytes) {
         Ok(area) => {
             assert_eq!(rt; area.count, count);
@@ -75,20 +77,20 @@ fn expect_check(
     }
 }
 
-/// Why a step of a ring is refused, if it is.
+/// Returns why a step of a ring is refused, if it is.
 fn refusal(core: &Core, step: RingStep, header: u32, bytes: ByteSize) -> Option<CoreError> {
     core.ring_check(step, header, bytes).err()
 }
 
-/// The words of an area are these.
-fn expect_area(rt: &impl Abort, core: &Core, area: Area, wanted: &[Word]) {
+/// Checks that the words of an area are these.
+fn expect_area(rt: &impl Abort, core: &Core, area: CoreArea, wanted: &[Word]) {
     match core.words(area) {
         Ok(words) => assert!(rt; words == wanted),
         Err(_refused) => assert!(rt; false),
     }
 }
 
-/// The first OUT by a ring finds its first buffer.
+/// Checks that the first OUT by a ring finds its first buffer.
 fn expect_first_buffer(rt: &impl Abort, core: &mut Core) {
     core.ring_open(HEADER, 0, ByteSize::Ascii);
     expect_words(rt, core, 0o1000, &[0o400000000000, 0o000700000000, 0]);
@@ -99,7 +101,7 @@ fn expect_first_buffer(rt: &impl Abort, core: &mut Core) {
     expect_words(rt, core, 0o121, &[0o546]);
 }
 
-/// A text that was written into the first buffer is put by a CLOSE.
+/// Checks that a text that was written into the first buffer is put by a CLOSE.
 fn expect_text_put(rt: &impl Abort, core: &mut Core) {
     place(rt, core, 0o143, &[0o442131446236, 0o064240000000]);
     place(rt, core, 0o1001, &[0o260700000144]);
@@ -118,7 +120,7 @@ fn the_first_buffer_is_filled_and_put(rt: HostRuntime) -> Result<(), Fail> {
     Ok(())
 }
 
-/// The text stands in the first of two buffers.
+/// Checks that an IN puts the text into the first of two buffers.
 fn expect_text_in(rt: &impl Abort, core: &mut Core) {
     core.ring_open(0, HEADER, ByteSize::Ascii);
     let status = IoStatus::of_mode(0);
@@ -130,7 +132,7 @@ fn expect_text_in(rt: &impl Abort, core: &mut Core) {
     expect_words(rt, core, 0o1000, &header);
 }
 
-/// An IN by a ring whose buffer isn't in use any more is refused, and leaves the header as it was.
+/// Checks that an IN by a ring whose buffer isn't in use any more is refused, and leaves the header as it was.
 fn expect_unused(rt: &impl Abort, core: &mut Core) {
     let refused = refusal(core, RingStep::In, HEADER, ByteSize::Ascii);
     assert_eq!(rt; refused, None);
@@ -149,14 +151,14 @@ fn text_comes_in_by_a_ring_of_two(rt: HostRuntime) -> Result<(), Fail> {
     Ok(())
 }
 
-/// Eight buffers find no room in 1024 words.
+/// Checks that there is no room for eight buffers in 1024 words.
 fn expect_no_room(rt: &impl Abort, core: &mut Core) {
     expect_setup(rt, core, 0o20, ByteSize::Ascii, 8, REFUSED);
     expect_words(rt, core, 0o121, &[0o140]);
     expect_words(rt, core, 0o140, &[0, 0, 0]);
 }
 
-/// Seven buffers find room.
+/// Checks that there is room for seven buffers.
 fn expect_seven(rt: &impl Abort, core: &mut Core) {
     place(rt, core, 0o121, &[0o777777000140]);
     expect_setup(rt, core, 0o20, ByteSize::Whole, 7, Ok(()));
@@ -184,7 +186,7 @@ fn no_number_of_buffers_means_two(rt: HostRuntime) -> Result<(), Fail> {
     Ok(())
 }
 
-/// INs of one word each, 1, 2 and 3.
+/// Does INs of one word each, 1, 2 and 3.
 fn read_three(rt: &impl Abort, core: &mut Core) {
     let status = IoStatus::of_mode(0o14);
     for number in 1..4u64 {
@@ -203,7 +205,7 @@ fn the_buffer_before_is_no_longer_in_use(rt: HostRuntime) -> Result<(), Fail> {
     Ok(())
 }
 
-/// A program writes two words into its first buffer.
+/// Writes two words into the first buffer, as a program does.
 fn write_two(rt: &impl Abort, core: &mut Core) {
     expect_out(rt, core, HEADER, ByteSize::Whole, Ok(()));
     place(rt, core, 0o141, &[0o400201000344]);
@@ -212,7 +214,7 @@ fn write_two(rt: &impl Abort, core: &mut Core) {
     place(rt, core, 0o1001, &[0o004400000144]);
 }
 
-/// The two words are put, and the next buffer is found.
+/// Checks that the two words are put and the next buffer is found.
 fn expect_second_buffer(rt: &impl Abort, core: &mut Core) {
     let area = expect_check(rt, core, RingStep::Out, HEADER, ByteSize::Whole, 2);
     expect_area(rt, core, area, &[word(5), word(6)]);
@@ -230,7 +232,7 @@ fn buffers_are_put_one_after_another(rt: HostRuntime) -> Result<(), Fail> {
     Ok(())
 }
 
-/// A byte pointer in the header of a ring for output is refused by each step.
+/// Checks that each step refuses this byte pointer in the header of a ring for output.
 fn expect_bad_pointer(rt: &impl Abort, core: &mut Core, pointer: u64) {
     place(rt, core, 0o1001, &[pointer]);
     let put = refusal(core, RingStep::Out, HEADER, ByteSize::Ascii);
@@ -252,7 +254,7 @@ fn byte_pointers_that_are_refused(rt: HostRuntime) -> Result<(), Fail> {
     Ok(())
 }
 
-/// Two words are read into the only buffer of a ring, one after the other.
+/// Reads two words into the only buffer of a ring, one after the other.
 fn read_two(rt: &impl Abort, core: &mut Core) {
     let status = IoStatus::of_mode(0o10);
     for number in [1, 2] {
@@ -272,7 +274,7 @@ fn a_buffer_that_names_itself(rt: HostRuntime) -> Result<(), Fail> {
     Ok(())
 }
 
-/// Each call with a header outside the core is refused.
+/// Checks that each call with a header outside the core is refused.
 fn expect_outside(rt: &impl Abort, core: &mut Core) {
     let status = IoStatus::of_mode(0);
     for header in [0o1776, 0o2000, 0o777776, u32::MAX] {
@@ -291,7 +293,7 @@ fn headers_outside_the_core(rt: HostRuntime) -> Result<(), Fail> {
     Ok(())
 }
 
-/// Calls with this header are refused or not.
+/// Checks whether calls with this header are refused.
 fn expect_refusals(
     rt: &impl Abort,
     core: &mut Core,
@@ -333,7 +335,7 @@ fn headers_over_their_own_ring(rt: HostRuntime) -> Result<(), Fail> {
     Ok(())
 }
 
-/// A header in 121, the word for rings.
+/// Checks a header in 121, the word for rings.
 fn expect_ring_over_its_word(rt: &impl Abort, core: &mut Core) {
     let status = IoStatus::of_mode(0);
     // that word names 140, which is no buffer
@@ -352,7 +354,7 @@ fn a_header_over_the_word_for_rings(rt: HostRuntime) -> Result<(), Fail> {
     Ok(())
 }
 
-/// An OUT by a ring that begins where this word in 121 says is refused, or not.
+/// Checks whether an OUT is refused by a ring that begins where this word in 121 says.
 fn expect_ring_from(rt: &impl Abort, core: &mut Core, word: u64, is_refused: bool) {
     place(rt, core, 0o121, &[word]);
     let put = core.ring_out(HEADER, ByteSize::Ascii);
@@ -370,14 +372,14 @@ fn a_ring_over_the_word_for_rings(rt: HostRuntime) -> Result<(), Fail> {
     Ok(())
 }
 
-/// Two headers at 1000 and 1002 that overlap are closed.
+/// Checks what the words from 1000 become when two headers that overlap, at 1000 and 1002, are closed.
 fn expect_closed(rt: &impl Abort, core: &mut Core, output: u32, input: u32, wanted: [u64; 5]) {
     place(rt, core, 0o1000, &[1, 2, 3, 4, 5]);
     core.ring_close(output, input);
     expect_words(rt, core, 0o1000, &wanted);
 }
 
-/// Two headers at 1000 and 1001 that overlap are opened.
+/// Checks that two headers that overlap, at 1000 and 1001, are opened.
 fn expect_opened(rt: &impl Abort, core: &mut Core) {
     core.ring_open(0o1000, 0o1001, ByteSize::Whole);
     let headers = [0o400000000000, 0o400000000000, 0o004400000000, 0];
@@ -424,5 +426,5 @@ fn bytes_of_the_modes(rt: HostRuntime) {
         assert_eq!(rt; bytes.bits(), bits);
         assert_eq!(rt; bytes.count_in_word(), count);
     }
-    assert!(rt; Area::default() == Area { first: 0, count: 0 });
+    assert!(rt; CoreArea::default() == CoreArea { first: 0, count: 0 });
 }

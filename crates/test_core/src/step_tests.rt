@@ -1,25 +1,27 @@
+//! Tests of each step of a core as the file machine takes it.
 ghost use Rattle.std.specs.Prelude.{◌≡◌, ◌+◌, ◌++◌, Some, None, OnOk, OnErr, IfOk, option_map, slice_range};
 ghost use Rattle.spec_machine.specs.Common.{after_writes, dealt, joined, dump_list, byte_size, in_ready, out_ready};
 ghost use Rattle.spec_machine.specs.Common.{Channel, cleared, areas_or_none, buffer_filled, ring_out, header_opened};
 ghost use Rattle.spec_machine.specs.Common.{header_closed};
 ghost use Rattle.usercore.specs.Common.{bits_of};
 
-use crate::word_tests::{expect_words, place, word};
+use crate::word_tests::{expect_words, place};
 use spec_machine::IoStatus;
 use std::alloc::Global;
 use std::process::Abort;
 use std::test::Fail;
-use usercore::{Area, ByteSize, Core, CoreError, RingStep, word_count};
+use test_support::word;
+use usercore::{ByteSize, Core, CoreArea, CoreError, RingStep, word_count};
 use words36::Word;
 
-/// An OPEN of both sides, as the file machine has it.
+/// Does an OPEN of both sides, as the file machine has it.
 fn open_sides(core: &mut Core, output: u32, input: u32, mode: u32)
     ensures { core.new ≡ after_writes core.old (header_opened mode output ++ header_opened mode input) }
 {
     core.ring_open(output, input, ByteSize::of_mode(mode));
 }
 
-/// An IN by a ring, as the file machine has it: what it makes of the core, and when there is none.
+/// Does an IN by a ring, as the file machine has it: what it makes of the core, and when it makes nothing.
 fn in_by_ring(
     core: &mut Core,
     header: u32,
@@ -39,9 +41,9 @@ fn in_by_ring(
     core.ring_in(header, bytes, status, words)
 }
 
-/// An OUT by a ring, as the file machine has it: the words that are put and the core after it, and when there
-/// are none.
-fn out_by_ring(core: &mut Core, header: u32, bytes: ByteSize) -> Result<Area, CoreError>
+/// Does an OUT by a ring, as the file machine has it: the words that are put and the core after it, and when there are
+/// none.
+fn out_by_ring(core: &mut Core, header: u32, bytes: ByteSize) -> Result<CoreArea, CoreError>
     ensures done { (c : Channel) → c.output_header ≡ header → byte_size c.mode ≡ bits_of bytes
         → IfOk result (λ area. option_map (ring_out c) (out_ready core.old c.output_header (byte_size c.mode))
         ≡ Some (record { words = slice_range core.old area.first (area.first + area.count); core = core.new })) }
@@ -54,7 +56,7 @@ fn out_by_ring(core: &mut Core, header: u32, bytes: ByteSize) -> Result<Area, Co
     Ok(area)
 }
 
-/// An IN by a command list, as the file machine has it.
+/// Does an IN by a command list, as the file machine has it.
 fn in_by_list(core: &mut Core, address: u32, words: &[Word]) -> Result<(), CoreError>
     ensures filled { OnOk result (core.new
         ≡ after_writes core.old (dealt (areas_or_none (dump_list core.old address)) words.now)) }
@@ -66,7 +68,7 @@ fn in_by_list(core: &mut Core, address: u32, words: &[Word]) -> Result<(), CoreE
     Ok(())
 }
 
-/// An OUT by a command list, as the file machine has it: the words that are put.
+/// Returns the words that an OUT by a command list puts, as the file machine has it.
 fn out_by_list(alloc: Global, core: &Core, address: u32) -> Result<Vec<Word>, CoreError>
     ensures { IfOk result (λ words. option_map (joined core.now) (dump_list core.now address) ≡ Some words.items) }
 {
@@ -76,7 +78,7 @@ fn out_by_list(alloc: Global, core: &Core, address: u32) -> Result<Vec<Word>, Co
     Ok(words)
 }
 
-/// A CLOSE of sides, as the file machine has it.
+/// Does a CLOSE of sides, as the file machine has it.
 fn close_sides(core: &mut Core, output: u32, output_closes: bool, input: u32, input_closes: bool)
     ensures { core.new ≡ after_writes core.old (header_closed core.old output output_closes
         ++ header_closed core.old input input_closes) }
@@ -86,7 +88,7 @@ fn close_sides(core: &mut Core, output: u32, output_closes: bool, input: u32, in
     core.ring_close(output, input);
 }
 
-/// An IN and an OUT by the rings of an OPEN, and a CLOSE of the output side.
+/// Checks an IN and an OUT by the rings of an OPEN, and a CLOSE of the output side.
 fn expect_rings(rt: &impl Abort, core: &mut Core) {
     open_sides(core, 0o1000, 0o1010, 0);
     let status = IoStatus::of_mode(0);
@@ -99,7 +101,7 @@ fn expect_rings(rt: &impl Abort, core: &mut Core) {
     expect_words(rt, core, 0o1010, &[0o141, 0o000700000142, 5]);
 }
 
-/// The clauses of the calls above follow from those of `usercore` alone.
+/// The clauses of the calls above follow from the clauses of `usercore` alone.
 #[test]
 fn calls_are_those_of_the_file_machine(rt: HostRuntime) -> Result<(), Fail> {
     let mut core = Core::new(rt.alloc(), 0o2000)?;

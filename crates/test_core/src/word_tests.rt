@@ -1,14 +1,11 @@
+//! Tests of the words of a core.
 use std::process::Abort;
 use std::test::Fail;
-use usercore::{Area, Core, CoreError};
+use test_support::word;
+use usercore::{Core, CoreArea, CoreError};
 use words36::Word;
 
-/// The word of this number.
-pub(crate) fn word(number: u64) -> Word {
-    Word::new(number).unwrap_or(Word::ZERO)
-}
-
-/// Puts words from an address on, one after another.
+/// Puts words at consecutive addresses from `first`, one after another.
 pub(crate) fn deposit(core: &mut Core, first: u32, numbers: &[u64]) -> Result<(), CoreError> {
     let mut address = first;
     for &number in numbers {
@@ -18,10 +15,10 @@ pub(crate) fn deposit(core: &mut Core, first: u32, numbers: &[u64]) -> Result<()
     Ok(())
 }
 
-/// Whether a core has these words from an address on.
+/// Returns whether a core has these words at consecutive addresses from `first`.
 pub(crate) fn holds(core: &Core, first: usize, numbers: &[u64]) -> bool {
     let count = numbers.len();
-    let Ok(words) = core.words(Area { first, count }) else {
+    let Ok(words) = core.words(CoreArea { first, count }) else {
         return false;
     };
     words
@@ -30,22 +27,22 @@ pub(crate) fn holds(core: &Core, first: usize, numbers: &[u64]) -> bool {
         .all(|(word, &number)| word.bits() == number)
 }
 
-/// Puts words from an address on, where there is room for them.
+/// Puts words at consecutive addresses from `first`; there is room for them.
 pub(crate) fn place(rt: &impl Abort, core: &mut Core, first: u32, numbers: &[u64]) {
     assert_eq!(rt; deposit(core, first, numbers), Ok(()));
 }
 
-/// A core has these words from an address on.
+/// Checks that a core has these words at consecutive addresses from `first`.
 pub(crate) fn expect_words(rt: &impl Abort, core: &Core, first: usize, numbers: &[u64]) {
     assert!(rt; holds(core, first, numbers));
 }
 
-/// The word at an address, or the refusal to give it.
+/// Checks the word at an address, or the refusal to give it.
 fn expect_word(rt: &impl Abort, core: &Core, address: u32, wanted: Result<Word, CoreError>) {
     assert_eq!(rt; core.word(address), wanted);
 }
 
-/// What setting a word answers.
+/// Checks what setting a word answers.
 fn expect_set(
     rt: &impl Abort,
     core: &mut Core,
@@ -56,7 +53,7 @@ fn expect_set(
     assert_eq!(rt; core.set_word(address, word(number)), wanted);
 }
 
-/// A core as it is made, and with the word for rings set anew.
+/// Checks a core as it is made, and with the word for rings set anew.
 fn expect_new(rt: &impl Abort, core: &mut Core) {
     assert_eq!(rt; core.length(), 1024);
     expect_words(rt, core, 0o120, &[0, 0o140, 0]);
@@ -72,7 +69,7 @@ fn a_new_core(rt: HostRuntime) -> Result<(), Fail> {
     Ok(())
 }
 
-/// The words at the ends of a core of 512 words are set, and the one behind them is refused.
+/// Checks that the words at the ends of a core of 512 words are set, and the one after them is refused.
 fn expect_ends(rt: &impl Abort, core: &mut Core) {
     for (address, number, wanted) in [
         (0, 1, Ok(())),
@@ -93,7 +90,7 @@ fn words_at_the_ends_of_a_core(rt: HostRuntime) -> Result<(), Fail> {
     Ok(())
 }
 
-/// What putting words answers.
+/// Checks what putting words answers.
 fn expect_put(
     rt: &impl Abort,
     core: &mut Core,
@@ -104,18 +101,18 @@ fn expect_put(
     assert_eq!(rt; core.put(address, words), wanted);
 }
 
-/// These areas are in no core of 512 words.
+/// Checks that these areas are in no core of 512 words.
 fn expect_no_areas(rt: &impl Abort, core: &Core) {
     for area in [
-        Area {
+        CoreArea {
             first: 0o777776,
             count: 3,
         },
-        Area {
+        CoreArea {
             first: usize::MAX,
             count: 2,
         },
-        Area {
+        CoreArea {
             first: 2,
             count: usize::MAX,
         },
@@ -125,7 +122,7 @@ fn expect_no_areas(rt: &impl Abort, core: &Core) {
     }
 }
 
-/// Words are put at the end of a core of 512 words, and not past it.
+/// Checks that words are put at the end of a core of 512 words, and aren't put past it.
 fn expect_rows(rt: &impl Abort, core: &mut Core) {
     let refused = Err(CoreError::AddressCheck);
     expect_put(rt, core, 0o775, &[word(5), word(6), word(7)], Ok(()));

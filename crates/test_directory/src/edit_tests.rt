@@ -1,16 +1,18 @@
+//! Tests of the edits of a directory.
 ghost use Rattle.std.specs.Prelude.{◌≡◌};
 ghost use Rattle.spec_image.specs.Common.{times};
 
-use crate::load_tests::{SIZE, block_of, files, put, read, word};
+use crate::load_tests::{SIZE, files, put, read};
 use blockdisk::MemDisk;
 use changeset::ChangeSet;
-use directory::{Chain, DirectoryError, Entry, FileEntry};
+use directory::{Chain, ChainEntry, DirectoryError, FileEntry};
 use std::alloc::Global;
 use std::process::Abort;
 use std::test::Fail;
+use test_support::{beginning, word};
 use words36::{Block, FileName, Half};
 
-/// The key of a file: the numbers of its name and its extension.
+/// Returns the key of a file: the numbers of its name and its extension.
 pub(crate) fn name(name: u64, ext: u32) -> FileName {
     FileName {
         name: word(name),
@@ -18,7 +20,7 @@ pub(crate) fn name(name: u64, ext: u32) -> FileName {
     }
 }
 
-/// Puts the blocks 20, 21 and 22 of a chain of so many files on a disk.
+/// Puts the blocks 20, 21 and 22 of a chain of `count` files on a disk.
 fn put_chain(rt: &impl Abort, disk: &mut MemDisk, count: u64) {
     let second = if count > 42 { 21 } else { 0 };
     let third = if count > 84 { 22 } else { 0 };
@@ -28,7 +30,7 @@ fn put_chain(rt: &impl Abort, disk: &mut MemDisk, count: u64) {
     put(rt, disk, 22, &files(0, 85, count.saturating_sub(84)));
 }
 
-/// A chain of so many files in the blocks 20, 21 and 22. Their names are the numbers from 1 on, and their
+/// Returns a chain of `count` files in the blocks 20, 21 and 22. Their names are the numbers from 1, and their
 /// prime blocks are 100.
 pub(crate) fn chain_of(
     rt: &impl Abort,
@@ -40,7 +42,7 @@ pub(crate) fn chain_of(
     read(rt, alloc, &mut disk, 20)
 }
 
-/// A block that isn't among these.
+/// Returns a block that isn't among these.
 pub(crate) fn fresh_block(rt: &impl Abort, blocks: &[u32]) -> u32
     ensures { times result blocks.now ≡ 0 }
 {
@@ -54,8 +56,8 @@ pub(crate) fn fresh_block(rt: &impl Abort, blocks: &[u32]) -> u32
     23
 }
 
-/// Inserts an entry, with the block after the last should it need one; gives what was put.
-fn insert<E: Entry>(
+/// Inserts an entry, with the block after the last in case it needs one; returns what was put.
+fn insert<E: ChainEntry>(
     rt: &impl Abort,
     chain: &mut Chain<E>,
     entry: E,
@@ -66,8 +68,8 @@ fn insert<E: Entry>(
     Ok(set)
 }
 
-/// Removes an entry; gives the block that was freed and what was put.
-pub(crate) fn remove<E: Entry>(
+/// Removes an entry; returns the block that was freed and what was put.
+pub(crate) fn remove<E: ChainEntry>(
     rt: &impl Abort,
     chain: &mut Chain<E>,
     key: &E::Key,
@@ -79,8 +81,13 @@ pub(crate) fn remove<E: Entry>(
     }
 }
 
-/// Puts an entry in the place of another one; gives what was put.
-fn rename<E: Entry>(rt: &impl Abort, chain: &mut Chain<E>, old: &E::Key, entry: E) -> ChangeSet {
+/// Puts an entry in place of another one; returns what was put.
+fn rename<E: ChainEntry>(
+    rt: &impl Abort,
+    chain: &mut Chain<E>,
+    old: &E::Key,
+    entry: E,
+) -> ChangeSet {
     let mut set = ChangeSet::new();
     match (chain.find(old), chain.find(&entry.key())) {
         (Some(_), None) => chain.rename(old, entry, &mut set),
@@ -89,24 +96,24 @@ fn rename<E: Entry>(rt: &impl Abort, chain: &mut Chain<E>, old: &E::Key, entry: 
     set
 }
 
-/// The place of an entry in its chain.
-pub(crate) fn place_of<E: Entry>(chain: &Chain<E>, key: &E::Key) -> Option<usize> {
+/// Returns the place of an entry in its chain.
+pub(crate) fn place_of<E: ChainEntry>(chain: &Chain<E>, key: &E::Key) -> Option<usize> {
     chain.find(key)
 }
 
-/// The entry of a file.
+/// Returns the entry of a file.
 pub(crate) fn file(rt: &impl Abort, key: FileName, prime: u32) -> FileEntry {
     FileEntry::new(key, prime).expect(rt, "a name")
 }
 
-/// Whether there is a put of these words for a block.
+/// Returns whether there is a put of these words for a block.
 fn is_put(set: &ChangeSet, n: u32, words: &Block) -> bool {
     set.puts()
         .iter()
         .any(|put| put.block == n && put.words == *words)
 }
 
-/// These are the puts of a set.
+/// Expects these puts in a set.
 pub(crate) fn expect_puts(rt: &impl Abort, set: &ChangeSet, puts: &[(u32, Block)]) {
     for (n, words) in puts {
         assert!(rt; is_put(set, *n, words));
@@ -114,7 +121,7 @@ pub(crate) fn expect_puts(rt: &impl Abort, set: &ChangeSet, puts: &[(u32, Block)
     assert_eq!(rt; set.puts().len(), puts.len());
 }
 
-/// A file is inserted by these puts.
+/// Expects that a file is inserted by these puts.
 fn expect_inserted(
     rt: &impl Abort,
     chain: &mut Chain<FileEntry>,
@@ -126,7 +133,7 @@ fn expect_inserted(
     Ok(())
 }
 
-/// A file is removed by these puts, and this block is free then.
+/// Expects that a file is removed by these puts, and that this block is then free.
 fn expect_removed(
     rt: &impl Abort,
     chain: &mut Chain<FileEntry>,
@@ -139,12 +146,12 @@ fn expect_removed(
     assert_eq!(rt; freed, wanted);
 }
 
-/// A chain stands in these blocks.
-pub(crate) fn expect_blocks<E: Entry>(rt: &impl Abort, chain: &Chain<E>, blocks: &[u32]) {
+/// Expects a chain in these blocks.
+pub(crate) fn expect_blocks<E: ChainEntry>(rt: &impl Abort, chain: &Chain<E>, blocks: &[u32]) {
     assert!(rt; chain.blocks() == blocks);
 }
 
-/// A file is inserted behind so many, by these puts, and they stand in so many blocks then.
+/// Expects that a file is inserted after `count` others, by these puts, and the number of blocks that they then take.
 fn expect_last(
     rt: &impl Abort,
     alloc: Global,
@@ -211,14 +218,14 @@ fn a_name_that_is_there_gets_its_block(rt: HostRuntime) -> Result<(), Fail> {
 #[test]
 fn the_last_file_moves_into_the_hole(rt: HostRuntime) -> Result<(), Fail> {
     for (gone, first, second) in [(1, 3, 2), (2, 1, 3), (3, 1, 2)] {
-        let wanted = block_of(&[0, 2, first, 0, 100, second, 0, 100]);
+        let wanted = beginning(&[0, 2, first, 0, 100, second, 0, 100]);
         let mut chain = chain_of(&rt, rt.alloc(), 3)?;
         expect_removed(&rt, &mut chain, name(gone, 0), None, &[(20, wanted)]);
     }
     Ok(())
 }
 
-/// One of 43 files is removed, by this put, and leaves one block.
+/// Expects that one of 43 files is removed, by this put, and leaves one block.
 fn expect_one_block(
     rt: &impl Abort,
     alloc: Global,
@@ -256,14 +263,14 @@ fn a_hole_in_an_earlier_block_is_filled(rt: HostRuntime) -> Result<(), Fail> {
 #[test]
 fn the_only_file_goes_and_its_block_stays(rt: HostRuntime) -> Result<(), Fail> {
     let mut chain = chain_of(&rt, rt.alloc(), 1)?;
-    expect_removed(&rt, &mut chain, name(1, 0), None, &[(20, block_of(&[]))]);
+    expect_removed(&rt, &mut chain, name(1, 0), None, &[(20, beginning(&[]))]);
     expect_blocks(&rt, &chain, &[20]);
     Ok(())
 }
 
 #[test]
 fn a_file_is_renamed_in_its_place(rt: HostRuntime) -> Result<(), Fail> {
-    let wanted = block_of(&[0, 2, 99, 0o777777000000, 31, 44, 0, 100]);
+    let wanted = beginning(&[0, 2, 99, 0o777777000000, 31, 44, 0, 100]);
     let entry = file(&rt, name(99, 0o777777), 31);
     let mut chain = chain_of(&rt, rt.alloc(), 44)?;
     let set = rename(&rt, &mut chain, &name(43, 0), entry);
@@ -284,7 +291,7 @@ fn insert_all(
     Ok(())
 }
 
-/// These are the names and extensions of entries.
+/// Expects these names and extensions of entries.
 fn expect_keys(rt: &impl Abort, list: &[FileEntry], keys: &[(u64, u32)]) {
     assert_eq!(rt; list.len(), keys.len());
     for (entry, key) in list.iter().zip(keys) {
@@ -305,13 +312,13 @@ fn files_are_listed_by_name_and_then_extension(rt: HostRuntime) -> Result<(), Fa
     Ok(())
 }
 
-/// How many entries the list of a chain has, if there is memory for it.
-fn count_listed<E: Entry>(alloc: Global, chain: &Chain<E>) -> Option<usize> {
+/// Returns how many entries the list of a chain has, if there is memory for it.
+fn count_listed<E: ChainEntry>(alloc: Global, chain: &Chain<E>) -> Option<usize> {
     let list = chain.list_sorted(alloc).ok()?;
     Some(list.len())
 }
 
-/// A file is inserted into an empty chain, or there is no memory and the chain stays as it was.
+/// Expects that a file is inserted into an empty chain, or that there is no memory and the chain is unchanged.
 fn expect_one_or_none(rt: &impl Abort, alloc: Global, chain: &mut Chain<FileEntry>) {
     let failed = insert(rt, chain, file(rt, name(1, 0), 100)).err();
     assert_eq!(rt; chain.len(), usize::from(failed.is_none()));
@@ -324,7 +331,7 @@ fn expect_one_or_none(rt: &impl Abort, alloc: Global, chain: &mut Chain<FileEntr
     }
 }
 
-/// Run with each allocation refused in turn: the answer is `NoMemory`, and the chain stays as it was.
+/// Run with each allocation refused in turn: the result is `NoMemory`, and the chain is unchanged.
 #[test]
 fn each_allocation_of_an_edit_refused(rt: HostRuntime) {
     if let Ok(mut chain) = Chain::bare(rt.alloc(), 20) {

@@ -1,33 +1,22 @@
+//! Tests of entries and their words.
 use crate::edit_tests::{expect_blocks, expect_puts, remove};
 use changeset::ChangeSet;
-use directory::{Chain, DirectoryError, Entry, EntryFault, FileEntry, MasterEntry, chain_stands};
+use directory::{
+    Chain, ChainEntry, DirectoryError, EntryFault, FileEntry, MasterEntry, chain_stands,
+};
 use std::alloc::Global;
 use std::cmp::Ordering;
 use std::process::Abort;
 use std::test::Fail;
-use words36::{BLOCK_WORDS, Block, FileName, Half, Ppn, Word};
+use test_support::{beginning, word};
+use words36::{BLOCK_WORDS, FileName, Half, Ppn, Word};
 
-/// The word of a number.
-fn word(bits: u64) -> Word {
-    Word::new(bits).unwrap_or(Word::ZERO)
-}
-
-/// A directory block of one entry.
-fn block_of(words: [u64; 3]) -> Block {
-    let mut block = [Word::ZERO; BLOCK_WORDS];
-    block[1] = word(1);
-    block[2] = word(words[0]);
-    block[3] = word(words[1]);
-    block[4] = word(words[2]);
-    block
-}
-
-/// The three words of an entry.
+/// Returns the three words of an entry.
 fn three(words: [u64; 3]) -> [Word; 3] {
     [word(words[0]), word(words[1]), word(words[2])]
 }
 
-/// The name FOO.TXT, or another extension.
+/// Returns the name FOO.TXT, or FOO with another extension.
 fn foo(rt: &impl Abort, ext: u32) -> FileName {
     FileName {
         name: word(0o465757000000),
@@ -35,8 +24,8 @@ fn foo(rt: &impl Abort, ext: u32) -> FileName {
     }
 }
 
-/// Inserts an entry into a chain whose last block has room for it; gives what was put.
-fn insert<E: Entry>(
+/// Inserts an entry into a chain whose last block has room for it; returns what was put.
+fn insert<E: ChainEntry>(
     rt: &impl Abort,
     chain: &mut Chain<E>,
     entry: E,
@@ -53,8 +42,8 @@ const DIRECTORY: [u64; 3] = [0o000010000020, 0o775000000000, 0o20];
 /// The entry of FOO.TXT, whose prime retrieval block is block 17.
 const FILE: [u64; 3] = [0o465757000000, 0o647064000000, 0o21];
 
-/// An entry is these words, and they are the entry.
-fn expect_words<E: Entry + PartialEq>(rt: &impl Abort, entry: E, words: [u64; 3]) {
+/// Expects that an entry is these words, and they are the entry.
+fn expect_words<E: ChainEntry + PartialEq>(rt: &impl Abort, entry: E, words: [u64; 3]) {
     assert!(rt; entry.words() == three(words));
     match E::parse(three(words)) {
         Ok(read) => assert!(rt; read == entry),
@@ -62,8 +51,8 @@ fn expect_words<E: Entry + PartialEq>(rt: &impl Abort, entry: E, words: [u64; 3]
     }
 }
 
-/// An entry is put into the first block of a chain as these words.
-fn expect_alone<E: Entry>(
+/// Expects that an entry is put into the first block of a chain as these words.
+fn expect_alone<E: ChainEntry>(
     rt: &impl Abort,
     alloc: Global,
     entry: E,
@@ -73,7 +62,11 @@ fn expect_alone<E: Entry>(
     let answer = insert(rt, &mut chain, entry);
     drop(chain);
     let set = answer?;
-    expect_puts(rt, &set, &[(16, block_of(words))]);
+    expect_puts(
+        rt,
+        &set,
+        &[(16, beginning(&[0, 1, words[0], words[1], words[2]]))],
+    );
     Ok(())
 }
 
@@ -107,8 +100,8 @@ fn the_entry_of_a_file(rt: HostRuntime) -> Result<(), Fail> {
     Ok(())
 }
 
-/// These words are no entry, by this fault.
-fn expect_fault<E: Entry>(rt: &impl Abort, words: [u64; 3], fault: EntryFault) {
+/// Expects that these words aren't an entry, because of this fault.
+fn expect_fault<E: ChainEntry>(rt: &impl Abort, words: [u64; 3], fault: EntryFault) {
     match E::parse(three(words)) {
         Ok(_entry) => assert!(rt; false),
         Err(found) => assert!(rt; found == fault),
@@ -130,7 +123,7 @@ fn words_of_no_directory(rt: HostRuntime) -> Result<(), Fail> {
     Ok(())
 }
 
-/// The word of an entry with protection 775 and this quota is this one.
+/// Expects that the word of an entry with protection 775 and this quota is this one.
 fn expect_quota_word(rt: &impl Abort, quota: u32, word: u64) {
     let ppn = Ppn::new(0o10, 0o20).expect(rt, "a number");
     let entry = MasterEntry::new(ppn, 0o775, quota, 16).expect(rt, "an entry");
@@ -149,7 +142,7 @@ fn quotas_written_and_read(rt: HostRuntime) {
     }
 }
 
-/// The words of an entry with this protection word are read, and the quota is this one.
+/// Expects that the words of an entry with this protection word are read, and that the quota is this one.
 fn expect_quota_read(rt: &impl Abort, word: u64, quota: u32) {
     match MasterEntry::parse(three([0o000010000020, word, 0o20])) {
         Ok(entry) => {
@@ -236,7 +229,7 @@ fn keys_in_order(rt: HostRuntime) -> Result<(), Fail> {
     Ok(())
 }
 
-/// A chain has no entries.
+/// Expects that a chain has no entries.
 fn expect_none(rt: &impl Abort, chain: &Chain<FileEntry>) {
     expect_blocks(rt, chain, &[16]);
     assert!(rt; chain.entries().is_empty());
@@ -244,7 +237,7 @@ fn expect_none(rt: &impl Abort, chain: &Chain<FileEntry>) {
     chain_stands(chain);
 }
 
-/// An entry goes into an empty chain and out of it.
+/// Expects that an entry goes into an empty chain and out of it.
 fn expect_in_and_out(
     rt: &impl Abort,
     chain: &mut Chain<FileEntry>,

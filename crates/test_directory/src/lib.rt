@@ -1,6 +1,6 @@
-//! Tests of directories by their public calls alone: entries and their words, chains that are read from disks that
-//! serve and disks that fail, and what each edit puts. They stand apart from the crate that they test so that it is
-//! proved once. There is no code here beside them.
+//! Tests of directories through their public calls alone: entries and their words, chains that are read from disks that
+//! serve and disks that fail, and what each edit puts. They are apart from the crate that they test so that it is
+//! proved once. There is no other code here.
 #![tactic(auto)]
 
 #[cfg(test)]

@@ -1,32 +1,19 @@
+//! Tests of chains that are read from a disk.
 ghost use Rattle.std.specs.Prelude.{◌≡◌, ◌<◌, ◌≤◌, length};
-ghost use Rattle.blockdisk.specs.Common.{memory_state};
 
 use alloctab::Reached;
-use blockdisk::{Disk, Fault, MemDisk, NoMemory};
-use directory::{Chain, DirectoryError, Entry, FileEntry, MasterEntry};
+use blockdisk::{Disk, MemDisk, NoMemory};
+use directory::{Chain, ChainEntry, DirectoryError, FileEntry, MasterEntry};
 use std::alloc::Global;
 use std::process::Abort;
 use std::test::Fail;
+use test_support::{Answer, DIRECTORY, FailingDisk, MASTER, beginning, word};
 use words36::{BLOCK_WORDS, Block, Word};
 
-/// A disk of so many blocks has its free space from 15 on.
+/// A disk with this number of blocks has its free space from block 15.
 pub(crate) const SIZE: u32 = 1024;
 
-/// The word of this number.
-pub(crate) fn word(number: u64) -> Word {
-    Word::new(number).unwrap_or(Word::ZERO)
-}
-
-/// A block that begins with these words.
-pub(crate) fn block_of(words: &[u64]) -> Block {
-    let mut block = [Word::ZERO; BLOCK_WORDS];
-    for (place, &number) in block.iter_mut().zip(words) {
-        *place = word(number);
-    }
-    block
-}
-
-/// A block with so many files, whose names are the numbers from `first` on, and whose prime blocks are 100.
+/// Returns a block with `count` files, whose names are the numbers from `first`, and whose prime blocks are 100.
 pub(crate) fn files(next: u64, first: u64, count: u64) -> Block
     requires { first < 1000 }
 {
@@ -48,8 +35,8 @@ pub(crate) fn put(rt: &impl Abort, disk: &mut MemDisk, n: u32, block: &Block) {
     disk.load(n, block);
 }
 
-/// The chain from this block on, where no block was reached before.
-pub(crate) fn read<E: Entry, D: Disk>(
+/// Reads the chain from this block, if no block was reached before.
+pub(crate) fn read<E: ChainEntry, D: Disk>(
     rt: &impl Abort,
     alloc: Global,
     disk: &mut D,
@@ -61,7 +48,7 @@ pub(crate) fn read<E: Entry, D: Disk>(
     Chain::load(alloc, disk, first, &mut reached)
 }
 
-/// A disk with these blocks in 20 and 21.
+/// Returns a disk with these blocks in 20 and 21.
 fn disk_with(
     rt: &impl Abort,
     alloc: Global,
@@ -74,8 +61,8 @@ fn disk_with(
     Ok(disk)
 }
 
-/// How many entries the chain from 20 on has.
-fn count_entries<E: Entry, D: Disk>(
+/// Returns how many entries the chain from 20 has.
+fn count_entries<E: ChainEntry, D: Disk>(
     rt: &impl Abort,
     alloc: Global,
     disk: &mut D,
@@ -84,8 +71,8 @@ fn count_entries<E: Entry, D: Disk>(
     Ok(chain.len())
 }
 
-/// How many entries a disk with these blocks in 20 and 21 has in the chain from 20 on.
-fn answer<E: Entry>(
+/// Returns how many entries a disk with these blocks in 20 and 21 has in the chain from 20.
+fn answer<E: ChainEntry>(
     rt: &impl Abort,
     alloc: Global,
     first: &Block,
@@ -95,7 +82,8 @@ fn answer<E: Entry>(
     count_entries::<E, MemDisk>(rt, alloc, &mut disk)
 }
 
-/// A chain of files from 20 on with this block and this one behind it in 21 has so many entries, or is refused.
+/// Expects that a chain of files from 20 with this block and this one after it in 21 has that many entries, or is
+/// refused.
 fn expect(
     rt: &impl Abort,
     alloc: Global,
@@ -109,19 +97,19 @@ fn expect(
 /// The first block of a directory is bad.
 const BAD: Option<DirectoryError> = Some(DirectoryError::BadDirectory(20));
 
-/// What is wrong with a directory whose first block has these words.
+/// Expects what is wrong with a directory whose first block has these words.
 fn expect_fault(rt: &impl Abort, alloc: Global, words: &[u64], wanted: Option<DirectoryError>) {
-    let fault = answer::<FileEntry>(rt, alloc, &block_of(words), &files(0, 500, 1)).err();
+    let fault = answer::<FileEntry>(rt, alloc, &beginning(words), &files(0, 500, 1)).err();
     assert_eq!(rt; fault, wanted);
 }
 
-/// The same of the master directory.
+/// Expects the same of the master directory.
 fn expect_master(rt: &impl Abort, alloc: Global, words: &[u64], wanted: Option<DirectoryError>) {
-    let fault = answer::<MasterEntry>(rt, alloc, &block_of(words), &block_of(&[])).err();
+    let fault = answer::<MasterEntry>(rt, alloc, &beginning(words), &beginning(&[])).err();
     assert_eq!(rt; fault, wanted);
 }
 
-/// Puts a chain of so many files in the blocks 20, 1023 and 15.
+/// Puts a chain with `first` files in block 20, `second` in block 1023 and `third` in block 15 on a disk.
 fn put_three(rt: &impl Abort, disk: &mut MemDisk, first: u64, second: u64, third: u64) {
     let behind_first = if second > 0 { 1023 } else { 0 };
     put(rt, disk, 20, &files(behind_first, 1, first));
@@ -130,7 +118,7 @@ fn put_three(rt: &impl Abort, disk: &mut MemDisk, first: u64, second: u64, third
     put(rt, disk, 15, &files(0, 85, third));
 }
 
-/// So many entries have the names from 1 on, no extension, and the prime block 100.
+/// Expects `count` entries with the names from 1, no extension, and the prime block 100.
 fn expect_entries(rt: &impl Abort, entries: &[FileEntry], count: u64) {
     let mut name: u64 = 0;
     for entry in entries {
@@ -142,7 +130,7 @@ fn expect_entries(rt: &impl Abort, entries: &[FileEntry], count: u64) {
     assert_eq!(rt; name, count);
 }
 
-/// A chain in the first so many of the blocks 20, 1023 and 15.
+/// Expects a chain in the first `count` of the blocks 20, 1023 and 15.
 fn expect_first_blocks(rt: &impl Abort, blocks: &[u32], count: usize) {
     assert!(rt; [20, 1023, 15].starts_with(blocks));
     assert_eq!(rt; blocks.len(), count);
@@ -172,22 +160,22 @@ fn chains_of_each_length(rt: HostRuntime) -> Result<(), Fail> {
     Ok(())
 }
 
-/// The only entry of a chain in this block.
-fn only_entry<E: Entry>(rt: &impl Abort, chain: &Chain<E>, block: u32) -> E {
+/// Returns the only entry of a chain in this block.
+fn only_entry<E: ChainEntry>(rt: &impl Abort, chain: &Chain<E>, block: u32) -> E {
     assert!(rt; chain.blocks() == [block].as_slice());
     let entries = chain.entries();
     assert!(rt; entries.len() == 1);
     entries[0]
 }
 
-/// The entry of the directory `[10,20]`.
+/// Expects the entry of the directory `[10,20]`.
 fn expect_directory(rt: &impl Abort, entry: &MasterEntry) {
     assert_eq!(rt; entry.ppn.word(), word(0o000010000020));
     assert_eq!(rt; entry.protection, 0o775);
     assert_eq!(rt; entry.first, 16);
 }
 
-/// The entry of FOO.TXT.
+/// Expects the entry of FOO.TXT.
 fn expect_foo(rt: &impl Abort, entry: &FileEntry) {
     assert_eq!(rt; entry.name.name, word(0o465757000000));
     assert_eq!(rt; entry.name.ext.bits(), 0o647064);
@@ -207,8 +195,8 @@ fn expect_two(rt: &impl Abort, alloc: Global, disk: &mut MemDisk) -> Result<(), 
 /// The directories of a disk of 64 blocks with one directory, `[10,20]`, and one file, FOO.TXT.
 #[test]
 fn a_small_disk(rt: HostRuntime) -> Result<(), Fail> {
-    let master = block_of(&[0, 1, 0o000010000020, 0o775000000000, 0o20]);
-    let directory = block_of(&[0, 1, 0o465757000000, 0o647064000000, 0o21]);
+    let master = beginning(&MASTER);
+    let directory = beginning(&DIRECTORY);
     let mut disk = MemDisk::new(rt.alloc(), 64, 0)?;
     put(&rt, &mut disk, 15, &master);
     put(&rt, &mut disk, 16, &directory);
@@ -232,7 +220,7 @@ fn loops_end(rt: HostRuntime) {
     }
 }
 
-/// What is wrong with the chain of files from this block on, where these blocks were reached before.
+/// Returns what is wrong with the chain of files from this block, if these blocks were reached before.
 fn fault_from<D: Disk>(
     rt: &impl Abort,
     alloc: Global,
@@ -248,7 +236,7 @@ fn fault_from<D: Disk>(
     chain.err()
 }
 
-/// The chain from 21 on is read, and then the one from 20 on, that reaches 21.
+/// Reads the chain from 21, and then the one from 20, that reaches 21.
 fn expect_reached_twice(rt: &impl Abort, alloc: Global, disk: &mut MemDisk, reached: &mut Reached)
     requires { length reached.old ≡ 1024 }
 {
@@ -270,7 +258,7 @@ fn blocks_marked_before(rt: HostRuntime) -> Result<(), Fail> {
     Ok(())
 }
 
-/// The first words of a block with so many entries that names a block behind it.
+/// Expects what is wrong with the first words of a block with `count` entries that names a block after it.
 fn expect_first_words(
     rt: &impl Abort,
     alloc: Global,
@@ -283,20 +271,20 @@ fn expect_first_words(
     assert_eq!(rt; fault, wanted);
 }
 
-/// A block of 42 entries that names this one behind it is not bad.
+/// Expects that a block of 42 entries that names this one after it is not bad.
 fn expect_next(rt: &impl Abort, alloc: Global, next: u64) {
     let answer = answer::<FileEntry>(rt, alloc, &files(next, 1, 42), &files(0, 500, 1));
     assert!(rt; answer != Err(DirectoryError::BadDirectory(20)));
 }
 
-/// Directories whose first blocks have these words are bad.
+/// Expects that directories whose first blocks have these words are bad.
 fn expect_bad(rt: &impl Abort, alloc: Global, cases: &[&[u64]]) {
     for words in cases {
         expect_fault(rt, alloc, words, BAD);
     }
 }
 
-/// Blocks that name one behind them that can't be there, or have more entries than a block has, are bad.
+/// Expects that blocks that name one after them that can't be there, or have more entries than a block has, are bad.
 fn expect_bad_numbers(rt: &impl Abort, alloc: Global) {
     for (next, count) in [
         (1, 42),
@@ -319,7 +307,7 @@ fn bad_first_words(rt: HostRuntime) {
     let bad: [&[u64]; 4] = [
         &[21, 0], // not full
         &[21, 1, 1, 0, 15],
-        &[0, 1, 1, 0, 15, 1], // words behind the entries
+        &[0, 1, 1, 0, 15, 1], // words after the entries
         &[0, 0, 1],
     ];
     expect_bad(&rt, rt.alloc(), &bad);
@@ -329,7 +317,7 @@ fn bad_first_words(rt: HostRuntime) {
     expect_bad_numbers(&rt, rt.alloc());
 }
 
-/// Entries that name a block outside the space are bad.
+/// Expects that entries that name a block outside the space are bad.
 fn expect_bad_targets(rt: &impl Abort, alloc: Global) {
     for prime in [0, 14, 1024, 4294967396, 68719476735] {
         expect_fault(rt, alloc, &[0, 1, 1, 0, prime], BAD);
@@ -358,10 +346,10 @@ fn bad_entries(rt: HostRuntime) {
     }
 }
 
-/// The only directory of a chain in block 20 has this quota.
+/// Expects that the only directory of a chain in block 20 has this quota.
 fn expect_quota(rt: &impl Abort, alloc: Global, quota: u32) -> Result<(), DirectoryError> {
-    let block = block_of(&[0, 1, 0o1000001, u64::from(quota), 20]);
-    let mut disk = disk_with(rt, alloc, &block, &block_of(&[]))?;
+    let block = beginning(&[0, 1, 0o1000001, u64::from(quota), 20]);
+    let mut disk = disk_with(rt, alloc, &block, &beginning(&[]))?;
     let answer: Result<Chain<MasterEntry>, DirectoryError> = read(rt, alloc, &mut disk, 20);
     drop(disk);
     let chain = answer?;
@@ -401,7 +389,7 @@ fn keys_that_come_twice(rt: HostRuntime) {
     expect(&rt, rt.alloc(), &first, &files(0, 43, 1), Ok(43));
 }
 
-/// A damaged block of a chain in 20 and 21 is bad.
+/// Expects that a damaged block of a chain in 20 and 21 is bad.
 fn expect_damage(rt: &impl Abort, alloc: Global, damaged: u32) -> Result<(), NoMemory> {
     let mut disk = disk_with(rt, alloc, &files(21, 1, 42), &files(0, 43, 1))?;
     damage(rt, &mut disk, damaged);
@@ -429,47 +417,6 @@ fn bad_later_blocks(rt: HostRuntime) -> Result<(), Fail> {
     Ok(())
 }
 
-/// A disk that fails every read after so many.
-#[derive(Drop)]
-struct FailingDisk {
-    inner: MemDisk,
-    reads: u32,
-    failures: u64,
-}
-
-impl Disk for FailingDisk {
-    ghost state = { λ d. record (memory_state d.inner) { honest = ⊥; failures = d.failures } };
-
-    ghost counts_now = { λ d t c h le left. absurd h };
-
-    ghost only_now = { λ d c h left. absurd h };
-
-    ghost reaches_back = { λ d t u c h le left. absurd h };
-
-    fn blocks(&self) -> u32 {
-        self.inner.blocks()
-    }
-
-    fn read(&mut self, n: u32) -> Result<Block, Fault> {
-        if self.reads == 0 {
-            self.failures = self.failures.saturating_add(1);
-            return Err(Fault::Device);
-        }
-        self.reads -= 1;
-        self.inner.read(n)
-    }
-
-    fn write(&mut self, _n: u32, _block: &Block) -> Result<(), Fault> {
-        self.failures = self.failures.saturating_add(1);
-        Err(Fault::Device)
-    }
-
-    fn sync(&mut self) -> Result<(), Fault> {
-        self.failures = self.failures.saturating_add(1);
-        Err(Fault::Device)
-    }
-}
-
 #[test]
 fn each_read_may_fail(rt: HostRuntime) -> Result<(), Fail> {
     for (reads, wanted) in [
@@ -478,11 +425,7 @@ fn each_read_may_fail(rt: HostRuntime) -> Result<(), Fail> {
         (2, None),
     ] {
         let inner = disk_with(&rt, rt.alloc(), &files(21, 1, 42), &files(0, 43, 1))?;
-        let mut disk = FailingDisk {
-            inner,
-            reads,
-            failures: 0,
-        };
+        let mut disk = FailingDisk::new(inner, reads, Answer::Fails, Answer::Fails);
         let failed = count_entries::<FileEntry, FailingDisk>(&rt, rt.alloc(), &mut disk).err();
         drop(disk);
         assert!(rt; failed == wanted);
@@ -490,7 +433,7 @@ fn each_read_may_fail(rt: HostRuntime) -> Result<(), Fail> {
     Ok(())
 }
 
-/// A chain of 84 files is read, or there is no memory.
+/// Expects that a chain of 84 files is read, or that there is no memory.
 fn expect_files(rt: &impl Abort, answer: Result<usize, DirectoryError>) {
     match answer {
         Ok(count) => assert_eq!(rt; count, 84),
@@ -498,7 +441,7 @@ fn expect_files(rt: &impl Abort, answer: Result<usize, DirectoryError>) {
     }
 }
 
-/// Run with each allocation refused in turn: the answer is `NoMemory`, and the next read succeeds.
+/// Run with each allocation refused in turn: the result is `NoMemory`, and the next read succeeds.
 #[test]
 fn each_allocation_refused(rt: HostRuntime) {
     if let Ok(mut disk) = disk_with(&rt, rt.alloc(), &files(21, 1, 42), &files(0, 43, 42)) {

@@ -1,17 +1,18 @@
+//! Tests of a system's calls that do less than requested, or fail.
 ghost use Rattle.std.specs.Prelude.{◌≡◌, IfOk};
 ghost use Rattle.imagefile.specs.Common.{unknown_file};
 
 use crate::image_tests::{disk_over, expect_v1, v1_file};
 use blockdisk::Fault;
 use imagefile::{
-    Durable, FileCalls, HostCalls, HostFile, SeekingFile, Supposition, SyncData, SystemCalls,
+    AssumedImage, Durable, FileCalls, HostCalls, HostFile, SeekingFile, SyncData, SystemCalls,
 };
 use std::io::{self, Read, Seek, SeekFrom, Write};
 use std::process::Abort;
 use std::test::Fail;
 
-/// The calls of a system that does one byte at a time, over a list of bytes: each call that finds no
-/// turn left fails.
+/// The calls of a system that does one byte at a time, over a list of bytes: each call fails if there is no turn
+/// left.
 #[derive(Drop)]
 struct Sluggish {
     bytes: Vec<u8>,
@@ -71,7 +72,7 @@ impl FileCalls for Sluggish {
     }
 }
 
-/// What a write of these bytes answers.
+/// Checks the answer to a write of these bytes.
 fn expect_write(
     rt: &impl Abort,
     file: &mut HostFile<Sluggish>,
@@ -82,14 +83,14 @@ fn expect_write(
     assert_eq!(rt; file.write_at(at, bytes), wanted);
 }
 
-/// The six bytes of a file, read from its begin on, or the refusal to read them.
+/// Reads the six bytes of a file, from its beginning.
 fn first_bytes(file: &mut HostFile<Sluggish>) -> Result<[u8; 6], Fault> {
     let mut bytes = [9; 6];
     file.read_at(0, &mut bytes)?;
     Ok(bytes)
 }
 
-/// Calls that find turns are done byte by byte.
+/// Checks that calls are done byte by byte while there are turns.
 fn expect_done(rt: &impl Abort, file: &mut HostFile<Sluggish>) {
     assert_eq!(rt; file.len(), Ok(6));
     expect_write(rt, file, 1, &[1, 2, 3, 4], Ok(()));
@@ -99,7 +100,7 @@ fn expect_done(rt: &impl Abort, file: &mut HostFile<Sluggish>) {
     expect_write(rt, file, 0, &[8], Ok(()));
 }
 
-/// The last turn is the first byte of a write, and each call after it fails.
+/// Checks that the last turn is the first byte of a write, and that each call after it fails.
 fn expect_failed(rt: &impl Abort, file: &mut HostFile<Sluggish>) {
     expect_write(rt, file, 1, &[8, 8], Err(Fault::Device)); // at the second byte
     assert_eq!(rt; file.len(), Err(Fault::Device));
@@ -127,7 +128,7 @@ fn an_image_behind_calls(rt: HostRuntime) -> Result<(), Fail> {
     Ok(())
 }
 
-/// The calls of the standard library's on a file: all do what they are asked but one.
+/// The calls of the standard library on a file: all do what is requested, except one.
 #[derive(Clone, Copy, PartialEq, Eq)]
 enum StdCall {
     Seek,
@@ -136,7 +137,7 @@ enum StdCall {
     Sync,
 }
 
-/// A file that fails one call and keeps nothing.
+/// A file that fails one call and stores nothing.
 #[derive(Drop)]
 struct Failing {
     call: StdCall,
@@ -188,8 +189,8 @@ impl SyncData for Failing {
     }
 }
 
-/// A file of these calls of which nothing is promised, so that any place of it may be asked for: its length needn't be
-/// known.
+/// A file of these calls about which nothing is promised, so that any place of it may be read or written: its length
+/// needn't be known.
 #[derive(Drop)]
 pub(crate) struct Unpromised<S: SystemCalls> {
     calls: SeekingFile<S>,
@@ -223,14 +224,14 @@ impl<S: SystemCalls> FileCalls for Unpromised<S> {
     }
 }
 
-/// The file of these calls, with nothing promised of it.
+/// Returns the file of these calls, with nothing promised about it.
 pub(crate) fn without_promise<S: SystemCalls>(calls: S) -> HostFile<Unpromised<S>> {
     HostFile::new(Unpromised {
-        calls: SeekingFile::new(calls, Supposition::any()),
+        calls: SeekingFile::new(calls, AssumedImage::any()),
     })
 }
 
-/// What a file's calls answer where this one fails below.
+/// Checks the answers of a file's calls if this call underneath fails.
 fn expect_answers<S: SystemCalls>(
     rt: &impl Abort,
     file: &mut HostFile<Unpromised<S>>,
@@ -246,7 +247,7 @@ fn expect_answers<S: SystemCalls>(
     assert_eq!(rt; synced.is_ok(), call != StdCall::Sync);
 }
 
-/// What a file's calls answer is what the standard library answered, that of a sync too.
+/// A file's calls answer what the standard library answered, also for a sync.
 #[test]
 fn each_call_of_the_host_fails(rt: HostRuntime) {
     for call in [StdCall::Seek, StdCall::Read, StdCall::Write, StdCall::Sync] {

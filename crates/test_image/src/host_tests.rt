@@ -1,10 +1,11 @@
+//! Tests of an image in a file of the host.
 ghost use Rattle.std.specs.Prelude.{◌≡◌, ◌+◌, ◌≤◌, ℕ, false, length, OnOk};
 ghost use Rattle.imagefile.specs.Common.{calls_of, system_of, unseen_of, size_of, IsHonestRecord, after_calls};
 
 use crate::call_tests::{Unpromised, without_promise};
 use crate::image_tests::{disk_over, expect_bad_size, expect_v1, v1};
 use blockdisk::Fault;
-use imagefile::{Durable, HostCalls, HostFile, SeekingFile, Supposition, SystemCalls};
+use imagefile::{AssumedImage, Durable, HostCalls, HostFile, SeekingFile, SystemCalls};
 use std::fs::{self, File, OpenOptions};
 use std::io;
 use std::process::Abort;
@@ -14,22 +15,22 @@ const FOLDER: &str = "imagefile_test";
 
 const PATH: &str = "imagefile_test/v1.img";
 
-/// The image's file in the folder, for reading and writing.
+/// Opens the image's file in the folder, for reading and writing.
 fn open_file(rt: &HostRuntime) -> io::Result<File> {
     OpenOptions::new().read(true).write(true).open(rt, PATH)
 }
 
-/// The image in the folder, with some beginning supposed.
+/// Opens the image in the folder, with some beginning supposed.
 fn open(rt: &HostRuntime) -> io::Result<HostFile> {
-    Ok(HostFile::from_file(open_file(rt)?, Supposition::any()))
+    Ok(HostFile::from_file(open_file(rt)?, AssumedImage::any()))
 }
 
-/// The image in the folder, with nothing promised of it.
+/// Opens the image in the folder, with nothing promised about it.
 fn open_unpromised(rt: &HostRuntime) -> io::Result<HostFile<Unpromised<HostCalls>>> {
     Ok(without_promise(HostCalls::new(open_file(rt)?)))
 }
 
-/// A file is read at its end, and what is written to it is read back.
+/// Checks that a file is read at its end, and that what is written to it is read back.
 fn expect_file<S: SystemCalls>(rt: &impl Abort, file: &mut HostFile<SeekingFile<S>>) {
     assert_eq!(rt; file.len(), Ok(65536));
     let mut bytes = [1; 8];
@@ -40,7 +41,7 @@ fn expect_file<S: SystemCalls>(rt: &impl Abort, file: &mut HostFile<SeekingFile<
     assert_eq!(rt; back, [9, 8, 7, 6]);
 }
 
-/// A file is not read past its end.
+/// Checks that a file is not read past its end.
 fn expect_end(rt: &impl Abort, file: &mut HostFile<Unpromised<HostCalls>>) {
     let mut bytes = [1; 8];
     assert_eq!(rt; file.read_at(65530, &mut bytes), Err(Fault::Device));
@@ -74,9 +75,9 @@ fn an_image_of_the_host(rt: HostRuntime) -> Result<(), Fail> {
     Ok(())
 }
 
-/// What was written to a real file and synced is read back, and nothing is open then, wherever the
-/// record of its calls is an honest one at the end, of a file that began as is supposed, whatever that
-/// is: a theorem, made of the clauses of the three calls.
+/// Writes bytes to a real file, syncs it, and reads them back. They are the same, and nothing is open then, if the
+/// record of its calls is an honest one at the end, of a file that began as is supposed, whatever that is: a theorem,
+/// made of the clauses of the three calls.
 fn read_back<S: SystemCalls>(
     file: &mut HostFile<SeekingFile<S>>,
     at: u64,

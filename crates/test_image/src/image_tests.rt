@@ -1,12 +1,14 @@
+//! Tests of an image in memory.
 use blockdisk::{Disk, Fault, NoMemory};
 use imagefile::{Durable, Form, ImageDisk, ImageError, MemFile, block_count};
 use std::alloc::{AllocError, Global};
 use std::process::Abort;
 use std::test::Fail;
-use words36::{BLOCK_WORDS, Block, Word};
+use test_support::filled;
+use words36::{BLOCK_WORDS, Block};
 
-/// An image of 64 blocks by hand: block, place and word (octal) of each word that isn't zero. It has
-/// the directory [10,20] with one file, FOO.TXT, of the words `HELLO`, carriage return and line feed.
+/// An image of 64 blocks by hand: block, place and word (octal) of each word that isn't zero. It has the directory
+/// [10,20] with one file, FOO.TXT, of the words `HELLO`, carriage return and line feed.
 const V1: [(usize, usize, u64); 31] = [
     (1, 0, 0o465154634562),
     (1, 1, 1),
@@ -50,14 +52,14 @@ fn put_v1(rt: &impl Abort, image: &mut [u8]) {
     }
 }
 
-/// The bytes of that image.
+/// Returns the bytes of that image.
 pub(crate) fn v1(rt: &impl Abort, alloc: Global) -> Result<Vec<u8>, AllocError> {
     let mut bytes = vec![in alloc; 0; 65536]?;
     put_v1(rt, bytes.as_mut_slice());
     Ok(bytes)
 }
 
-/// That image as a file in memory, with room for two calls.
+/// Returns that image as a file in memory, with room for two calls.
 pub(crate) fn v1_file(rt: &impl Abort, alloc: Global) -> Result<MemFile, Fail> {
     let bytes = v1(rt, alloc)?;
     let file = MemFile::new(alloc, bytes.as_slice(), 2);
@@ -65,7 +67,7 @@ pub(crate) fn v1_file(rt: &impl Abort, alloc: Global) -> Result<MemFile, Fail> {
     Ok(file?)
 }
 
-/// The disk over a file that is an image.
+/// Returns the disk over a file that is an image.
 pub(crate) fn disk_over<F: Durable + Drop>(rt: &impl Abort, file: F) -> ImageDisk<F> {
     match ImageDisk::new(file) {
         Ok(disk) => disk,
@@ -73,7 +75,7 @@ pub(crate) fn disk_over<F: Durable + Drop>(rt: &impl Abort, file: F) -> ImageDis
     }
 }
 
-/// A file of so many bytes is no image, and is given back.
+/// Checks that a file of this number of bytes isn't an image, and is handed back.
 pub(crate) fn expect_bad_size<F: Durable + Drop>(rt: &impl Abort, file: F, bytes: u64) {
     match ImageDisk::new(file) {
         Ok(_disk) => assert!(rt; false),
@@ -87,15 +89,7 @@ pub(crate) fn expect_bad_size<F: Durable + Drop>(rt: &impl Abort, file: F, bytes
     }
 }
 
-/// A block whose words are all this number.
-pub(crate) fn filled(number: u64) -> Block {
-    match Word::new(number) {
-        Some(word) => [word; BLOCK_WORDS],
-        None => [Word::ZERO; BLOCK_WORDS],
-    }
-}
-
-/// A word of a block of a disk.
+/// Checks a word of a block of a disk.
 fn expect_word<D: Disk>(rt: &impl Abort, disk: &mut D, n: u32, place: usize, word: u64) {
     assert!(rt; n < disk.blocks() && place < BLOCK_WORDS);
     match disk.read(n) {
@@ -104,7 +98,7 @@ fn expect_word<D: Disk>(rt: &impl Abort, disk: &mut D, n: u32, place: usize, wor
     }
 }
 
-/// What reading a block answers.
+/// Checks the answer to a read of a block.
 pub(crate) fn expect_block<D: Disk>(
     rt: &impl Abort,
     disk: &mut D,
@@ -115,7 +109,7 @@ pub(crate) fn expect_block<D: Disk>(
     assert!(rt; disk.read(n) == wanted);
 }
 
-/// What writing a block of this number answers.
+/// Checks the answer to a write of a block filled with this number.
 pub(crate) fn expect_write<D: Disk>(
     rt: &impl Abort,
     disk: &mut D,
@@ -127,7 +121,7 @@ pub(crate) fn expect_write<D: Disk>(
     assert_eq!(rt; disk.write(n, &filled(number)), wanted);
 }
 
-/// The words of V1 are read.
+/// Checks that the words of V1 are read.
 fn expect_words<D: Disk>(rt: &impl Abort, disk: &mut D) {
     for &(n, place, word) in &V1 {
         assert!(rt; n < 64 && disk.blocks() == 64);
@@ -135,7 +129,7 @@ fn expect_words<D: Disk>(rt: &impl Abort, disk: &mut D) {
     }
 }
 
-/// The words of V1's blocks 17 and 18 are read, and a block is written, synced and read back.
+/// Checks that the words of V1 are read, and that a block is written, synced and read back.
 pub(crate) fn expect_v1<D: Disk>(rt: &impl Abort, disk: &mut D) {
     assert_eq!(rt; disk.blocks(), 64);
     expect_words(rt, disk);
@@ -160,7 +154,7 @@ fn lengths_of_images(rt: HostRuntime) {
     }
 }
 
-/// A disk whose file has no call left fails at a write and a sync, and reads on.
+/// Checks that a disk whose file has no call left fails at a write and a sync, and still reads.
 fn expect_used_up<D: Disk>(rt: &impl Abort, disk: &mut D) {
     expect_write(rt, disk, 0, 1, Err(Fault::Device));
     assert_eq!(rt; disk.sync(), Err(Fault::Device));
@@ -190,7 +184,7 @@ fn put_words(rt: &impl Abort, image: &mut [u8]) {
     image[3067] = 0x10;
 }
 
-/// These words are read, and the block of no words is damaged until it is written.
+/// Checks that these words are read, and that the block without words is damaged until it is written.
 fn expect_three_blocks<D: Disk>(rt: &impl Abort, disk: &mut D) {
     assert_eq!(rt; disk.blocks(), 3);
     expect_word(rt, disk, 0, 0, 0o442131446236);
@@ -212,7 +206,7 @@ fn bytes_of_words(rt: HostRuntime) -> Result<(), Fail> {
     Ok(())
 }
 
-/// Blocks from one on before another are looked at, and the first damaged one is this, or there is none.
+/// Verifies blocks from the first number up to the second, and checks which is the first damaged one, if any.
 pub(crate) fn expect_verified<D: Disk>(
     rt: &impl Abort,
     disk: &mut D,
@@ -271,7 +265,7 @@ fn runs_of_an_image(rt: HostRuntime) -> Result<(), Fail> {
     Ok(())
 }
 
-/// A run of twenty blocks from one on is written, and reads as it was written.
+/// Checks that a run of twenty blocks from the first one is written, and reads as it was written.
 fn expect_run<D: Disk>(rt: &impl Abort, disk: &mut D, first: u32) {
     let mut blocks = [filled(0); 20];
     for place in 0..20 {
@@ -309,7 +303,7 @@ fn a_file_that_is_no_image(rt: HostRuntime) -> Result<(), Fail> {
     Ok(())
 }
 
-/// An error has this text.
+/// Checks that an error has this text.
 fn expect_text(rt: &impl Abort, text: String, wanted: &str) {
     let is_same = text.as_str() == wanted;
     drop(text);

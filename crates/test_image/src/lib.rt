@@ -1,7 +1,7 @@
 //! Tests of a disk over a file, by its public calls alone: an image in memory and in a file of the host, what is read
-//! back of a real file, a real file beside one in memory, call by call, and the calls of a system that do less than
-//! they are asked, or fail. They stand apart from the crate that they test so that it is proved once. There is no code
-//! here beside them.
+//! back from a real file, a real file next to one in memory, call by call, and the calls of a system that do less
+//! than requested, or fail. They are apart from the crate that they test so that it is proved once. There is no other
+//! code here.
 #![tactic(auto)]
 
 #[cfg(test)]

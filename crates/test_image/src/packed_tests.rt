@@ -1,12 +1,14 @@
-use crate::image_tests::{expect_block, expect_verified, expect_write, filled};
+//! Tests of packed images.
+use crate::image_tests::{expect_block, expect_verified, expect_write};
 use blockdisk::Disk;
 use imagefile::{Durable, Form, ImageDisk, ImageError, MemFile, PackedDisk, block_count};
 use std::alloc::Global;
 use std::process::Abort;
 use std::test::Fail;
+use test_support::filled;
 use words36::{BLOCK_WORDS, Block, Word, block_from_nine, block_to_nine};
 
-/// The words `HELLO`, carriage return and line feed.
+/// Returns a block with the words `HELLO`, carriage return and line feed.
 fn hello() -> Block {
     let mut block = [Word::ZERO; BLOCK_WORDS];
     block[0] = Word::from_bits(0o442131446236);
@@ -36,7 +38,7 @@ fn lengths_of_packed_images(rt: HostRuntime) {
     }
 }
 
-/// So many bytes of ones as a file in memory, with room for two calls.
+/// Returns a file in memory with this number of bytes of ones, and room for two calls.
 fn ones(alloc: Global, size: usize) -> Result<MemFile, Fail> {
     let bytes = vec![in alloc; 0xff; size]?;
     let file = MemFile::new(alloc, bytes.as_slice(), 2);
@@ -44,7 +46,7 @@ fn ones(alloc: Global, size: usize) -> Result<MemFile, Fail> {
     Ok(file?)
 }
 
-/// The disk over a file that is a packed image.
+/// Returns the disk over a file that is a packed image.
 fn packed_over<F: Durable + Drop>(rt: &impl Abort, file: F) -> PackedDisk<F> {
     match PackedDisk::new(file) {
         Ok(disk) => disk,
@@ -52,7 +54,7 @@ fn packed_over<F: Durable + Drop>(rt: &impl Abort, file: F) -> PackedDisk<F> {
     }
 }
 
-/// The same disk, as one whose form is told.
+/// Returns the same disk, as one of a given form.
 fn formed_over<F: Durable + Drop>(rt: &impl Abort, file: F) -> ImageDisk<F> {
     match ImageDisk::of_form(file, Form::Packed) {
         Ok(disk) => disk,
@@ -60,7 +62,7 @@ fn formed_over<F: Durable + Drop>(rt: &impl Abort, file: F) -> ImageDisk<F> {
     }
 }
 
-/// Three blocks of ones: none is damaged, and one that is written is read back, with the others as they were.
+/// Checks three blocks of ones: none is damaged, and one that is written is read back, with the others as they were.
 fn expect_ones<D: Disk>(rt: &impl Abort, disk: &mut D) {
     assert_eq!(rt; disk.blocks(), 3);
     expect_block(rt, disk, 1, Ok(filled(0o777777777777)));
@@ -82,7 +84,7 @@ fn a_packed_image_in_memory(rt: HostRuntime) -> Result<(), Fail> {
     Ok(())
 }
 
-/// A file of 1024 bytes is no packed image, and is given back.
+/// A file of 1024 bytes isn't a packed image, and is handed back.
 #[test]
 fn a_wide_image_is_not_packed(rt: HostRuntime) -> Result<(), Fail> {
     match PackedDisk::new(ones(rt.alloc(), 1024)?) {

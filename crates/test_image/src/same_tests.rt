@@ -1,5 +1,6 @@
+//! A test of a real file next to one in memory, call by call.
 use blockdisk::Fault;
-use imagefile::{Durable, HostFile, MemFile, Supposition};
+use imagefile::{AssumedImage, Durable, HostFile, MemFile};
 use std::fs::{self, OpenOptions};
 use std::io;
 use std::process::Abort;
@@ -9,7 +10,7 @@ const FOLDER: &str = "imagefile_same_calls";
 
 const PATH: &str = "imagefile_same_calls/file";
 
-/// The length of the file: no multiple of 1024.
+/// The length of the file: not a multiple of 1024.
 const LENGTH: usize = 5003;
 
 /// The most bytes of a call.
@@ -18,17 +19,17 @@ const MOST: usize = 2048;
 /// A call of a file.
 #[derive(Clone, Copy)]
 enum Step {
-    /// Its length is asked for.
+    /// A read of its length.
     Length,
-    /// So many bytes are read from this place on.
+    /// A read of bytes: from this place, this number of them.
     Read(u64, usize),
-    /// So many bytes are written from this place on, by this pattern.
+    /// A write of bytes: from this place, this number of them, by this pattern.
     Write(u64, usize, u8),
-    /// What was written is to be on the device.
+    /// A sync of what was written.
     Sync,
 }
 
-/// Reads at the beginning, at the end, over the ends of blocks and of nothing, before and after writes there.
+/// Reads at the beginning, at the end, over the ends of blocks and of no bytes, before and after writes there.
 const STEPS: [Step; 34] = [
     Step::Read(0, 1),
     Step::Length,
@@ -73,7 +74,7 @@ fn fill(bytes: &mut [u8], pattern: u8) {
     }
 }
 
-/// Reads bytes of a file within its length, which is asked for before.
+/// Reads bytes of a file within its length, which it reads first.
 fn read_within<F: Durable>(
     rt: &impl Abort,
     file: &mut F,
@@ -85,7 +86,7 @@ fn read_within<F: Durable>(
     file.read_at(at, bytes)
 }
 
-/// Writes bytes of a file within its length, which is asked for before.
+/// Writes bytes of a file within its length, which it reads first.
 fn write_within<F: Durable>(
     rt: &impl Abort,
     file: &mut F,
@@ -97,7 +98,7 @@ fn write_within<F: Durable>(
     file.write_at(at, bytes)
 }
 
-/// Both answer a read in the same way, and with the same bytes.
+/// Checks that both answer a read in the same way, and with the same bytes.
 fn expect_same_read<F: Durable, M: Durable>(
     rt: &impl Abort,
     file: &mut F,
@@ -113,7 +114,7 @@ fn expect_same_read<F: Durable, M: Durable>(
     assert!(rt; got[..count] == wanted[..count], "{count} bytes at {at}");
 }
 
-/// Both answer a write in the same way.
+/// Checks that both answer a write in the same way.
 fn expect_same_write<F: Durable, M: Durable>(
     rt: &impl Abort,
     file: &mut F,
@@ -129,7 +130,7 @@ fn expect_same_write<F: Durable, M: Durable>(
     assert_eq!(rt; write_within(rt, memory, at, &bytes[..count]), Ok(()));
 }
 
-/// Both answer a call in the same way.
+/// Checks that both answer a call in the same way.
 fn expect_same_step<F: Durable, M: Durable>(
     rt: &impl Abort,
     file: &mut F,
@@ -152,23 +153,23 @@ fn expect_same_step<F: Durable, M: Durable>(
     }
 }
 
-/// Both answer all calls in the same way.
+/// Checks that both answer all calls in the same way.
 fn expect_same_steps<F: Durable, M: Durable>(rt: &impl Abort, file: &mut F, memory: &mut M) {
     for step in &STEPS {
         expect_same_step(rt, file, memory, *step);
     }
 }
 
-/// A file of these bytes in a fresh folder, for reading and writing.
+/// Makes a file of these bytes in a fresh folder, and opens it for reading and writing.
 fn fresh_file(rt: &HostRuntime, bytes: &[u8]) -> io::Result<HostFile> {
     let _ = fs::remove_dir_all(rt, FOLDER);
     fs::create_dir(rt, FOLDER)?;
     fs::write(rt, PATH, bytes)?;
     let file = OpenOptions::new().read(true).write(true).open(rt, PATH)?;
-    Ok(HostFile::from_file(file, Supposition::any()))
+    Ok(HostFile::from_file(file, AssumedImage::any()))
 }
 
-/// All bytes of the file in memory are these.
+/// Checks that all bytes of the file in memory are these.
 fn expect_bytes(rt: &impl Abort, memory: &mut MemFile, bytes: &[u8]) {
     let mut wanted = [0; LENGTH];
     assert_eq!(rt; read_within(rt, memory, 0, &mut wanted), Ok(()));

@@ -1,17 +1,19 @@
+//! Tests of the areas that calls may change.
 use crate::service::{
-    BLOCK, CORE, FOO, LIST, TXT, drop_monitor, expect_done, fill, fresh, image, login,
-    login_system, open, owner, start, start_over,
+    BLOCK, CORE, LIST, TXT, drop_monitor, expect_done, fill, fresh, login, login_system, open,
+    start, start_over,
 };
 use blockdisk::{MemDisk, NoMemory};
-use monitor::{Area, Monitor};
+use monitor::{CoreArea, Monitor};
 use spec_image::layout::Layout;
 use spec_machine::{Call, Reply};
 use std::alloc::Global;
 use std::process::Abort;
 use std::test::Fail;
+use test_support::{FOO, owner, v1};
 use words36::Word;
 
-/// Where the three words of an OPEN stand.
+/// The address of the three words of an OPEN.
 const DEVICE: u32 = 0o200;
 
 /// The header of the ring of an output side, and that of an input side.
@@ -19,18 +21,19 @@ const OUTPUT: usize = 0o600;
 
 const INPUT: usize = 0o610;
 
-/// An area of the core.
-fn area(first: usize, count: usize) -> Area {
-    Area { first, count }
+/// Returns an area of the core.
+fn area(first: usize, count: usize) -> CoreArea {
+    CoreArea { first, count }
 }
 
-/// Whether the areas that a call of a job may change are these; no answer if there is no memory for them.
+/// Returns whether the areas that a call of a job may change are these; there is no answer if there is no memory for
+/// them.
 fn changes(
     monitor: &Monitor<MemDisk>,
     alloc: Global,
     job: u32,
     asked: Call,
-    wanted: &[Area],
+    wanted: &[CoreArea],
 ) -> Option<bool> {
     match monitor.changed_areas(alloc, job, &asked) {
         Ok(areas) => Some(areas.as_slice() == wanted),
@@ -38,19 +41,19 @@ fn changes(
     }
 }
 
-/// A call of job 1 may change these areas.
+/// Checks that a call of job 1 may change these areas.
 fn expect_named(
     rt: &impl Abort,
     monitor: &Monitor<MemDisk>,
     alloc: Global,
     asked: Call,
-    wanted: &[Area],
+    wanted: &[CoreArea],
 ) {
     assert!(rt; changes(monitor, alloc, 1, asked, wanted) == Some(true));
 }
 
-/// The words of the core of job 1.
-fn core_of(monitor: &Monitor<MemDisk>, alloc: Global) -> Result<Vec<Word>, NoMemory> {
+/// Returns the words of the core of job 1.
+fn memory_of(monitor: &Monitor<MemDisk>, alloc: Global) -> Result<Vec<Word>, NoMemory> {
     let mut words = Vec::new(alloc);
     if let Some(found) = monitor.examine_all(1, 0, CORE as usize) {
         words.extend_from_slice(found)?;
@@ -58,8 +61,8 @@ fn core_of(monitor: &Monitor<MemDisk>, alloc: Global) -> Result<Vec<Word>, NoMem
     Ok(words)
 }
 
-/// Whether an address lies in one of the areas.
-fn lies_in(areas: &[Area], address: usize) -> bool {
+/// Returns whether an address lies in one of the areas.
+fn lies_in(areas: &[CoreArea], address: usize) -> bool {
     for area in areas {
         if area.first <= address && address - area.first < area.count {
             return true;
@@ -68,8 +71,8 @@ fn lies_in(areas: &[Area], address: usize) -> bool {
     false
 }
 
-/// Whether two cores have the same word at each address outside the areas.
-fn agree_outside(areas: &[Area], old: &[Word], new: &[Word]) -> bool {
+/// Returns whether two cores have the same word at each address outside the areas.
+fn agree_outside(areas: &[CoreArea], old: &[Word], new: &[Word]) -> bool {
     for (address, (was, is)) in old.iter().zip(new).enumerate() {
         if was != is && !lies_in(areas, address) {
             return false;
@@ -78,23 +81,24 @@ fn agree_outside(areas: &[Area], old: &[Word], new: &[Word]) -> bool {
     old.len() == new.len()
 }
 
-/// A call of job 1 may change these areas; it is done, and changes no other word.
+/// Checks that a call of job 1 may change these areas; that it is done, and changes no other word.
 fn expect_changed(
     rt: &impl Abort,
     monitor: &mut Monitor<MemDisk>,
     alloc: Global,
     asked: Call,
-    wanted: &[Area],
+    wanted: &[CoreArea],
 ) -> Result<(), NoMemory> {
     expect_named(rt, monitor, alloc, asked, wanted);
-    let old = core_of(monitor, alloc)?;
+    let old = memory_of(monitor, alloc)?;
     expect_done(rt, monitor, alloc, 1, asked);
-    let new = core_of(monitor, alloc)?;
+    let new = memory_of(monitor, alloc)?;
     assert!(rt; agree_outside(wanted, old.as_slice(), new.as_slice()));
     Ok(())
 }
 
-/// Job 1 names the device with binary mode and both headers, and FOO.TXT or another file of that extension.
+/// Puts the words of the calls into the core of job 1: the device with binary mode and both headers, and FOO.TXT or
+/// another file of that extension.
 fn fill_blocks(rt: &impl Abort, monitor: &mut Monitor<MemDisk>, name: u64) {
     fill(
         rt,
@@ -106,7 +110,7 @@ fn fill_blocks(rt: &impl Abort, monitor: &mut Monitor<MemDisk>, name: u64) {
     fill(rt, monitor, 1, BLOCK, [name, u64::from(TXT) << 18, 0, 0]);
 }
 
-/// FOO.TXT is read by a ring that the first IN sets up.
+/// Reads FOO.TXT by a ring that the first IN sets up.
 fn read_by_ring(
     rt: &impl Abort,
     monitor: &mut Monitor<MemDisk>,
@@ -124,7 +128,7 @@ fn read_by_ring(
     expect_changed(rt, monitor, alloc, Call::Close(1, 0), &[area(INPUT, 3)])
 }
 
-/// BAR.TXT is written by a ring that OUTBUF sets up.
+/// Writes BAR.TXT by a ring that OUTBUF sets up.
 fn write_by_ring(
     rt: &impl Abort,
     monitor: &mut Monitor<MemDisk>,
@@ -142,7 +146,7 @@ fn write_by_ring(
 
 #[test]
 fn rings_of_both_sides(rt: HostRuntime) -> Result<(), Fail> {
-    let disk = image(&rt, rt.alloc(), 100)?;
+    let disk = v1(rt.alloc(), 100)?;
     let mut monitor = start(&rt, rt.alloc(), disk);
     login(&rt, &mut monitor, rt.alloc(), 1);
     fill_blocks(&rt, &mut monitor, FOO);
@@ -153,7 +157,7 @@ fn rings_of_both_sides(rt: HostRuntime) -> Result<(), Fail> {
     Ok(())
 }
 
-/// FOO.TXT is read by a command list of two areas, and gets another name.
+/// Reads FOO.TXT by a command list of two areas, and gives it another name.
 fn read_by_list(
     rt: &impl Abort,
     monitor: &mut Monitor<MemDisk>,
@@ -172,7 +176,7 @@ fn read_by_list(
 
 #[test]
 fn a_list_and_another_name(rt: HostRuntime) -> Result<(), Fail> {
-    let disk = image(&rt, rt.alloc(), 100)?;
+    let disk = v1(rt.alloc(), 100)?;
     let mut monitor = start(&rt, rt.alloc(), disk);
     login(&rt, &mut monitor, rt.alloc(), 1);
     fill_blocks(&rt, &mut monitor, FOO);
@@ -189,7 +193,7 @@ fn a_list_and_another_name(rt: HostRuntime) -> Result<(), Fail> {
     Ok(())
 }
 
-/// A directory is made, gets a quota and is removed.
+/// Makes a directory, gives it a quota and removes it.
 fn change_directory(
     rt: &impl Abort,
     monitor: &mut Monitor<MemDisk>,
@@ -211,7 +215,7 @@ fn calls_on_directories(rt: HostRuntime) -> Result<(), Fail> {
     Ok(())
 }
 
-/// What lies outside the core isn't named, nor is anything by a call that can't be made.
+/// Checks that what lies outside the core isn't named, and that a call that can't be made names nothing.
 fn expect_cut(rt: &impl Abort, monitor: &Monitor<MemDisk>, alloc: Global) {
     let last = [area(CORE as usize - 1, 1)];
     expect_named(rt, monitor, alloc, Call::Lookup(3, CORE - 2), &last);
@@ -226,7 +230,7 @@ fn expect_cut(rt: &impl Abort, monitor: &Monitor<MemDisk>, alloc: Global) {
 
 #[test]
 fn words_outside_and_calls_that_cannot_be_made(rt: HostRuntime) -> Result<(), Fail> {
-    let disk = image(&rt, rt.alloc(), 100)?;
+    let disk = v1(rt.alloc(), 100)?;
     let mut monitor = start(&rt, rt.alloc(), disk);
     login(&rt, &mut monitor, rt.alloc(), 1);
     open(&rt, &mut monitor, rt.alloc(), 1, 3);
@@ -235,9 +239,9 @@ fn words_outside_and_calls_that_cannot_be_made(rt: HostRuntime) -> Result<(), Fa
     Ok(())
 }
 
-/// Whether there is the memory for a job 1 of [10,20].
-fn logs_in(rt: &impl Abort, monitor: &mut Monitor<MemDisk>, alloc: Global) -> bool {
-    monitor.login(alloc, 1, owner(rt), CORE) == Reply::Done
+/// Logs job 1 in as [10,20], and returns whether there is memory for it.
+fn logs_in(monitor: &mut Monitor<MemDisk>, alloc: Global) -> bool {
+    monitor.login(alloc, 1, owner(), CORE) == Reply::Done
 }
 
 /// Asks which areas a RESET may change; after `NoMemory` the next question is answered.
@@ -248,16 +252,16 @@ fn ask_again(rt: &impl Abort, monitor: &Monitor<MemDisk>, alloc: Global) {
     }
 }
 
-/// Run with each allocation refused in turn.
+/// Checks that a question is answered after `NoMemory`: run with each allocation refused in turn.
 #[test]
 fn each_allocation_of_areas_refused(rt: HostRuntime) {
-    let Ok(disk) = image(&rt, rt.alloc(), 100) else {
+    let Ok(disk) = v1(rt.alloc(), 100) else {
         return;
     };
     let Some(mut monitor) = start_over(rt.alloc(), disk) else {
         return;
     };
-    if logs_in(&rt, &mut monitor, rt.alloc()) {
+    if logs_in(&mut monitor, rt.alloc()) {
         ask_again(&rt, &monitor, rt.alloc());
     }
     drop_monitor(monitor);

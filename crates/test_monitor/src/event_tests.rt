@@ -1,13 +1,15 @@
-use crate::service::{drop_monitor, expect_room, image, room, start, word};
+//! Tests of lists of events: a file that is written, a device that fails, and a start after a crash.
+use crate::service::{drop_monitor, expect_room, room, start};
 use blockdisk::{MemDisk, NoMemory};
 use monitor::{Monitor, start_after_crash};
 use spec_machine::{Call, Event, Reply};
 use std::alloc::Global;
 use std::process::Abort;
 use std::test::Fail;
-use words36::{Moment, Ppn};
+use test_support::{owner, v1, word};
+use words36::Moment;
 
-/// Whether these events are answered with these replies.
+/// Returns whether these events are answered with these replies.
 fn serves(
     monitor: &mut Monitor<MemDisk>,
     alloc: Global,
@@ -20,7 +22,7 @@ fn serves(
     }
 }
 
-/// These events are answered with these replies.
+/// Checks that these events are answered with these replies.
 fn expect_served(
     rt: &impl Abort,
     monitor: &mut Monitor<MemDisk>,
@@ -31,22 +33,23 @@ fn expect_served(
     assert!(rt; serves(monitor, alloc, events, wanted));
 }
 
-/// A word is put into the core of job 1.
+/// Returns the event that puts a word into the core of job 1.
 fn put(address: u32, number: u64) -> Event {
     Event::Deposit(1, address, word(number))
 }
 
-/// Job 1 logs in as [10,20].
-fn login(rt: &impl Abort) -> Event {
-    Event::Login(1, Ppn::new(0o10, 0o20).expect(rt, "a PPN"), 0o1000)
+/// Returns the event by which job 1 logs in as [10,20].
+fn login() -> Event {
+    Event::Login(1, owner(), 0o1000)
 }
 
-/// Job 1 makes a call, at 0:17 of 4-Jan-75.
+/// Returns the event by which job 1 makes a call, at 0:17 of 4-Jan-75.
 fn call(rt: &impl Abort, call: Call) -> Event {
     Event::Call(1, call, Moment::new(4095, 17).expect(rt, "a moment"))
 }
 
-/// The core of job 1: a dump mode OPEN at 200, BAR.TXT at 300, a list at 400 that names the words 500 and 501.
+/// Returns the events that fill the core of job 1: a dump mode OPEN at 200, BAR.TXT at 300, a list at 400 that names
+/// the words 500 and 501.
 fn core() -> [Event; 7] {
     [
         put(0o200, 0o17),
@@ -59,19 +62,19 @@ fn core() -> [Event; 7] {
     ]
 }
 
-/// Nobody is logged in until job 1 is.
+/// Checks that nobody is logged in until job 1 is.
 fn expect_nobody(rt: &impl Abort, monitor: &mut Monitor<MemDisk>, alloc: Global) {
-    let nobody = [put(0, 1), call(rt, Call::Reset), login(rt)];
+    let nobody = [put(0, 1), call(rt, Call::Reset), login()];
     let wanted = [Reply::NoJob, Reply::NoJob, Reply::Done];
     expect_served(rt, monitor, alloc, &nobody, &wanted);
 }
 
-/// What the core of job 1 needs is put into it.
+/// Puts what it needs into the core of job 1.
 fn fill_core(rt: &impl Abort, monitor: &mut Monitor<MemDisk>, alloc: Global) {
     expect_served(rt, monitor, alloc, &core(), &[Reply::Done; 7]);
 }
 
-/// BAR.TXT is written and closed, beside an OPEN and a RELEAS that are refused.
+/// Writes BAR.TXT and closes it, with an OPEN and a RELEAS between that are refused.
 fn write_bar(rt: &impl Abort, monitor: &mut Monitor<MemDisk>, alloc: Global) {
     let writing = [
         call(rt, Call::Open(3, 0o200)),
@@ -96,10 +99,10 @@ fn write_bar(rt: &impl Abort, monitor: &mut Monitor<MemDisk>, alloc: Global) {
     expect_served(rt, monitor, alloc, &writing, &wanted);
 }
 
-/// BAR.TXT is written and closed: what a start finds of the disk has it.
+/// Checks a list that writes and closes BAR.TXT: what a start finds of the disk has it.
 #[test]
 fn a_file_is_written_by_a_list(rt: HostRuntime) -> Result<(), Fail> {
-    let disk = image(&rt, rt.alloc(), 32)?;
+    let disk = v1(rt.alloc(), 32)?;
     let mut monitor = start(&rt, rt.alloc(), disk);
     expect_nobody(&rt, &mut monitor, rt.alloc());
     fill_core(&rt, &mut monitor, rt.alloc());
@@ -110,14 +113,14 @@ fn a_file_is_written_by_a_list(rt: HostRuntime) -> Result<(), Fail> {
     Ok(())
 }
 
-/// The device fails at the OUT: it and all later events are answered so.
+/// Checks that the device fails at the OUT, and that it and all later events are answered so.
 fn fail_to_write(rt: &impl Abort, monitor: &mut Monitor<MemDisk>, alloc: Global) {
     let writing = [
         call(rt, Call::Open(3, 0o200)),
         call(rt, Call::Enter(3, 0o300)),
         call(rt, Call::Out(3, 0o400)),
         call(rt, Call::Reset),
-        login(rt),
+        login(),
         Event::Examine(1, 0o500),
     ];
     let wanted = [
@@ -131,12 +134,12 @@ fn fail_to_write(rt: &impl Abort, monitor: &mut Monitor<MemDisk>, alloc: Global)
     expect_served(rt, monitor, alloc, &writing, &wanted);
 }
 
-/// The device fails at the first word that is written: all later events are Failed.
+/// Checks that all later events are Failed if the device fails at the first word that is written.
 #[test]
 fn a_failed_device_ends_a_list(rt: HostRuntime) -> Result<(), Fail> {
-    let disk = image(&rt, rt.alloc(), 1)?;
+    let disk = v1(rt.alloc(), 1)?;
     let mut monitor = start(&rt, rt.alloc(), disk);
-    expect_served(&rt, &mut monitor, rt.alloc(), &[login(&rt)], &[Reply::Done]);
+    expect_served(&rt, &mut monitor, rt.alloc(), &[login()], &[Reply::Done]);
     fill_core(&rt, &mut monitor, rt.alloc());
     fail_to_write(&rt, &mut monitor, rt.alloc());
     expect_served(
@@ -150,7 +153,7 @@ fn a_failed_device_ends_a_list(rt: HostRuntime) -> Result<(), Fail> {
     Ok(())
 }
 
-/// How many blocks are left of what a crash left of a disk, once that is started; none where it is refused.
+/// Starts what a crash left of a disk, and returns the number of blocks that are left; none if it is refused.
 fn room_after_crash(alloc: Global, stopped: &MemDisk, left: MemDisk) -> Option<i64> {
     let monitor = start_after_crash(alloc, stopped, left).ok()?;
     let room = room(&monitor);
@@ -158,17 +161,17 @@ fn room_after_crash(alloc: Global, stopped: &MemDisk, left: MemDisk) -> Option<i
     Some(room)
 }
 
-/// The same, of an image whose crash left all that was written.
-fn room_of_all(rt: &impl Abort, alloc: Global) -> Result<Option<i64>, NoMemory> {
-    let stopped = image(rt, alloc, 1)?;
-    let left = image(rt, alloc, 1)?;
+/// Returns the same for an image whose crash left all that was written.
+fn room_of_all(alloc: Global) -> Result<Option<i64>, NoMemory> {
+    let stopped = v1(alloc, 1)?;
+    let left = v1(alloc, 1)?;
     Ok(room_after_crash(alloc, &stopped, left))
 }
 
-/// What a crash left is started: here all that was written.
+/// Checks a start over what a crash left: here all that was written.
 #[test]
 fn a_crash_is_started_after(rt: HostRuntime) -> Result<(), Fail> {
-    let Some(room) = room_of_all(&rt, rt.alloc())? else {
+    let Some(room) = room_of_all(rt.alloc())? else {
         panic!(rt; "the image is refused")
     };
     assert_eq!(rt; room, 45);

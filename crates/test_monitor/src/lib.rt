@@ -1,6 +1,6 @@
 //! Tests of lists of events, of quotas, of the areas that calls change, of a start after a crash, and of a device that
-//! fails at a read or while a quota is set, by the calls of a monitor. What single calls come to is played by the
-//! program `scenarios`. There is no code here beside them.
+//! fails at a read or while a quota is set, through the calls of a monitor. The program `scenarios` plays what single
+//! calls do. There is no code here besides them.
 #![tactic(auto)]
 
 #[cfg(test)]

@@ -1,3 +1,4 @@
+//! Tests of lists of events of several jobs that read and write at the same time.
 use crate::service::{
     BLOCK, LIST, TXT, WORDS, drop_monitor, expect_room, expect_word, fill, login, open, put_word,
     ready,
@@ -8,42 +9,39 @@ use spec_machine::{Call, Event, Reply};
 use std::alloc::{AllocError, Global};
 use std::process::Abort;
 use std::test::Fail;
-use words36::{Moment, Ppn, Word};
+use test_support::{owner, word};
+use words36::Moment;
 
 /// FOO1 in SIXBIT, the file of job 1; that of job 2 is FOO2, and so on.
 const FIRST_NAME: u64 = 0o465757210000;
 
-/// Where the words of the first version are read into, and those of the second.
+/// The addresses that the words of the first version are read into, and those of the second.
 const FIRST: u32 = 0o1400;
 
 const SECOND: u32 = 0o1500;
 
-/// Where the command list of an IN stands.
+/// The address of the command list of an IN.
 const INTO: u32 = 0o410;
 
-/// How many events a job has, of four jobs.
+/// The number of events of each of four jobs.
 const EVENTS: u32 = 50;
 
-/// Which of its events tells a job that there are no more words.
+/// The event of a job that finds no more words.
 const AT_END: u32 = 39;
 
-fn word(number: u64) -> Word {
-    Word::new(number).unwrap_or(Word::ZERO)
-}
-
-/// A word of a version that a job writes: the first has the words from 1001 times the job's number on, the second
-/// those from 2001 times on.
+/// Returns a word of a version that a job writes: the first has the words from 1001 times the job's number, the second
+/// those from 2001 times that.
 fn written(job: u32, version: u64, place: u32) -> u64 {
     u64::from(job % 8) * (1000 * (version % 4) + 1) + u64::from(place)
 }
 
-/// A job puts one of the words of a version into its core.
+/// Returns the event by which a job puts one of the words of a version into its core.
 fn deposits(job: u32, version: u64, place: u32) -> Event {
     let place = place % 16;
     Event::Deposit(job, WORDS + place, word(written(job, version, place)))
 }
 
-/// A job makes a call, at date 0 and minute 0.
+/// Returns the event by which a job makes a call, at date 0 and minute 0.
 fn call(rt: &impl Abort, job: u32, call: Call) -> Event {
     match Moment::new(0, 0) {
         Ok(moment) => Event::Call(job, call, moment),
@@ -51,19 +49,16 @@ fn call(rt: &impl Abort, job: u32, call: Call) -> Event {
     }
 }
 
-/// A job logs in as [10,20].
-fn logs_in(rt: &impl Abort, job: u32) -> Event {
-    match Ppn::new(0o10, 0o20) {
-        Some(ppn) => Event::Login(job, ppn, 0o2000),
-        None => panic!(rt; "no such number"),
-    }
+/// Returns the event by which a job logs in as [10,20].
+fn logs_in(job: u32) -> Event {
+    Event::Login(job, owner(), 0o2000)
 }
 
-/// The events with which a job gets ready: it opens two channels in dump mode, and puts the name of its file and the
-/// ten words of the first version into its core.
+/// Returns the events with which a job gets ready: it opens two channels in dump mode, and puts the name of its file
+/// and the ten words of the first version into its core.
 fn prepares(rt: &impl Abort, job: u32, place: u32) -> Event {
     match place {
-        0 => logs_in(rt, job),
+        0 => logs_in(job),
         1 => Event::Deposit(job, 0o200, word(0o17)),
         2 => Event::Deposit(job, 0o201, word(0o446353000000)),
         3 => call(rt, job, Call::Open(3, 0o200)),
@@ -75,7 +70,8 @@ fn prepares(rt: &impl Abort, job: u32, place: u32) -> Event {
     }
 }
 
-/// The events with which it writes the first version, looks it up, and puts the words of the second into its core.
+/// Returns the events with which it writes the first version, looks it up, and puts the words of the second into its
+/// core.
 fn writes(rt: &impl Abort, job: u32, place: u32) -> Event {
     match place {
         18 => call(rt, job, Call::Enter(3, BLOCK)),
@@ -88,7 +84,7 @@ fn writes(rt: &impl Abort, job: u32, place: u32) -> Event {
     }
 }
 
-/// The events with which it supersedes its file, and reads both versions.
+/// Returns the events with which it supersedes its file, and reads both versions.
 fn reads(rt: &impl Abort, job: u32, place: u32) -> Event {
     match place {
         34 => call(rt, job, Call::Enter(3, BLOCK)),
@@ -109,7 +105,7 @@ fn reads(rt: &impl Abort, job: u32, place: u32) -> Event {
     }
 }
 
-/// An event of a job, by its place among them.
+/// Returns an event of a job, by its place among them.
 fn event_at(rt: &impl Abort, job: u32, place: u32) -> Event {
     if place < 18 {
         prepares(rt, job, place)
@@ -120,7 +116,7 @@ fn event_at(rt: &impl Abort, job: u32, place: u32) -> Event {
     }
 }
 
-/// What it is answered with.
+/// Returns the answer to it.
 fn reply_at(job: u32, place: u32) -> Reply {
     match place {
         AT_END => Reply::Stopped(0o020017),
@@ -141,7 +137,7 @@ enum Order {
     ByFive,
 }
 
-/// Whose event comes at a place of the list, and which of its events.
+/// Returns whose event comes at a place of the list, and which of its events.
 fn at(order: Order, place: u32) -> (u32, u32) {
     match order {
         Order::Apart => (1 + place / EVENTS, place % EVENTS),
@@ -150,7 +146,7 @@ fn at(order: Order, place: u32) -> (u32, u32) {
     }
 }
 
-/// The 200 events in this order.
+/// Returns the 200 events in this order.
 fn events(rt: &impl Abort, alloc: Global, order: Order) -> Result<Vec<Event>, AllocError> {
     let mut events = Vec::new(alloc);
     for place in 0..4 * EVENTS {
@@ -160,7 +156,7 @@ fn events(rt: &impl Abort, alloc: Global, order: Order) -> Result<Vec<Event>, Al
     Ok(events)
 }
 
-/// Each reply is that of its event.
+/// Checks that each reply is that of its event.
 fn expect_replies(rt: &impl Abort, replies: &[Reply], order: Order) {
     assert!(rt; replies.len() == 4 * EVENTS as usize);
     for place in 0..4 * EVENTS {
@@ -169,7 +165,7 @@ fn expect_replies(rt: &impl Abort, replies: &[Reply], order: Order) {
     }
 }
 
-/// A job has read its own ten words of both versions.
+/// Checks that a job has read its own ten words of both versions.
 fn expect_own_words(rt: &impl Abort, monitor: &Monitor<MemDisk>, job: u32) {
     for place in 0..10u32 {
         expect_word(rt, monitor, (job, FIRST + place), written(job, 1, place));
@@ -177,14 +173,14 @@ fn expect_own_words(rt: &impl Abort, monitor: &Monitor<MemDisk>, job: u32) {
     }
 }
 
-/// Each job has read its own ten words of both versions.
+/// Checks that each job has read its own ten words of both versions.
 fn expect_read(rt: &impl Abort, monitor: &Monitor<MemDisk>) {
     for job in 1..5u32 {
         expect_own_words(rt, monitor, job);
     }
 }
 
-/// What these events are answered with. What `serve` promises stays behind this function.
+/// Returns the answers to these events. What `serve` promises stays inside this function.
 fn serve(
     monitor: &mut Monitor<MemDisk>,
     alloc: Global,
@@ -193,7 +189,7 @@ fn serve(
     monitor.serve(alloc, events)
 }
 
-/// The 200 events in this order are served, and answered as they should be.
+/// Serves the 200 events in this order, and checks their answers.
 fn serve_in_order(
     rt: &impl Abort,
     monitor: &mut Monitor<MemDisk>,
@@ -206,7 +202,7 @@ fn serve_in_order(
     Ok(())
 }
 
-/// A monitor serves the four jobs in this order, each of which then has its words.
+/// Serves the four jobs in this order, and checks that each then has its words.
 fn serve_four_jobs(rt: &impl Abort, alloc: Global, order: Order) -> Result<(), Fail> {
     let mut monitor = ready(rt, alloc, 64)?;
     let served = serve_in_order(rt, &mut monitor, alloc, order);
@@ -216,8 +212,8 @@ fn serve_four_jobs(rt: &impl Abort, alloc: Global, order: Order) -> Result<(), F
     served
 }
 
-/// However the events of four jobs follow each other, each has the same replies and reads the words of its own file,
-/// also of a version that is superseded meanwhile.
+/// Checks that, however the events of four jobs follow each other, each job has the same replies and reads the words of
+/// its own file, even of a version that is superseded meanwhile.
 #[test]
 fn four_jobs_read_their_own_files(rt: HostRuntime) -> Result<(), Fail> {
     for order in [Order::Apart, Order::ByOne, Order::ByFive] {
@@ -226,7 +222,7 @@ fn four_jobs_read_their_own_files(rt: HostRuntime) -> Result<(), Fail> {
     Ok(())
 }
 
-/// These events are answered with these replies.
+/// Checks that these events are answered with these replies.
 fn expect_served(
     rt: &impl Abort,
     monitor: &mut Monitor<MemDisk>,
@@ -239,8 +235,8 @@ fn expect_served(
     Ok(())
 }
 
-/// Puts into the core of a job what the example's calls name: FOO.TXT at 300, and the list at 400, of one area of this
-/// many words from 1000 on.
+/// Puts what the example's calls name into the core of a job: FOO.TXT at 300, and the list at 400, of one area of this
+/// many words from 1000.
 fn prepare(rt: &impl Abort, monitor: &mut Monitor<MemDisk>, job: u32, count: u64) {
     let left = 0o1000000 - count % 8;
     let name = [0o465757000000, u64::from(TXT) << 18, 0, 0];
@@ -253,7 +249,7 @@ fn put_first(rt: &impl Abort, monitor: &mut Monitor<MemDisk>, address: u32, numb
     assert!(rt; put_word(monitor, 1, address, number));
 }
 
-/// Job 1 writes FOO.TXT of the words 1 and 2.
+/// Writes FOO.TXT of the words 1 and 2, by job 1.
 fn write_foo(
     rt: &impl Abort,
     monitor: &mut Monitor<MemDisk>,
@@ -270,7 +266,7 @@ fn write_foo(
     expect_served(rt, monitor, alloc, &list, &[Reply::Done; 3])
 }
 
-/// Two jobs with channel 3 open, and FOO.TXT of the words 1 and 2.
+/// Prepares two jobs with channel 3 open, and FOO.TXT of the words 1 and 2.
 fn prepare_two_jobs(
     rt: &impl Abort,
     monitor: &mut Monitor<MemDisk>,
@@ -285,7 +281,7 @@ fn prepare_two_jobs(
     Ok(())
 }
 
-/// The events of the example.
+/// Returns the events of the example.
 fn example(rt: &impl Abort) -> [Event; 11] {
     [
         call(rt, 2, Call::Lookup(3, BLOCK)),
@@ -302,7 +298,7 @@ fn example(rt: &impl Abort) -> [Event; 11] {
     ]
 }
 
-/// What they are answered with.
+/// Returns the answers to them.
 fn example_replies() -> [Reply; 11] {
     [
         Reply::Done,
@@ -319,7 +315,7 @@ fn example_replies() -> [Reply; 11] {
     ]
 }
 
-/// The example is played: job 2 has the second word of the first version then.
+/// Plays the example, and checks that job 2 then has the second word of the first version.
 fn play_example(
     rt: &impl Abort,
     monitor: &mut Monitor<MemDisk>,
@@ -331,7 +327,7 @@ fn play_example(
     Ok(())
 }
 
-/// Job 2 reads on in the file that it looked up, while job 1 supersedes it.
+/// Checks that job 2 continues to read the file that it looked up, while job 1 supersedes it.
 #[test]
 fn a_reader_across_a_supersede(rt: HostRuntime) -> Result<(), Fail> {
     let mut monitor = ready(&rt, rt.alloc(), 64)?;

@@ -1,6 +1,7 @@
+//! Tests of quotas.
 use crate::service::{
-    BLOCK, CORE, FOO, LIST, TXT, call, drop_monitor, expect_done, expect_room, expect_word, fill,
-    image, limited_image, login, login_system, owner, put_word, ready_in, start,
+    BLOCK, CORE, LIST, TXT, call, drop_monitor, expect_done, expect_room, expect_word, fill, login,
+    login_system, put_word, ready_in, start,
 };
 use blockdisk::MemDisk;
 use monitor::{Charge, Monitor};
@@ -9,30 +10,28 @@ use spec_machine::{Call, Reply};
 use std::alloc::Global;
 use std::process::Abort;
 use std::test::Fail;
+use test_support::{BAR, FOO, owner, v1, v2};
 use words36::{Moment, Ppn};
 
-/// The number [10,20] as a word.
+/// The PPN [10,20] as a word.
 const OWNER: u64 = 0o000010000020;
 
-/// The number [10,21], which has no directory.
+/// The PPN [10,21], which has no directory, as a word.
 const NOBODY: u64 = 0o000010000021;
 
-/// BAR in SIXBIT.
-const BAR: u64 = 0o424162000000;
-
-/// A call is refused with the code for no room.
+/// The answer to a call that is refused for lack of room.
 const NO_ROOM: Reply = Reply::Refused(0o14);
 
-/// A call is stopped in dump mode since what it puts takes too many blocks.
+/// The answer to a call that is stopped in dump mode because what it puts takes too many blocks.
 const FULL: Reply = Reply::Stopped(0o040017);
 
-/// Job 1 logs in as [10,20], and job 2 as [1,2].
+/// Logs job 1 in as [10,20], and job 2 as [1,2].
 fn log_in(rt: &impl Abort, monitor: &mut Monitor<MemDisk>, alloc: Global) {
     login(rt, monitor, alloc, 1);
     login_system(rt, monitor, alloc, 2);
 }
 
-/// A call of a job is answered so.
+/// Checks the answer to a call of a job.
 fn expect_reply(
     rt: &impl Abort,
     monitor: &mut Monitor<MemDisk>,
@@ -43,12 +42,12 @@ fn expect_reply(
     assert!(rt; call(monitor, alloc, job, asked) == wanted);
 }
 
-/// [10,20] has this quota, and is charged for so many blocks.
+/// Checks that [10,20] has this quota, and is charged for this many blocks.
 fn expect_charge(rt: &impl Abort, monitor: &Monitor<MemDisk>, quota: u32, used: u64) {
-    assert!(rt; monitor.charge(owner(rt)) == Some(Charge { quota, used }));
+    assert!(rt; monitor.charge(owner()) == Some(Charge { quota, used }));
 }
 
-/// [10,21] has no directory, and no charge.
+/// Checks that [10,21] has no directory, and no charge.
 fn expect_no_charge(rt: &impl Abort, monitor: &Monitor<MemDisk>) {
     let Some(nobody) = Ppn::new(0o10, 0o21) else {
         panic!(rt; "no such number");
@@ -56,7 +55,8 @@ fn expect_no_charge(rt: &impl Abort, monitor: &Monitor<MemDisk>) {
     assert!(rt; monitor.charge(nobody).is_none());
 }
 
-/// A job gives a directory the quota 5, which is refused with this code: the right half of the second word has it then.
+/// Checks that a job that gives a directory the quota 5 is refused with this code, which the right half of the second
+/// word then has.
 fn expect_refused(
     rt: &impl Abort,
     monitor: &mut Monitor<MemDisk>,
@@ -76,7 +76,7 @@ fn expect_refused(
     );
 }
 
-/// A job isn't logged in, or the two words aren't both in its core.
+/// Checks the answers if a job isn't logged in, or the two words aren't both in its core.
 fn expect_unread(rt: &impl Abort, monitor: &mut Monitor<MemDisk>, alloc: Global) {
     expect_reply(rt, monitor, alloc, (3, Call::Quota(BLOCK)), Reply::NoJob);
     for job in [1, 2] {
@@ -87,7 +87,8 @@ fn expect_unread(rt: &impl Abort, monitor: &mut Monitor<MemDisk>, alloc: Global)
     }
 }
 
-/// A directory that isn't there comes before who asks, and a number with a half of zero is none, not the job's own.
+/// Checks that a missing directory comes before who asks, and that a PPN with a half of zero names none, not the job's
+/// own.
 fn expect_refusals(rt: &impl Abort, monitor: &mut Monitor<MemDisk>, alloc: Global) {
     for (asked, code) in [
         ((1, OWNER), 2),
@@ -102,10 +103,10 @@ fn expect_refusals(rt: &impl Abort, monitor: &mut Monitor<MemDisk>, alloc: Globa
     }
 }
 
-/// A quota is refused, and nothing is written for it.
+/// Checks that a quota is refused, and nothing is written for it.
 #[test]
 fn a_quota_is_refused(rt: HostRuntime) -> Result<(), Fail> {
-    let mut monitor = start(&rt, rt.alloc(), limited_image(&rt, rt.alloc(), 7, 1)?);
+    let mut monitor = start(&rt, rt.alloc(), v2(rt.alloc(), 7, 1)?);
     log_in(&rt, &mut monitor, rt.alloc());
     expect_unread(&rt, &mut monitor, rt.alloc());
     expect_refusals(&rt, &mut monitor, rt.alloc());
@@ -115,7 +116,7 @@ fn a_quota_is_refused(rt: HostRuntime) -> Result<(), Fail> {
     Ok(())
 }
 
-/// A call at a date that layout 1 doesn't have comes to nothing, whoever makes it.
+/// Checks that a call at a date that layout 1 doesn't have is answered DateRange, whoever makes it.
 fn expect_late(rt: &impl Abort, monitor: &mut Monitor<MemDisk>, alloc: Global, job: u32) {
     let Ok(moment) = Moment::new(4096, 0) else {
         panic!(rt; "no such moment");
@@ -123,7 +124,7 @@ fn expect_late(rt: &impl Abort, monitor: &mut Monitor<MemDisk>, alloc: Global, j
     assert!(rt; monitor.call(alloc, job, &Call::Quota(BLOCK), moment) == Reply::DateRange);
 }
 
-/// Layout 1 has no quotas, whoever asks for one, and for which directory.
+/// Checks that layout 1 has no quotas, whoever asks for one, and for whichever directory.
 fn expect_no_quotas(rt: &impl Abort, monitor: &mut Monitor<MemDisk>, alloc: Global) {
     for asked in [(1, OWNER), (2, OWNER), (1, NOBODY), (2, NOBODY), (2, 0)] {
         expect_refused(rt, monitor, alloc, asked, 5);
@@ -135,7 +136,7 @@ fn expect_no_quotas(rt: &impl Abort, monitor: &mut Monitor<MemDisk>, alloc: Glob
 
 #[test]
 fn layout_1_has_no_quotas(rt: HostRuntime) -> Result<(), Fail> {
-    let mut monitor = start(&rt, rt.alloc(), image(&rt, rt.alloc(), 1)?);
+    let mut monitor = start(&rt, rt.alloc(), v1(rt.alloc(), 1)?);
     log_in(&rt, &mut monitor, rt.alloc());
     expect_unread(&rt, &mut monitor, rt.alloc());
     expect_no_quotas(&rt, &mut monitor, rt.alloc());
@@ -151,7 +152,7 @@ fn put_quota(rt: &impl Abort, monitor: &mut Monitor<MemDisk>, address: u32, seco
     assert!(rt; put_word(monitor, 2, address.saturating_add(1), second));
 }
 
-/// Job 2 gives [10,20], which has FOO.TXT, a quota by two words at an address, which stay as they are.
+/// Checks that job 2 gives [10,20], which has FOO.TXT, a quota by two words at an address, which stay as they are.
 fn expect_given(
     rt: &impl Abort,
     monitor: &mut Monitor<MemDisk>,
@@ -168,7 +169,7 @@ fn expect_given(
     expect_room(rt, monitor, 45);
 }
 
-/// Quotas are given one after the other. They may be below the charge.
+/// Gives quotas one after the other. They may be below the charge.
 fn give_each(rt: &impl Abort, monitor: &mut Monitor<MemDisk>, alloc: Global) {
     for (address, quota) in [
         (BLOCK, 10),
@@ -181,10 +182,10 @@ fn give_each(rt: &impl Abort, monitor: &mut Monitor<MemDisk>, alloc: Global) {
     }
 }
 
-/// Quotas are given, and the last one is there when the service starts again.
+/// Checks that quotas are given, and that the last one is there when the service starts again.
 #[test]
 fn quotas_are_given(rt: HostRuntime) -> Result<(), Fail> {
-    let mut monitor = start(&rt, rt.alloc(), limited_image(&rt, rt.alloc(), 7, 100)?);
+    let mut monitor = start(&rt, rt.alloc(), v2(rt.alloc(), 7, 100)?);
     log_in(&rt, &mut monitor, rt.alloc());
     expect_charge(&rt, &monitor, 7, 3);
     give_each(&rt, &mut monitor, rt.alloc());
@@ -194,13 +195,13 @@ fn quotas_are_given(rt: HostRuntime) -> Result<(), Fail> {
     Ok(())
 }
 
-/// Job 2 gives [10,20] a quota.
+/// Gives [10,20] a quota, by job 2.
 fn limit(rt: &impl Abort, monitor: &mut Monitor<MemDisk>, alloc: Global, quota: u64) {
     put_quota(rt, monitor, BLOCK, quota % 0o1000000 * 0o1000000);
     expect_done(rt, monitor, alloc, 2, Call::Quota(BLOCK));
 }
 
-/// Job 1 makes a call by the four words of a file of its own, which is answered so.
+/// Makes a call of job 1 by the four words of a file of its own, and checks the answer.
 fn ask_for(
     rt: &impl Abort,
     monitor: &mut Monitor<MemDisk>,
@@ -212,7 +213,8 @@ fn ask_for(
     expect_reply(rt, monitor, alloc, (1, asked), wanted);
 }
 
-/// Job 1 begins to write FOO.TXT, puts so many blocks, which use up the quota, is stopped at the next one, and closes.
+/// Writes FOO.TXT by job 1: begins it, puts this many blocks, which use up the quota, is stopped at the next one, and
+/// closes.
 fn write_full(
     rt: &impl Abort,
     monitor: &mut Monitor<MemDisk>,
@@ -236,7 +238,8 @@ fn write_full(
     expect_done(rt, monitor, alloc, 1, Call::Close(3, 0));
 }
 
-/// With a quota of 10, FOO.TXT has at most eight blocks. Neither another file nor a new version of it is begun then.
+/// Checks that FOO.TXT has at most eight blocks with a quota of 10, and that neither another file nor a new version of
+/// it is begun then.
 fn write_first(rt: &impl Abort, monitor: &mut Monitor<MemDisk>, alloc: Global) {
     limit(rt, monitor, alloc, 10);
     expect_charge(rt, monitor, 10, 1);
@@ -249,7 +252,8 @@ fn write_first(rt: &impl Abort, monitor: &mut Monitor<MemDisk>, alloc: Global) {
     expect_word(rt, monitor, (1, BLOCK + 1), u64::from(TXT) << 18 | 0o14);
 }
 
-/// With a quota of 20 a new version has at most nine blocks, for which it is charged beside the old one.
+/// Checks that a new version has at most nine blocks with a quota of 20, for which it is charged in addition to the old
+/// one.
 fn write_second(rt: &impl Abort, monitor: &mut Monitor<MemDisk>, alloc: Global) {
     limit(rt, monitor, alloc, 20);
     write_full(rt, monitor, alloc, (20, 9));
@@ -257,7 +261,7 @@ fn write_second(rt: &impl Abort, monitor: &mut Monitor<MemDisk>, alloc: Global) 
     expect_room(rt, monitor, 37);
 }
 
-/// With a quota below the charge the file is looked up and deleted.
+/// Checks that the file is looked up and deleted with a quota below the charge.
 fn delete(rt: &impl Abort, monitor: &mut Monitor<MemDisk>, alloc: Global) {
     limit(rt, monitor, alloc, 5);
     expect_charge(rt, monitor, 5, 11);
@@ -273,7 +277,7 @@ fn delete(rt: &impl Abort, monitor: &mut Monitor<MemDisk>, alloc: Global) {
     expect_room(rt, monitor, 47);
 }
 
-/// What a directory of 64 blocks may have by its quota.
+/// Checks what a directory on a volume of 64 blocks may have by its quota.
 #[test]
 fn a_directory_with_a_quota(rt: HostRuntime) -> Result<(), Fail> {
     let mut monitor = ready_in(&rt, rt.alloc(), 64, Layout::Two)?;

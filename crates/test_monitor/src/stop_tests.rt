@@ -1,41 +1,41 @@
-use crate::service::{BLOCK, expect_file, expect_room, limited_image, owner, start, word};
+//! Tests of a start after a crash during a QUOTA.
+use crate::service::{BLOCK, expect_file, expect_room, start};
 use blockdisk::{Fail, FuseDisk, MemDisk, NoMemory, Pick};
 use monitor::{Charge, Monitor};
 use spec_machine::{Call, Reply};
 use std::alloc::Global;
 use std::process::Abort;
 use std::test::Fail as TestFail;
+use test_support::{PICKS, owner, v2, word};
 use words36::{Moment, Ppn};
 
-/// What a crash leaves of the open blocks.
-const PICKS: [Pick; 5] = [Pick::Old, Pick::New, Pick::Damaged, Pick::Half, Pick::Open];
-
-/// How many calls a start makes of the disk: it reads the gate, the first home copy, and the blocks of the file, the
-/// directories and the table, and it syncs.
+/// The number of calls that a start makes to the disk: it reads the gate, the first home copy, and the blocks of the
+/// file, the directories and the table, and it syncs.
 const STARTED: u64 = 7 + 1;
 
-/// How many writes and syncs a QUOTA makes.
+/// The number of writes and syncs that a QUOTA makes.
 const CALLS: u64 = 5 + 4;
 
-/// How many writes and syncs are recorded: more than a start and a QUOTA make.
+/// The number of writes and syncs that are recorded: more than a start and a QUOTA make.
 const RECORDED: usize = 20;
 
-/// More calls than a start makes of a disk that is to be recovered.
+/// More calls than a start makes to a disk that it recovers.
 const MOST_CALLS: u64 = 100;
 
 /// What [10,20] is charged for with FOO.TXT of one block.
 const USED: u64 = 1 + 2;
 
-/// A QUOTA that gives [10,20] 5 blocks, of 7, is stopped.
+/// The stop of a QUOTA that gives [10,20] 5 blocks, instead of 7.
 #[derive(Clone, Copy)]
 struct Stop {
-    /// How many calls of the disk pass, counted from the first behind the start.
+    /// The number of calls to the disk that pass, counted from the first after the start.
     passing: u64,
     /// What the crash leaves.
     pick: Pick,
 }
 
-/// A monitor over a disk that fails, or else the disk. What `Monitor::start` promises stays behind this function.
+/// Returns a monitor over a disk that fails, or else the disk. What `Monitor::start` promises stays inside this
+/// function.
 fn start_over(
     alloc: Global,
     disk: FuseDisk<MemDisk>,
@@ -46,7 +46,7 @@ fn start_over(
     }
 }
 
-/// Job 1 logs in as [1,2].
+/// Logs job 1 in as [1,2].
 fn log_in(rt: &impl Abort, monitor: &mut Monitor<FuseDisk<MemDisk>>, alloc: Global) {
     let Some(system) = Ppn::new(1, 2) else {
         panic!(rt; "no such number");
@@ -54,13 +54,13 @@ fn log_in(rt: &impl Abort, monitor: &mut Monitor<FuseDisk<MemDisk>>, alloc: Glob
     assert!(rt; monitor.login(alloc, 1, system, 0o1000) == Reply::Done);
 }
 
-/// Its core has the words of a QUOTA.
+/// Puts the words of a QUOTA into its core.
 fn fill_core(rt: &impl Abort, monitor: &mut Monitor<FuseDisk<MemDisk>>) {
     assert!(rt; monitor.deposit(1, BLOCK, word(0o000010000020)) == Reply::Done);
     assert!(rt; monitor.deposit(1, BLOCK + 1, word(0o000005000000)) == Reply::Done);
 }
 
-/// Job 1 gives [10,20] the quota 5.
+/// Gives [10,20] the quota 5, by job 1, and returns the answer.
 fn give(rt: &impl Abort, monitor: &mut Monitor<FuseDisk<MemDisk>>, alloc: Global) -> Reply {
     match Moment::new(0, 0) {
         Ok(moment) => monitor.call(alloc, 1, &Call::Quota(BLOCK), moment),
@@ -68,7 +68,7 @@ fn give(rt: &impl Abort, monitor: &mut Monitor<FuseDisk<MemDisk>>, alloc: Global
     }
 }
 
-/// The same, which is done, or the device fails, and the service with it. Gives whether it is done.
+/// Does the same, and returns whether it is done. If it isn't, the device fails, and the service with it.
 fn is_given(rt: &impl Abort, monitor: &mut Monitor<FuseDisk<MemDisk>>, alloc: Global) -> bool {
     log_in(rt, monitor, alloc);
     fill_core(rt, monitor);
@@ -81,15 +81,15 @@ fn is_given(rt: &impl Abort, monitor: &mut Monitor<FuseDisk<MemDisk>>, alloc: Gl
     false
 }
 
-/// The disk of a monitor, below its fuse.
+/// Returns the disk of a monitor, below its fuse.
 fn disk_of(monitor: Monitor<FuseDisk<MemDisk>>) -> MemDisk {
     monitor.finish().into_inner()
 }
 
-/// Stops the QUOTA, and gives what the crash leaves, and whether the QUOTA was done before.
+/// Stops the QUOTA, and returns what the crash leaves, and whether the QUOTA was done before.
 fn stopped(rt: &impl Abort, alloc: Global, stop: Stop) -> Result<(MemDisk, bool), NoMemory> {
     let passing = STARTED.saturating_add(stop.passing);
-    let fused = FuseDisk::new(limited_image(rt, alloc, 7, RECORDED)?, passing, Fail::All);
+    let fused = FuseDisk::new(v2(alloc, 7, RECORDED)?, passing, Fail::All);
     let Ok(mut monitor) = start_over(alloc, fused) else {
         panic!(rt; "the disk is refused");
     };
@@ -99,8 +99,8 @@ fn stopped(rt: &impl Abort, alloc: Global, stop: Stop) -> Result<(MemDisk, bool)
     Ok((disk, is_done))
 }
 
-/// Starts the service on a disk that fails once so many calls have passed, and crashes it. Gives what that leaves, and
-/// whether the start was stopped.
+/// Starts the service on a disk that fails after this many calls have passed, and crashes it. Returns what that leaves,
+/// and whether the start was stopped.
 fn restarted(alloc: Global, disk: MemDisk, stop: Stop) -> (MemDisk, bool) {
     let (mut left, was_stopped) = match start_over(
         alloc,
@@ -113,18 +113,18 @@ fn restarted(alloc: Global, disk: MemDisk, stop: Stop) -> (MemDisk, bool) {
     (left, was_stopped)
 }
 
-/// The quota of [10,20], which has nothing but FOO.TXT of one block.
+/// Returns the quota of [10,20], which has nothing except FOO.TXT of one block.
 fn quota_of(rt: &impl Abort, monitor: &Monitor<MemDisk>) -> u32 {
     expect_room(rt, monitor, 45);
-    let Some(Charge { quota, used }) = monitor.charge(owner(rt)) else {
+    let Some(Charge { quota, used }) = monitor.charge(owner()) else {
         panic!(rt; "the directory is gone");
     };
     assert_eq!(rt; used, USED);
     quota
 }
 
-/// What a crash left has the quota from before or the new one, the new one if the QUOTA was done, and the file. Gives
-/// the quota.
+/// Checks that what a crash left has the old quota or the new one, the new one if the QUOTA was done, and the file.
+/// Returns the quota.
 fn judge(rt: &impl Abort, alloc: Global, disk: MemDisk, is_done: bool) -> u32 {
     let monitor = start(rt, alloc, disk);
     let quota = quota_of(rt, &monitor);
@@ -133,7 +133,8 @@ fn judge(rt: &impl Abort, alloc: Global, disk: MemDisk, is_done: bool) -> u32 {
     quota
 }
 
-/// Stops the QUOTA, and then the next start; what that leaves is good. Gives whether the start was stopped.
+/// Stops the QUOTA, and then the next start; checks that what this leaves is good. Returns whether the start was
+/// stopped.
 fn stop_twice(rt: &impl Abort, alloc: Global, stop: Stop, again: Stop) -> Result<bool, NoMemory> {
     let (disk, is_done) = stopped(rt, alloc, stop)?;
     let (left, was_stopped) = restarted(alloc, disk, again);
@@ -159,16 +160,16 @@ fn stop_each(rt: &impl Abort, alloc: Global, pick: Pick, second: Pick) -> Result
     Ok(())
 }
 
-/// The quota behind a QUOTA that is stopped and crashed so.
+/// Returns the quota after a QUOTA that is stopped and crashed in this way.
 fn quota_behind(rt: &impl Abort, alloc: Global, stop: Stop) -> Result<u32, NoMemory> {
     let (disk, is_done) = stopped(rt, alloc, stop)?;
     assert!(rt; is_done == (stop.passing == CALLS));
     Ok(judge(rt, alloc, disk, is_done))
 }
 
-/// A QUOTA that is stopped at any of its calls leaves the old quota or the new one. If a crash leaves what was written,
-/// it is the new one from the write on that opens the gate, the fourth call, though the write fails; if it leaves what
-/// there was at the last sync, once that write is synced.
+/// Checks that a QUOTA that is stopped at any of its calls leaves the old quota or the new one. If a crash leaves what
+/// was written, it is the new one from the write that opens the gate, the fourth call, even if that write fails; if a
+/// crash leaves what there was at the last sync, it is the new one after that write is synced.
 #[test]
 fn a_quota_is_stopped(rt: HostRuntime) -> Result<(), TestFail> {
     for passing in 0..=CALLS {
@@ -181,8 +182,8 @@ fn a_quota_is_stopped(rt: HostRuntime) -> Result<(), TestFail> {
     Ok(())
 }
 
-/// The same where the next start is stopped at any of its calls, too. The first crash leaves what was written, so that
-/// there is most to recover, or both crashes leave the same.
+/// Checks the same if the next start is stopped at any of its calls, too. The first crash leaves what was written, so
+/// that there is most to recover, or both crashes leave the same.
 #[test]
 fn a_quota_and_the_next_start_are_stopped(rt: HostRuntime) -> Result<(), TestFail> {
     for pick in PICKS {

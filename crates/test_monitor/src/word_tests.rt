@@ -1,21 +1,23 @@
-use crate::service::{drop_monitor, expect_word, image, login, start, word};
+//! Tests of words that are put into the core of a job, and shown, at once.
+use crate::service::{drop_monitor, expect_word, login, start};
 use blockdisk::MemDisk;
 use monitor::Monitor;
 use std::process::Abort;
 use std::test::Fail;
+use test_support::{v1, word};
 use words36::Word;
 
-/// Three words.
+/// Returns three words.
 fn three_words() -> [Word; 3] {
     [word(0o123456654321), word(7), word(0o777777777777)]
 }
 
-/// Whether words are put into the core of a job at once, from an address on.
+/// Puts words into the core of a job at once, from an address, and returns whether this was done.
 fn puts(monitor: &mut Monitor<MemDisk>, job: u32, first: u32, words: &[Word]) -> bool {
     monitor.deposit_all(job, first, words)
 }
 
-/// Whether the words of the core of a job are these, from an address on.
+/// Returns whether the words of the core of a job are these, from an address.
 fn shows(monitor: &Monitor<MemDisk>, job: u32, first: u32, words: &[Word]) -> bool {
     match monitor.examine_all(job, first, words.len()) {
         Some(found) => found == words,
@@ -23,13 +25,14 @@ fn shows(monitor: &Monitor<MemDisk>, job: u32, first: u32, words: &[Word]) -> bo
     }
 }
 
-/// The three words are put into the last words of the core of job 1, which ends at 40000, and shown.
+/// Checks that the three words are put into the last words of the core of job 1, which ends at 40000, and shown.
 fn expect_put(rt: &impl Abort, monitor: &mut Monitor<MemDisk>) {
     assert!(rt; puts(monitor, 1, 0o37775, &three_words()));
     assert!(rt; shows(monitor, 1, 0o37775, &three_words()));
 }
 
-/// Words for a job that isn't logged in, and those that would lie behind the core, are neither put nor shown.
+/// Checks that words for a job that isn't logged in, and those that would lie beyond the core, are neither put nor
+/// shown.
 fn expect_left(rt: &impl Abort, monitor: &mut Monitor<MemDisk>) {
     for (job, first) in [(2, 0o1000), (65, 0o1000), (1, 0o37776), (1, u32::MAX)] {
         assert!(rt; !puts(monitor, job, first, &three_words()));
@@ -39,7 +42,7 @@ fn expect_left(rt: &impl Abort, monitor: &mut Monitor<MemDisk>) {
 
 #[test]
 fn words_are_put_and_shown_at_once(rt: HostRuntime) -> Result<(), Fail> {
-    let disk = image(&rt, rt.alloc(), 8)?;
+    let disk = v1(rt.alloc(), 8)?;
     let mut monitor = start(&rt, rt.alloc(), disk);
     login(&rt, &mut monitor, rt.alloc(), 1);
     expect_put(&rt, &mut monitor);

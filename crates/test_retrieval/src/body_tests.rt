@@ -1,3 +1,4 @@
+//! Tests of the words of a body: they are read and put.
 ghost use Rattle.std.specs.Prelude.{◌≡◌, ◌+◌, ◌-◌, ◌*◌, ◌<◌, ◌≤◌, ◌^◌, ◌∷◌, [], ℕ, List, IfOk, OnOk, length, take};
 ghost use Rattle.std.specs.List.{AllByRecursion};
 ghost use Rattle.alloctab.specs.Common.{bit, holds, space, uses};
@@ -5,21 +6,22 @@ ghost use Rattle.spec_image.specs.Common.{blocks_of, InSpace, times, IsVolumeSiz
 ghost use Rattle.spec_image.specs.Common.{length_after, words_from};
 ghost use Rattle.retrieval.specs.Common.{IsFixed};
 
-use crate::read_tests::FailingDisk;
+use crate::read_tests::failing;
 use crate::run_tests::expect_blocks;
-use crate::write_tests::{SIZE, disk_of, table_of, word};
+use crate::write_tests::{SIZE, disk_of, table_of};
 use alloctab::{Table, TableError};
 use blockdisk::{Disk, MemDisk, NoMemory};
 use retrieval::{BodyError, Version, get_words, put_words};
 use std::alloc::{AllocError, Global};
 use std::process::Abort;
 use std::test::Fail;
+use test_support::{FailingDisk, word};
 use words36::{BLOCK_WORDS, Block, Word};
 
 /// The blocks of the bodies here, in order, begin with this one.
 const FIRST: u32 = 500;
 
-/// The words of the block at a place of a body of 1, 2, 3 and so on, also behind its end.
+/// Returns the words of the block at a place of a body of 1, 2, 3 and so on, even after its end.
 fn counted_block(place: u64) -> Block
     requires { place ≤ 10 }
 {
@@ -30,7 +32,7 @@ fn counted_block(place: u64) -> Block
     words
 }
 
-/// A disk on which these bodies stand, with room for so many writes.
+/// Returns a disk that has these bodies, with room for `writes` writes.
 fn counted_disk(rt: &impl Abort, alloc: Global, writes: usize) -> Result<MemDisk, NoMemory> {
     let mut disk = disk_of(rt, alloc, writes)?;
     for place in 0..10u32 {
@@ -40,7 +42,7 @@ fn counted_disk(rt: &impl Abort, alloc: Global, writes: usize) -> Result<MemDisk
     Ok(disk)
 }
 
-/// Holds a block once or twice more.
+/// Holds a block once more, or twice.
 fn hold_block(table: &mut Table, n: u32, is_shared: bool)
     requires size { table.old.size ≡ 1024 }
     requires inside { InSpace 1024 n }
@@ -50,7 +52,7 @@ fn hold_block(table: &mut Table, n: u32, is_shared: bool)
     ensures table { table.new ≡ record table.old { held = table.new.held } }
     ensures used { uses table.new ≤ uses table.old + 2 }
 {
-    let _first = table.booked(); // which says that the table is sound
+    let _first = table.booked(); // which states that the table is sound
     table.hold(n);
     if !is_shared {
         return;
@@ -59,7 +61,7 @@ fn hold_block(table: &mut Table, n: u32, is_shared: bool)
     table.hold(n);
 }
 
-/// A version of so many words, whose blocks are held, the one at place `shared` twice.
+/// Returns a version of `words` words, whose blocks are held, the one at place `shared` twice.
 fn held_version(
     alloc: Global,
     table: &mut Table,
@@ -96,11 +98,11 @@ fn mark_used(table: &mut Table, n: u32)
     ensures booked { table.new.booked ≡ table.old.booked }
     ensures used { uses table.new ≤ uses table.old + 1 }
 {
-    let _booked = table.booked(); // which says that the table is sound
+    let _booked = table.booked(); // which states that the table is sound
     table.set(n);
 }
 
-/// The words 1001, 1002 and so on.
+/// Returns the words 1001, 1002 and so on.
 fn new_words(alloc: Global, count: u32) -> Result<Vec<Word>, AllocError>
     requires { count ≤ 1000 }
     ensures { IfOk result (λ words. length words.items ≡ count) }
@@ -112,8 +114,8 @@ fn new_words(alloc: Global, count: u32) -> Result<Vec<Word>, AllocError>
     Ok(words)
 }
 
-/// The word at a place of a body of 1, 2, 3 and so on, so many words long, after so many of 1001, 1002
-/// and so on are put from a place on.
+/// Returns the word at a place of a body of 1, 2, 3 and so on, `length` words long, after `count` of the words 1001,
+/// 1002 and so on are put from place `start`.
 fn word_after(place: u64, length: u64, start: u64, count: u64) -> Word
     requires few { place < 4096 }
     requires start { start ≤ 4096 }
@@ -128,7 +130,7 @@ fn word_after(place: u64, length: u64, start: u64, count: u64) -> Word
     }
 }
 
-/// What was put is read back, by the two contracts alone.
+/// Puts words and reads them back, by the two contracts alone.
 fn put_and_get<D: Disk>(
     alloc: Global,
     disk: &mut D,
@@ -157,8 +159,8 @@ fn put_and_get<D: Disk>(
     get_words(alloc, disk, version, 1, version.length())
 }
 
-/// A table with 40 blocks booked, with the first block of the bodies in use where that is asked for, and a version of
-/// so many words as `held_version` makes it.
+/// Returns a table with 40 blocks booked, with the first block of the bodies in use if `is_set`, and a version of
+/// `words` words as `held_version` makes it.
 fn held<D: Disk>(
     rt: &impl Abort,
     alloc: Global,
@@ -203,7 +205,7 @@ fn get_held<D: Disk>(
     get_words(alloc, disk, version, block, count)
 }
 
-/// Puts so many new words into a version that is held.
+/// Puts `count` new words into a version that is held.
 fn put_new<D: Disk>(
     rt: &impl Abort,
     alloc: Global,
@@ -228,7 +230,7 @@ fn put_new<D: Disk>(
     put_words(disk, table, version, block, new.as_slice())
 }
 
-/// Puts so many new words into a version that is held, and reads the whole of it.
+/// Puts `count` new words into a version that is held, and reads the whole of it.
 fn put_new_and_get<D: Disk>(
     rt: &impl Abort,
     alloc: Global,
@@ -252,8 +254,8 @@ fn put_new_and_get<D: Disk>(
     put_and_get(alloc, disk, table, version, block, new.as_slice())
 }
 
-/// These are the words of a body of so many words after so many new ones were put from a block on, as `word_after`
-/// has them.
+/// Expects the words of a body of `length` words after `count` new ones were put from a block, as `word_after` has
+/// them.
 fn expect_words_after(rt: &impl Abort, words: &[Word], length: u32, block: u32, count: u32) {
     assert!(rt; 0 < block && block <= 4 && length <= 384 && count <= 300);
     let start = u64::from(block - 1) * 128;
@@ -270,7 +272,7 @@ fn expect_words_after(rt: &impl Abort, words: &[Word], length: u32, block: u32, 
     }
 }
 
-/// So many new words are put from a block on into a body of so many words, and read back.
+/// Puts `count` new words from a block into a body of `length` words, and expects to read them back.
 fn expect_read_back(
     rt: &impl Abort,
     alloc: Global,
@@ -290,7 +292,7 @@ fn expect_read_back(
     Ok(())
 }
 
-/// There are so many words.
+/// Expects `length` words.
 fn expect_length(rt: &impl Abort, words: &[Word], length: u32) {
     assert_eq!(rt; length as usize, words.len());
 }
@@ -314,8 +316,8 @@ fn words_put_and_read_back(rt: HostRuntime) -> Result<(), Fail> {
     Ok(())
 }
 
-/// The first block of a version stands in this block after a put, and where that is another one, the block that
-/// another version reaches has kept its words.
+/// Expects the first block of a version in block `at` after a put, and if that is another one, the block that
+/// another version reaches with its words unchanged.
 fn expect_first_at(
     rt: &impl Abort,
     disk: &mut MemDisk,
@@ -335,7 +337,7 @@ fn expect_first_at(
     }
 }
 
-/// Ten new words are put into the first block of a body of 300 words, and stand in the block `at` then.
+/// Puts ten new words into the first block of a body of 300 words, and expects them in block `at`.
 fn expect_put_at(
     rt: &impl Abort,
     alloc: Global,
@@ -356,7 +358,7 @@ fn expect_put_at(
 }
 
 /// A block that another version reaches, since it is held twice or its bit is set, keeps its words, and the
-/// first free block stands in its place; a block of the version's own stays.
+/// first free block takes its place; a block of the version's own stays.
 #[test]
 fn shared_blocks_are_not_written(rt: HostRuntime) -> Result<(), Fail> {
     for (shared, is_set, at) in [(0, false, 15), (10, true, 15), (10, false, FIRST)] {
@@ -368,7 +370,7 @@ fn shared_blocks_are_not_written(rt: HostRuntime) -> Result<(), Fail> {
     Ok(())
 }
 
-/// These are so many of the words 1, 2, 3 and so on of the bodies, from a block on.
+/// Expects the words of the bodies, 1, 2, 3 and so on: `wanted` of them, from a block.
 fn expect_counted(rt: &impl Abort, words: &[Word], block: u32, wanted: usize) {
     assert_eq!(rt; words.len(), wanted);
     for (place, got) in words.iter().enumerate() {
@@ -377,7 +379,7 @@ fn expect_counted(rt: &impl Abort, words: &[Word], block: u32, wanted: usize) {
     }
 }
 
-/// So many words are read from a block on of a body of 300 words, where so many are asked for.
+/// Reads `count` words of a body of 300 words from a block, and expects `wanted` words.
 fn expect_words_from(
     rt: &impl Abort,
     alloc: Global,
@@ -414,7 +416,7 @@ fn words_from_a_block_on(rt: HostRuntime) -> Result<(), Fail> {
     Ok(())
 }
 
-/// What a read and a put of so many words from a block on answer, on a disk whose block `FIRST + 1` is damaged.
+/// Expects the result of a read and a put of `count` words from a block, on a disk whose block `FIRST + 1` is damaged.
 fn expect_damage(
     rt: &impl Abort,
     alloc: Global,
@@ -437,7 +439,7 @@ fn expect_damage(
     Ok(())
 }
 
-/// Only blocks that are asked for, or in which words stay, are read.
+/// Only blocks whose words are requested, or in which words stay, are read.
 #[test]
 fn a_damaged_block(rt: HostRuntime) -> Result<(), Fail> {
     for (block, count, bad) in [
@@ -453,22 +455,17 @@ fn a_damaged_block(rt: HostRuntime) -> Result<(), Fail> {
     Ok(())
 }
 
-/// A disk on which these bodies stand, with room for so many writes, which fails after so many reads and writes.
+/// Returns a disk that has these bodies, with room for `writes` writes, which fails after `calls` reads and writes.
 fn failing_disk(
     rt: &impl Abort,
     alloc: Global,
     writes: usize,
     calls: u32,
 ) -> Result<FailingDisk, NoMemory> {
-    let inner = counted_disk(rt, alloc, writes)?;
-    Ok(FailingDisk {
-        inner,
-        calls,
-        failures: 0,
-    })
+    Ok(failing(counted_disk(rt, alloc, writes)?, calls))
 }
 
-/// A call that makes so many reads and writes failed where the disk serves fewer of them.
+/// Expects that a call that makes `made` reads and writes fails if the disk serves fewer of them.
 fn expect_failure(
     rt: &impl Abort,
     failed: Option<BodyError>,
@@ -484,7 +481,7 @@ fn expect_failure(
     }
 }
 
-/// 300 words are read from three blocks of a disk that serves so many calls.
+/// Reads 300 words from three blocks of a disk that serves `calls` calls.
 fn expect_failing_read(
     rt: &impl Abort,
     alloc: Global,
@@ -511,7 +508,7 @@ fn each_read_of_words_may_fail(rt: HostRuntime) -> Result<(), Fail> {
     Ok(())
 }
 
-/// A word is put at block 3 of a body of 100 words on a disk that serves so many calls.
+/// Puts a word at block 3 of a body of 100 words on a disk that serves `calls` calls.
 fn expect_failing_put(
     rt: &impl Abort,
     alloc: Global,
@@ -540,21 +537,21 @@ fn each_call_of_a_put_may_fail(rt: HostRuntime) -> Result<(), Fail> {
     Ok(())
 }
 
-/// A call that failed had no memory.
+/// Expects that a call that failed had no memory.
 fn expect_no_memory(rt: &impl Abort, failed: Option<BodyError>) {
     if let Some(error) = failed {
         assert!(rt; error == BodyError::NoMemory);
     }
 }
 
-/// A version of 300 words is as it was made, and the first free block is still there to be taken.
+/// Expects that a version of 300 words is unchanged, and that the first free block can still be taken.
 fn expect_unchanged(rt: &impl Abort, table: &mut Table, version: &Version) {
     assert_eq!(rt; version.length(), 300);
     expect_blocks(rt, version, &[FIRST, FIRST + 1, FIRST + 2]);
     assert_eq!(rt; table.take(), Some(15));
 }
 
-/// A read and a put that have no memory say so.
+/// Expects that a read and a put that have no memory return `NoMemory`.
 fn expect_refusals(rt: &impl Abort, alloc: Global, disk: &mut MemDisk) {
     let Ok((mut table, mut version)) = held(rt, alloc, disk, false, 300, 10) else {
         return;
@@ -568,7 +565,7 @@ fn expect_refusals(rt: &impl Abort, alloc: Global, disk: &mut MemDisk) {
     }
 }
 
-/// Run with each allocation refused in turn: the answer is `NoMemory`, and a put changes nothing then.
+/// Run with each allocation refused in turn: the result is `NoMemory`, and a put then changes nothing.
 #[test]
 fn each_allocation_of_words_refused(rt: HostRuntime) -> Result<(), Fail> {
     if let Ok(mut disk) = counted_disk(&rt, rt.alloc(), 16) {

@@ -1,6 +1,6 @@
-//! Tests of versions of files by the public calls alone: what their prime blocks and extensions say is read, built and
-//! written, and their words are put and read back, on disks that serve and on disks that fail. They stand apart from
-//! the crate that they test so that it is proved once. There is no code here beside them.
+//! Tests of versions of files through the public calls alone: what their prime blocks and extensions say is read, built
+//! and written, and their words are put and read back, on disks that serve and on disks that fail. They are apart from
+//! the crate that they test so that it is proved once. There is no other code here.
 #![tactic(auto)]
 
 #[cfg(test)]

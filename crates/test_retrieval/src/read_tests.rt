@@ -1,15 +1,15 @@
-ghost use Rattle.blockdisk.specs.Common.{memory_state};
-
+//! Tests of versions that are read, and of prime blocks that are built.
 use crate::run_tests::expect_blocks;
-use blockdisk::{Disk, Fault, MemDisk, NoMemory};
+use blockdisk::{Disk, MemDisk, NoMemory};
 use retrieval::{BodyError, Mode, Prime, RetrievalError, Version, prime_block, read_version};
 use spec_image::layout::Layout;
 use std::alloc::Global;
 use std::process::Abort;
 use std::test::Fail;
+use test_support::{Answer, FailingDisk, beginning, word};
 use words36::{BLOCK_WORDS, Block, FileName, Half, Moment, Ppn, Word};
 
-/// A disk of so many blocks has its free space from 15 on.
+/// A disk with this number of blocks has its free space from block 15.
 const SIZE: u32 = 1024;
 
 /// The first words of the file FOO.TXT of [10,20], up to its length: protection 057, mode 0, midnight of
@@ -22,17 +22,9 @@ const FOO: [u64; 5] = [
     0o000010000020,
 ];
 
-/// The word of this number.
-fn word(number: u64) -> Word {
-    Word::new(number).unwrap_or(Word::ZERO)
-}
-
-/// A block with these words, and behind them pointers to runs from the place `from` on: count, first.
+/// Returns a block with these words, and after them pointers to runs from place `from`: count, first.
 fn block_of(words: &[u64], from: usize, runs: &[(u64, u64)]) -> Block {
-    let mut block = [Word::ZERO; BLOCK_WORDS];
-    for (place, &number) in block.iter_mut().zip(words) {
-        *place = word(number);
-    }
+    let mut block = beginning(words);
     for (i, &(count, first)) in runs.iter().enumerate() {
         if i < BLOCK_WORDS && from < BLOCK_WORDS - i && count < 4096 && first < 262144 {
             block[from + i] = word(count * 262144 + first);
@@ -41,14 +33,14 @@ fn block_of(words: &[u64], from: usize, runs: &[(u64, u64)]) -> Block {
     block
 }
 
-/// The prime block of FOO.TXT with so many words.
+/// Returns the prime block of FOO.TXT with `length` words.
 fn rib(length: u64, next: u64, runs: &[(u64, u64)]) -> Block {
     let count = runs.len() as u64;
     let words = [FOO[0], FOO[1], FOO[2], FOO[3], FOO[4], length, count, next];
     block_of(&words, 16, runs)
 }
 
-/// An extension.
+/// Returns an extension.
 fn xrb(next: u64, runs: &[(u64, u64)]) -> Block {
     let count = runs.len() as u64 % 4096;
     block_of(&[0o706242000000 + count, next], 2, runs)
@@ -60,7 +52,7 @@ fn load(rt: &impl Abort, disk: &mut MemDisk, n: u32, block: &Block) {
     disk.load(n, block);
 }
 
-/// The version whose prime block is in this block of a disk of a layout.
+/// Reads the version whose prime block is in block `at` of a disk of a layout.
 fn read_in<D: Disk>(
     rt: &impl Abort,
     alloc: Global,
@@ -73,7 +65,7 @@ fn read_in<D: Disk>(
     read_version(alloc, disk, at, layout)
 }
 
-/// The same of layout 1.
+/// Reads the same in layout 1.
 fn read<D: Disk>(
     rt: &impl Abort,
     alloc: Global,
@@ -83,7 +75,7 @@ fn read<D: Disk>(
     read_in(rt, alloc, disk, at, Layout::One)
 }
 
-/// A disk with this prime block in 20, and this extension in 21.
+/// Returns a disk with this prime block in 20, and this extension in 21.
 fn disk_with(
     rt: &impl Abort,
     alloc: Global,
@@ -96,7 +88,7 @@ fn disk_with(
     Ok(disk)
 }
 
-/// How many blocks the version has whose prime block is in 20.
+/// Returns how many blocks the version has whose prime block is in 20.
 fn count_blocks<D: Disk>(
     rt: &impl Abort,
     alloc: Global,
@@ -106,7 +98,7 @@ fn count_blocks<D: Disk>(
     Ok(version.count())
 }
 
-/// What a disk with this prime block in 20 answers, and this extension in 21.
+/// Returns what is read from a disk with this prime block in 20, and this extension in 21.
 fn answer(
     rt: &impl Abort,
     alloc: Global,
@@ -117,7 +109,7 @@ fn answer(
     count_blocks(rt, alloc, &mut disk)
 }
 
-/// A disk with this prime block in 20 gives a version of so many blocks, or is refused.
+/// Expects that a disk with this prime block in 20 has a version of that many blocks, or is refused.
 fn expect(
     rt: &impl Abort,
     alloc: Global,
@@ -128,7 +120,7 @@ fn expect(
     assert_eq!(rt; answer(rt, alloc, prime, extension), wanted);
 }
 
-/// The same of a prime block with so many words, this next one and these runs, with no extension in 21.
+/// Expects the same of a prime block with this length, this next one and these runs, with no extension in 21.
 fn expect_alone(
     rt: &impl Abort,
     alloc: Global,
@@ -141,7 +133,7 @@ fn expect_alone(
     expect(rt, alloc, &rib(length, next, runs), &none, wanted);
 }
 
-/// The same of a prime block with so many words and this next one that is full of runs of one block.
+/// Expects the same of a prime block with this length and this next one that is full of runs of one block.
 fn expect_full(
     rt: &impl Abort,
     alloc: Global,
@@ -159,7 +151,7 @@ fn expect_full(
     );
 }
 
-/// The attributes of FOO.TXT.
+/// Expects the attributes of FOO.TXT.
 fn expect_foo(rt: &impl Abort, prime: &Prime) {
     assert_eq!(rt; prime.file.name, word(0o465757000000));
     assert_eq!(rt; prime.file.ext.bits(), 0o647064);
@@ -170,7 +162,7 @@ fn expect_foo(rt: &impl Abort, prime: &Prime) {
     assert_eq!(rt; prime.moment.minute, 0);
 }
 
-/// A version of two words in block 18.
+/// Expects a version of two words in block 18.
 fn expect_two_words(rt: &impl Abort, version: &Version) {
     assert_eq!(rt; version.length(), 2);
     expect_blocks(rt, version, &[18]);
@@ -221,7 +213,7 @@ fn versions_with_an_extension(rt: HostRuntime) {
     );
 }
 
-/// A version of 239 blocks, whose prime block has 112 of them, and its extensions in 21 and 22 the rest.
+/// Expects a version of 239 blocks, whose prime block has 112 of them, and its extensions in 21 and 22 the rest.
 fn expect_two_extensions(rt: &impl Abort, version: &Version) {
     assert_eq!(rt; version.length(), 239 * 128);
     assert_eq!(rt; version.count(), 239);
@@ -244,7 +236,7 @@ fn two_extensions(rt: HostRuntime) -> Result<(), Fail> {
     Ok(())
 }
 
-/// The prime block of a file, built again from what was read of it in layout 2.
+/// Returns the prime block of a file, built again from what was read of it in layout 2.
 fn rebuilt<D: Disk>(rt: &impl Abort, alloc: Global, disk: &mut D) -> Option<Block> {
     assert!(rt; disk.blocks() == SIZE);
     let Ok((attributes, version)) = read_version(alloc, disk, 20, Layout::Two) else {
@@ -253,7 +245,7 @@ fn rebuilt<D: Disk>(rt: &impl Abort, alloc: Global, disk: &mut D) -> Option<Bloc
     Some(prime_block(&attributes, &version))
 }
 
-/// The prime block of the file that has this prime block and this extension is built again as this block.
+/// Expects that the prime block of the file with this prime block and this extension is built again as `wanted`.
 fn expect_built(
     rt: &impl Abort,
     alloc: Global,
@@ -290,14 +282,14 @@ fn late_prime_blocks_are_built_again(rt: HostRuntime) -> Result<(), Fail> {
     Ok(())
 }
 
-/// The prime block of FOO.TXT with two words, with this as the right half of its word 2.
+/// Returns the prime block of FOO.TXT with two words, with this as the right half of its word 2.
 fn dated(half: u64) -> Block {
     let mut block = rib(2, 0, &[(1, 30)]);
     block[2] = word(FOO[2] | half);
     block
 }
 
-/// The date of the version whose prime block is in 20, read in a layout.
+/// Returns the date of the version whose prime block is in 20, read in a layout.
 fn date_in(
     rt: &impl Abort,
     alloc: Global,
@@ -308,7 +300,7 @@ fn date_in(
     Ok(prime.moment.date)
 }
 
-/// A disk with this prime block in 20, and nothing in 21, gives this date in a layout, or is refused.
+/// Expects that a disk with this prime block in 20, and nothing in 21, has this date in a layout, or is refused.
 fn expect_date(
     rt: &impl Abort,
     alloc: Global,
@@ -324,8 +316,8 @@ fn expect_date(
     Ok(())
 }
 
-/// Bits 18, 19 and 20 of word 2, each alone and all together, stand for days beside the 4095 of the low bits: in
-/// layout 2 alone.
+/// Bits 18, 19 and 20 of word 2, each alone and all together, mean days in addition to the 4095 of the low bits: only
+/// in layout 2.
 #[test]
 fn high_bits_of_a_date(rt: HostRuntime) -> Result<(), Fail> {
     let bad = Err(RetrievalError::BadRetrieval(20));
@@ -357,7 +349,7 @@ fn other_bits_beside_an_extension(rt: HostRuntime) -> Result<(), Fail> {
     Ok(())
 }
 
-/// A prime block with a high bit in its date names an extension that is none: layout 1 refuses the prime block, and
+/// A prime block with a high bit in its date names an extension that isn't one: layout 1 refuses the prime block, and
 /// layout 2 the extension.
 #[test]
 fn a_date_is_refused_before_extensions(rt: HostRuntime) -> Result<(), Fail> {
@@ -370,7 +362,7 @@ fn a_date_is_refused_before_extensions(rt: HostRuntime) -> Result<(), Fail> {
     Ok(())
 }
 
-/// The same of the prime block of a file of two words in which this word was put in a place.
+/// Expects the same of the prime block of a file of two words in which this word was put in a place.
 fn expect_changed(
     rt: &impl Abort,
     alloc: Global,
@@ -441,7 +433,7 @@ fn bad_extensions_of_prime_blocks(rt: HostRuntime) {
     expect_full(&rt, rt.alloc(), 1000 * 128, 21, &ring, bad);
 }
 
-/// A damaged block is bad, whether it is the extension in 21 or the prime block in 20.
+/// Expects that a damaged block is bad, whether it is the extension in 21 or the prime block in 20.
 fn expect_damage(rt: &impl Abort, alloc: Global, disk: &mut MemDisk) {
     for n in [21, 20] {
         assert!(rt; n < disk.blocks());
@@ -451,7 +443,7 @@ fn expect_damage(rt: &impl Abort, alloc: Global, disk: &mut MemDisk) {
     }
 }
 
-/// An extension that is not one.
+/// Expects that an extension is bad.
 fn expect_bad_extension(rt: &impl Abort, alloc: Global, length: u64, extension: &Block) {
     let bad = Err(RetrievalError::BadRetrieval(21));
     expect_full(rt, alloc, length, 21, extension, bad);
@@ -483,7 +475,7 @@ fn bad_extensions(rt: HostRuntime) -> Result<(), Fail> {
     Ok(())
 }
 
-/// A copy that was made of a version when it had 200 words.
+/// Expects a copy that was made of a version when it had 200 words.
 fn expect_copy(rt: &impl Abort, copy: &Version) {
     assert_eq!(rt; copy.length(), 200);
     expect_blocks(rt, copy, &[30, 35]);
@@ -514,7 +506,7 @@ fn versions_change(rt: HostRuntime) -> Result<(), Fail> {
     Ok(())
 }
 
-/// Whether there is a prime block of this protection and date.
+/// Returns whether there is a prime block of this protection and date.
 fn is_prime(protection: u16, date: u32) -> bool {
     let (Some(ext), Some(ppn)) = (Half::new(0o647064), Ppn::new(1, 2)) else {
         return false;
@@ -547,7 +539,7 @@ fn modes_have_numbers(rt: HostRuntime) {
     }
 }
 
-/// An error has this text.
+/// Expects that an error has this text.
 fn expect_text(rt: &impl Abort, text: String, wanted: &str) {
     let is_same = text.as_str() == wanted;
     drop(text);
@@ -573,49 +565,9 @@ fn errors_have_texts(rt: HostRuntime) -> Result<(), Fail> {
     Ok(())
 }
 
-/// A disk that fails every read and write after so many.
-#[derive(Drop)]
-pub(crate) struct FailingDisk {
-    pub(crate) inner: MemDisk,
-    pub(crate) calls: u32,
-    pub(crate) failures: u64,
-}
-
-impl Disk for FailingDisk {
-    ghost state = { λ d. record (memory_state d.inner) { honest = ⊥; failures = d.failures } };
-
-    ghost counts_now = { λ d t c h le left. absurd h };
-
-    ghost only_now = { λ d c h left. absurd h };
-
-    ghost reaches_back = { λ d t u c h le left. absurd h };
-
-    fn blocks(&self) -> u32 {
-        self.inner.blocks()
-    }
-
-    fn read(&mut self, n: u32) -> Result<Block, Fault> {
-        if self.calls == 0 {
-            self.failures = self.failures.saturating_add(1);
-            return Err(Fault::Device);
-        }
-        self.calls -= 1;
-        self.inner.read(n)
-    }
-
-    fn write(&mut self, n: u32, block: &Block) -> Result<(), Fault> {
-        if self.calls > 0 && self.inner.write(n, block).is_ok() {
-            self.calls -= 1;
-            return Ok(());
-        }
-        self.failures = self.failures.saturating_add(1);
-        Err(Fault::Device)
-    }
-
-    fn sync(&mut self) -> Result<(), Fault> {
-        self.failures = self.failures.saturating_add(1);
-        Err(Fault::Device)
-    }
+/// Returns a disk that fails every read and write after `calls` of them, and every sync.
+pub(crate) fn failing(inner: MemDisk, calls: u32) -> FailingDisk {
+    FailingDisk::new(inner, calls, Answer::PassesAsRead, Answer::Fails)
 }
 
 #[test]
@@ -627,11 +579,7 @@ fn each_read_may_fail(rt: HostRuntime) -> Result<(), Fail> {
         (2, None),
     ] {
         let inner = disk_with(&rt, rt.alloc(), &prime, &xrb(0, &[(1, 99)]))?;
-        let mut disk = FailingDisk {
-            inner,
-            calls,
-            failures: 0,
-        };
+        let mut disk = failing(inner, calls);
         let failed = count_blocks(&rt, rt.alloc(), &mut disk).err();
         drop(disk);
         assert!(rt; failed == wanted);
@@ -639,7 +587,7 @@ fn each_read_may_fail(rt: HostRuntime) -> Result<(), Fail> {
     Ok(())
 }
 
-/// A version of 113 blocks, and a copy of it, if there is memory.
+/// Expects a version of 113 blocks, and a copy of it, if there is memory.
 fn expect_one_extension(rt: &impl Abort, version: &Version) {
     if let Ok(copy) = version.copy() {
         let count = copy.count();
@@ -649,7 +597,7 @@ fn expect_one_extension(rt: &impl Abort, version: &Version) {
     assert_eq!(rt; version.ribs().len(), 1);
 }
 
-/// A version is read twice from a disk; where a read fails there is no memory.
+/// Reads a version twice from a disk; expects that a read fails only if there is no memory.
 fn expect_reads(rt: &impl Abort, alloc: Global, disk: &mut MemDisk) {
     if let Err(error) = count_blocks(rt, alloc, disk) {
         assert_eq!(rt; error, RetrievalError::NoMemory);
@@ -660,7 +608,7 @@ fn expect_reads(rt: &impl Abort, alloc: Global, disk: &mut MemDisk) {
     }
 }
 
-/// Run with each allocation refused in turn: the answer is `NoMemory`, and the next read succeeds.
+/// Run with each allocation refused in turn: the result is `NoMemory`, and the next read succeeds.
 #[test]
 fn each_allocation_refused(rt: HostRuntime) {
     let prime = rib(113 * 128, 21, &[(1, 100); 112]);

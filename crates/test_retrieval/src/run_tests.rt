@@ -1,9 +1,10 @@
+//! Tests of the runs of a version.
 use blockdisk::NoMemory;
 use retrieval::Version;
 use std::process::Abort;
 use std::test::Fail;
 
-/// The version has these blocks, in this order.
+/// Expects that the version has these blocks, in this order.
 pub(crate) fn expect_blocks(rt: &impl Abort, version: &Version, blocks: &[u32]) {
     assert_eq!(rt; version.count(), blocks.len());
     for (i, block) in blocks.iter().enumerate() {
@@ -26,7 +27,7 @@ fn the_rest_of_a_run(rt: HostRuntime) -> Result<(), Fail> {
     Ok(())
 }
 
-/// Both versions have the same blocks in the same order.
+/// Expects that both versions have the same blocks in the same order.
 pub(crate) fn expect_same_blocks(rt: &impl Abort, one: &Version, other: &Version) {
     assert_eq!(rt; one.count(), other.count());
     for i in 0..one.count() {
@@ -35,7 +36,7 @@ pub(crate) fn expect_same_blocks(rt: &impl Abort, one: &Version, other: &Version
 }
 
 /// Puts another block at a place of a version and of a list, which are the same before and after. A copy that was made
-/// before stays as it was.
+/// before is unchanged.
 fn set_both(
     rt: &impl Abort,
     version: &mut Version,
@@ -54,7 +55,7 @@ fn set_both(
     Ok(())
 }
 
-/// Blocks that are pushed and set in turn: two runs are joined and parted at both ends and in their middles.
+/// Pushes and sets blocks in turn: two runs are joined and split at both ends and in their middles.
 fn push_and_set(rt: &impl Abort, version: &mut Version) -> Result<(), NoMemory> {
     let mut list = [20u32, 21, 22, 40, 41, 23];
     for block in list {

@@ -1,3 +1,4 @@
+//! Tests of versions that are written and read back.
 ghost use Rattle.std.specs.Prelude.{◌≡◌, ◌+◌, ◌*◌, ◌<◌, ◌≤◌, ◌^◌, ℕ, IfOk, IsErrOf, length};
 ghost use Rattle.std.specs.List.{AllByRecursion};
 ghost use Rattle.alloctab.specs.Common.{holds, space, used_in_space, uses};
@@ -16,17 +17,13 @@ use spec_image::layout::Layout;
 use std::alloc::Global;
 use std::process::Abort;
 use std::test::Fail;
+use test_support::{beginning, word};
 use words36::{BLOCK_WORDS, FileName, Half, Moment, Ppn, Word};
 
-/// A disk of so many blocks has its table in 14 and its free space from 15 on.
+/// A disk with this number of blocks has its table in block 14 and its free space from block 15.
 pub(crate) const SIZE: u32 = 1024;
 
-/// The word of this number.
-pub(crate) fn word(number: u64) -> Word {
-    Word::new(number).unwrap_or(Word::ZERO)
-}
-
-/// FOO.TXT of [10,20] of a date.
+/// Returns FOO.TXT of [10,20] with a date.
 fn foo_of(rt: &impl Abort, date: u32) -> Prime {
     let file = FileName {
         name: word(0o465757000000),
@@ -37,22 +34,20 @@ fn foo_of(rt: &impl Abort, date: u32) -> Prime {
     Prime::new(file, ppn, 0o057, Mode::Dump, moment).expect(rt, "a prime block")
 }
 
-/// FOO.TXT of [10,20] of the last date of layout 1.
+/// Returns FOO.TXT of [10,20] with the last date of layout 1.
 fn foo(rt: &impl Abort) -> Prime {
     foo_of(rt, 4095)
 }
 
-/// A disk on which the fixed regions alone are in use, and that has room for so many writes.
+/// Returns a disk on which only the fixed regions are in use, and that has room for `writes` writes.
 pub(crate) fn disk_of(rt: &impl Abort, alloc: Global, writes: usize) -> Result<MemDisk, NoMemory> {
     let mut disk = MemDisk::new(alloc, SIZE, writes)?;
-    let mut table_block = [Word::ZERO; BLOCK_WORDS];
-    table_block[0] = word(0o777770000000);
     assert!(rt; 14 < disk.blocks());
-    disk.load(14, &table_block);
+    disk.load(14, &beginning(&[0o777770000000]));
     Ok(disk)
 }
 
-/// A table of which the fixed regions alone are in use, with so many blocks booked.
+/// Returns a table in which only the fixed regions are in use, with `count` blocks booked.
 pub(crate) fn table_of<D: Disk>(
     rt: &impl Abort,
     alloc: Global,
@@ -78,7 +73,7 @@ pub(crate) fn table_of<D: Disk>(
     Ok(table)
 }
 
-/// A version of so many blocks, each second one from 500 on.
+/// Returns a version of `count` blocks, each second one from 500.
 fn version_of(alloc: Global, count: u32) -> Result<Version, NoMemory>
     requires { count ≤ 239 }
     ensures words { IfOk result (λ version. version.words ≡ count * 128) }
@@ -94,7 +89,7 @@ fn version_of(alloc: Global, count: u32) -> Result<Version, NoMemory>
     Ok(version)
 }
 
-/// A version that was written is read back in each layout that has its date, by the two contracts alone.
+/// Writes a version and reads it back in a layout, if that has its date, by the two contracts alone.
 fn write_and_read<D: Disk>(
     alloc: Global,
     disk: &mut D,
@@ -122,12 +117,12 @@ fn write_and_read<D: Disk>(
     read_version(alloc, disk, at, layout)
 }
 
-/// The longest runs of a version ask for no more ribs than a pointer for each block would.
+/// Proves that the longest runs of a version need no more ribs than a pointer for each block would.
 fn runs_ask_for_less(_version: &Version)
     ensures { ribs_of _version.now.blocks ≤ rib_count (length _version.now.blocks) }
 {}
 
-/// A version of so many blocks, and a table with as many booked as it has with its prime block and its ribs.
+/// Returns a version of `count` blocks, and a table with as many booked as it has with its prime block and its ribs.
 fn listed<D: Disk>(
     rt: &impl Abort,
     alloc: Global,
@@ -200,7 +195,7 @@ fn write_listed_and_read<D: Disk>(
     write_and_read(alloc, disk, table, &prime, version, layout)
 }
 
-/// What was read is FOO.TXT with a version of so many blocks and ribs that was written.
+/// Expects that what was read is FOO.TXT with a version of `count` blocks and `ribs` ribs that was written.
 fn expect_written(
     rt: &impl Abort,
     prime: &Prime,
@@ -217,7 +212,7 @@ fn expect_written(
     assert_eq!(rt; read.ribs().len(), ribs as usize);
 }
 
-/// A version of so many blocks is written with so many ribs, and read back.
+/// Expects that a version of `count` blocks is written with `ribs` ribs, and read back.
 fn expect_read_back(
     rt: &impl Abort,
     alloc: Global,
@@ -245,7 +240,7 @@ fn versions_written_and_read_back(rt: HostRuntime) -> Result<(), Fail> {
     Ok(())
 }
 
-/// Whether a block of a disk has these words in these places.
+/// Returns whether a block of a disk has these words in these places.
 fn has_words(rt: &impl Abort, disk: &mut MemDisk, n: u32, words: &[(usize, u64)]) -> bool {
     assert!(rt; n < disk.blocks());
     let Ok(block) = disk.read(n) else {
@@ -259,7 +254,7 @@ fn has_words(rt: &impl Abort, disk: &mut MemDisk, n: u32, words: &[(usize, u64)]
     true
 }
 
-/// The date of FOO.TXT, written with a version of one block, and read back in a layout.
+/// Returns the date of FOO.TXT, written with a version of one block, and read back in a layout.
 fn date_back(
     rt: &impl Abort,
     alloc: Global,
@@ -282,7 +277,8 @@ const DATED: [(u32, u64, u64); 4] = [
     (32767, 0o647064700000, 0o057740217777),
 ];
 
-/// FOO.TXT of a date has these words 2 and 3 in its prime block, which is 15. It is read back, or refused, in a layout.
+/// Expects that FOO.TXT of a date has these words 2 and 3 in its prime block, which is 15. It is read back, or refused,
+/// in a layout.
 fn expect_date(
     rt: &impl Abort,
     alloc: Global,
@@ -308,7 +304,7 @@ fn dates_read_back_in_layout_2(rt: HostRuntime) -> Result<(), Fail> {
     Ok(())
 }
 
-/// What layout 1 answers: a date, or a fault of the prime block, which is 15.
+/// Returns the result in layout 1: a date, or a fault of the prime block, which is 15.
 fn in_layout_1(date: u32) -> Result<u32, RetrievalError> {
     if date > 4095 {
         return Err(RetrievalError::BadRetrieval(15));
@@ -324,7 +320,7 @@ fn dates_read_back_in_layout_1(rt: HostRuntime) -> Result<(), Fail> {
     Ok(())
 }
 
-/// A prime block that is written anew for FOO.TXT of a date has these words 2 and 3.
+/// Expects that a prime block that is written anew for FOO.TXT of a date has these words 2 and 3.
 fn expect_anew(rt: &impl Abort, dated: (u32, u64, u64)) {
     let (date, second, third) = dated;
     let anew = prime_block_for(&[Word::ZERO; BLOCK_WORDS], &foo_of(rt, date));
@@ -339,7 +335,7 @@ fn prime_blocks_for_other_dates(rt: HostRuntime) {
     }
 }
 
-/// Whether the prime block of an empty FOO.TXT of a date is one in a layout.
+/// Returns whether the prime block of an empty FOO.TXT of a date is one in a layout.
 fn is_prime_in(rt: &impl Abort, alloc: Global, date: u32, layout: Layout) -> bool {
     let prime = foo_of(rt, date);
     let version = Version::new(alloc);
@@ -358,7 +354,7 @@ fn prime_blocks_of_layouts(rt: HostRuntime) {
     }
 }
 
-/// Writes FOO.TXT with a version that is listed, with a list for its ribs that was found before. Answers the prime
+/// Writes FOO.TXT with a version that is listed, with a list for its ribs that was allocated before. Returns the prime
 /// block.
 fn write_found<D: Disk>(
     rt: &impl Abort,
@@ -377,7 +373,7 @@ fn write_found<D: Disk>(
     requires ribs { ribs_of version.old.blocks ≤ length ribs.items }
 {
     let prime = foo(rt);
-    let _booked = table.booked(); // which says that the table is sound
+    let _booked = table.booked(); // which states that the table is sound
     let at = take_retrieval_blocks(table, version, ribs);
     assert!(rt; disk.blocks() == SIZE);
     let answer = write_retrieval_blocks(disk, at, &prime, version);
@@ -385,7 +381,7 @@ fn write_found<D: Disk>(
     at
 }
 
-/// The prime block of 239 blocks stands in 15.
+/// Expects the prime block of 239 blocks in 15.
 fn expect_head(rt: &impl Abort, disk: &mut MemDisk) {
     let head = [
         (0, 0o625142000000),
@@ -403,7 +399,7 @@ fn expect_head(rt: &impl Abort, disk: &mut MemDisk) {
     assert!(rt; has_words(rt, disk, 15, &pointers));
 }
 
-/// The ribs of 239 blocks stand in 16 and 17.
+/// Expects the ribs of 239 blocks in 16 and 17.
 fn expect_ribs(rt: &impl Abort, disk: &mut MemDisk) {
     let full = [
         (0, 0o706242000176),
@@ -422,7 +418,7 @@ fn expect_ribs(rt: &impl Abort, disk: &mut MemDisk) {
     assert!(rt; has_words(rt, disk, 17, &last));
 }
 
-/// A version of 239 blocks is written with a list for its ribs that was found before.
+/// Expects that a version of 239 blocks is written with a list for its ribs that was allocated before.
 fn expect_two_ribs(rt: &impl Abort, alloc: Global, disk: &mut MemDisk) -> Result<(), Fail> {
     let (mut table, mut version) = listed(rt, alloc, disk, 239)?;
     let ribs = vec![in alloc; 0; rib_count(version.count())]?;
@@ -448,7 +444,7 @@ fn two_ribs_in_a_list_found_before(rt: HostRuntime) -> Result<(), Fail> {
     Ok(())
 }
 
-/// What the write of a version of 113 blocks answers.
+/// Expects the result of a write of a version of 113 blocks.
 fn expect_answer(
     rt: &impl Abort,
     alloc: Global,
@@ -479,13 +475,13 @@ fn each_write_may_fail(rt: HostRuntime) -> Result<(), Fail> {
     Ok(())
 }
 
-/// A version of 113 blocks has no ribs, and the first free block is still there to be taken.
+/// Expects that a version of 113 blocks has no ribs, and that the first free block can still be taken.
 fn expect_unchanged(rt: &impl Abort, table: &mut Table, version: &Version) {
     assert!(rt; version.count() == 113 && version.ribs().is_empty());
     assert_eq!(rt; table.take(), Some(15));
 }
 
-/// The write of a version of 113 blocks answers 15, or has no memory and changes nothing.
+/// Expects that the write of a version of 113 blocks returns 15, or has no memory and changes nothing.
 fn expect_write(rt: &impl Abort, alloc: Global, disk: &mut MemDisk) {
     let Ok((mut table, mut version)) = listed(rt, alloc, disk, 113) else {
         return;
@@ -502,8 +498,8 @@ fn expect_write(rt: &impl Abort, alloc: Global, disk: &mut MemDisk) {
     }
 }
 
-/// Run with each allocation refused in turn: the answer is `NoMemory`, the version has no ribs, and the
-/// first free block is still there to be taken.
+/// Run with each allocation refused in turn: the result is `NoMemory`, the version has no ribs, and the
+/// first free block can still be taken.
 #[test]
 fn each_allocation_of_a_write_refused(rt: HostRuntime) -> Result<(), Fail> {
     if let Ok(mut disk) = disk_of(&rt, rt.alloc(), 8) {

@@ -1,14 +1,16 @@
-use crate::disks::{OTHER, TEXT, copied_from, copy_of, v1, v1_with_log, word};
-use crate::survey_tests::{expect_survey, foo, told};
+//! Tests of copies of disks.
+use crate::disks::{CALLS, OTHER, copied_from, copy_of, v1_with_log};
+use crate::survey_tests::{cost_of_foo, expect_survey, told};
 use blockdisk::{Fail as Failing, FuseDisk, MemDisk, NoMemory};
 use salvage::{Copied, SalvageError, read_words, survey_disk};
 use std::alloc::Global;
 use std::process::Abort;
 use std::test::Fail;
+use test_support::{TEXT, v1, word};
 use volume::VolumeError;
 use words36::Word;
 
-/// The words of the first file that is found; `None` if there is none.
+/// Returns the words of the first file that is found; `None` if there is none.
 fn first_words(alloc: Global, disk: &mut MemDisk) -> Result<Option<Vec<Word>>, SalvageError> {
     let survey = survey_disk(alloc, disk)?;
     match survey.files.first() {
@@ -17,14 +19,14 @@ fn first_words(alloc: Global, disk: &mut MemDisk) -> Result<Option<Vec<Word>>, S
     }
 }
 
-/// These words were found.
+/// Expects that these words were found.
 fn expect_text(rt: &impl Abort, found: Option<Vec<Word>>, wanted: [u64; 2]) {
     let words = found.expect(rt, "words");
     let wanted = wanted.map(word);
     assert!(rt; words.as_slice() == wanted.as_slice());
 }
 
-/// In the copy FOO.TXT is found with these words, and nothing is told.
+/// Expects that FOO.TXT is found in the copy with these words, and nothing is reported.
 fn expect_words(rt: &impl Abort, alloc: Global, copied: &mut Copied, wanted: [u64; 2]) {
     expect_survey(rt, alloc, copied, true, None);
     let found = first_words(alloc, &mut copied.disk).expect(rt, "a survey");
@@ -33,7 +35,7 @@ fn expect_words(rt: &impl Abort, alloc: Global, copied: &mut Copied, wanted: [u6
 
 #[test]
 fn a_whole_volume(rt: HostRuntime) -> Result<(), Fail> {
-    let mut disk = v1(&rt, rt.alloc())?;
+    let mut disk = v1(rt.alloc(), CALLS)?;
     let mut copied = copy_of(&rt, rt.alloc(), &mut disk, 0, false);
     expect_words(&rt, rt.alloc(), &mut copied, TEXT);
     Ok(())
@@ -56,7 +58,7 @@ fn a_log_of_no_put_is_bad(rt: HostRuntime) -> Result<(), Fail> {
     Ok(())
 }
 
-/// The copy of V1 over a device of which so many reads pass; so many blocks can't be read then.
+/// Returns the copy of V1 over a device of which `passing` reads pass; expects that `unread` blocks can't be read then.
 fn failing(
     rt: &impl Abort,
     alloc: Global,
@@ -64,11 +66,11 @@ fn failing(
     fail: Failing,
     unread: u32,
 ) -> Result<Copied, NoMemory> {
-    let mut disk = FuseDisk::new(v1(rt, alloc)?, passing, fail);
+    let mut disk = FuseDisk::new(v1(alloc, CALLS)?, passing, fail);
     Ok(copy_of(rt, alloc, &mut disk, unread, false))
 }
 
-/// Block 18 of V1 can't be read, which are so many blocks in all, and its file is told.
+/// Expects that block 18 of V1 can't be read, one of `unread` blocks in all, and that its file is reported.
 fn expect_unread(
     rt: &impl Abort,
     alloc: Global,
@@ -76,12 +78,12 @@ fn expect_unread(
     unread: u32,
 ) -> Result<(), NoMemory> {
     let mut copied = failing(rt, alloc, 18, fail, unread)?;
-    let data = told(VolumeError::BadData(18), foo(rt));
+    let data = told(VolumeError::BadData(18), cost_of_foo());
     expect_survey(rt, alloc, &mut copied, false, Some(data));
     Ok(())
 }
 
-/// Block 18 alone can't be read, or it and all behind it.
+/// Block 18 alone can't be read, or it and all after it.
 #[test]
 fn a_block_that_is_not_read_is_damaged(rt: HostRuntime) -> Result<(), Fail> {
     expect_unread(&rt, rt.alloc(), Failing::One, 1)?;
@@ -104,17 +106,17 @@ fn a_disk_that_is_too_small(rt: HostRuntime) -> Result<(), Fail> {
     Ok(())
 }
 
-/// The words of FOO.TXT in V1, behind a copy and a survey.
-fn words_of_v1(rt: &impl Abort, alloc: Global) -> Result<Option<Vec<Word>>, SalvageError> {
-    let mut disk = v1(rt, alloc)?;
+/// Returns the words of FOO.TXT in V1, after a copy and a survey.
+fn words_of_v1(alloc: Global) -> Result<Option<Vec<Word>>, SalvageError> {
+    let mut disk = v1(alloc, CALLS)?;
     let mut copied = copied_from(alloc, &mut disk)?;
     first_words(alloc, &mut copied.disk)
 }
 
-/// Run with each allocation refused in turn: the answer is `NoMemory` and nothing else.
+/// Run with each allocation refused in turn: the result is `NoMemory` and nothing else.
 #[test]
 fn each_allocation_refused(rt: HostRuntime) {
-    match words_of_v1(&rt, rt.alloc()) {
+    match words_of_v1(rt.alloc()) {
         Ok(found) => expect_text(&rt, found, TEXT),
         Err(error) => assert!(rt; error == SalvageError::NoMemory),
     }

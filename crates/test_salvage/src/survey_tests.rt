@@ -1,36 +1,24 @@
-use crate::disks::{copy_of, damage, v1, word};
+//! Tests of surveys.
+use crate::disks::{CALLS, copy_of, damage};
 use blockdisk::{MemDisk, NoMemory};
 use salvage::{Copied, Cost, Finding, SalvageError, Survey, survey_disk};
 use std::alloc::Global;
 use std::process::Abort;
 use std::test::Fail;
+use test_support::{foo, owner, v1};
 use volume::VolumeError;
-use words36::{FileName, Half, Ppn};
 
-/// The owner of FOO.TXT.
-fn owner(rt: &impl Abort) -> Ppn {
-    Ppn::new(0o10, 0o20).expect(rt, "a PPN")
+/// Returns the cost of a fault that costs FOO.TXT, which its directory names.
+pub(crate) fn cost_of_foo() -> Cost {
+    Cost::File(owner(), foo())
 }
 
-/// FOO.TXT.
-fn name() -> FileName {
-    FileName {
-        name: word(0o465757000000),
-        ext: Half::from_bits(0o647064),
-    }
-}
-
-/// What a fault costs that costs FOO.TXT, which its directory names.
-pub(crate) fn foo(rt: &impl Abort) -> Cost {
-    Cost::File(owner(rt), name())
-}
-
-/// What a survey of a disk finds. What else `survey_disk` promises stays behind this function.
+/// Returns what a survey of a disk finds. What else `survey_disk` promises stays behind this function.
 fn surveyed(alloc: Global, disk: &mut MemDisk) -> Result<Survey, SalvageError> {
     survey_disk(alloc, disk)
 }
 
-/// The prime block of the first file that was found.
+/// Returns the prime block of the first file that was found.
 fn first_at(survey: &Survey) -> Option<u32> {
     match survey.files.first() {
         Some(file) => Some(file.at),
@@ -38,7 +26,7 @@ fn first_at(survey: &Survey) -> Option<u32> {
     }
 }
 
-/// A survey found FOO.TXT or no file, and told this or nothing.
+/// Expects that a survey found FOO.TXT or no file, and reported this or nothing.
 fn expect_found(rt: &impl Abort, survey: &Survey, is_found: bool, told: Option<Finding>) {
     assert!(rt; survey.files.len() == usize::from(is_found));
     assert!(rt; first_at(survey) == if is_found { Some(17) } else { None });
@@ -46,7 +34,7 @@ fn expect_found(rt: &impl Abort, survey: &Survey, is_found: bool, told: Option<F
     assert!(rt; survey.findings.first().copied() == told);
 }
 
-/// In the copy FOO.TXT is found or no file, and this is told or nothing.
+/// Expects that in the copy FOO.TXT is found or no file, and this is reported or nothing.
 pub(crate) fn expect_survey(
     rt: &impl Abort,
     alloc: Global,
@@ -58,12 +46,12 @@ pub(crate) fn expect_survey(
     expect_found(rt, &survey, is_found, told);
 }
 
-/// That this fault costs this.
+/// Returns the finding that this fault costs this.
 pub(crate) fn told(fault: VolumeError, costs: Cost) -> Finding {
     Finding { fault, costs }
 }
 
-/// Of V1 with this block damaged this is told, and FOO.TXT is found or not.
+/// Expects that V1 with this block damaged has this reported, and that FOO.TXT is found or not.
 fn expect_damaged(
     rt: &impl Abort,
     alloc: Global,
@@ -71,7 +59,7 @@ fn expect_damaged(
     is_found: bool,
     told: Finding,
 ) -> Result<(), NoMemory> {
-    let mut disk = v1(rt, alloc)?;
+    let mut disk = v1(alloc, CALLS)?;
     damage(rt, &mut disk, n);
     let mut copied = copy_of(rt, alloc, &mut disk, 0, false);
     expect_survey(rt, alloc, &mut copied, is_found, Some(told));
@@ -80,9 +68,9 @@ fn expect_damaged(
 
 #[test]
 fn a_damaged_file_is_told(rt: HostRuntime) -> Result<(), Fail> {
-    let data = told(VolumeError::BadData(18), foo(&rt));
+    let data = told(VolumeError::BadData(18), cost_of_foo());
     expect_damaged(&rt, rt.alloc(), 18, false, data)?;
-    let retrieval = told(VolumeError::BadRetrieval(17), foo(&rt));
+    let retrieval = told(VolumeError::BadRetrieval(17), cost_of_foo());
     expect_damaged(&rt, rt.alloc(), 17, false, retrieval)?;
     Ok(())
 }
@@ -90,7 +78,7 @@ fn a_damaged_file_is_told(rt: HostRuntime) -> Result<(), Fail> {
 /// The file is found by its prime block.
 #[test]
 fn a_damaged_directory_costs_its_names(rt: HostRuntime) -> Result<(), Fail> {
-    let directory = told(VolumeError::BadDirectory(16), Cost::Directory(owner(&rt)));
+    let directory = told(VolumeError::BadDirectory(16), Cost::Directory(owner()));
     expect_damaged(&rt, rt.alloc(), 16, true, directory)?;
     let master = told(VolumeError::BadDirectory(15), Cost::Directories);
     expect_damaged(&rt, rt.alloc(), 15, true, master)?;
@@ -107,7 +95,7 @@ fn a_damaged_table_costs_nothing(rt: HostRuntime) -> Result<(), Fail> {
 /// The file is found by its prime block.
 #[test]
 fn damaged_home_copies_cost_all_names(rt: HostRuntime) -> Result<(), Fail> {
-    let mut disk = v1(&rt, rt.alloc())?;
+    let mut disk = v1(rt.alloc(), CALLS)?;
     damage(&rt, &mut disk, 1);
     damage(&rt, &mut disk, 2);
     let mut copied = copy_of(&rt, rt.alloc(), &mut disk, 0, false);
@@ -116,20 +104,20 @@ fn damaged_home_copies_cost_all_names(rt: HostRuntime) -> Result<(), Fail> {
     Ok(())
 }
 
-/// What is told behind the first finding of a copy.
+/// Returns what is reported after the first finding of a copy.
 fn second_told(rt: &impl Abort, alloc: Global, copied: &mut Copied) -> Option<Finding> {
     let survey = surveyed(alloc, &mut copied.disk).expect(rt, "a survey");
     survey.findings.get(1).copied()
 }
 
-/// With the directory the file has lost its name, and is told by what its prime block says.
+/// With the directory the file has lost its name, and is reported by what its prime block says.
 #[test]
 fn a_damaged_file_without_a_name(rt: HostRuntime) -> Result<(), Fail> {
-    let mut disk = v1(&rt, rt.alloc())?;
+    let mut disk = v1(rt.alloc(), CALLS)?;
     damage(&rt, &mut disk, 16);
     damage(&rt, &mut disk, 18);
     let mut copied = copy_of(&rt, rt.alloc(), &mut disk, 0, false);
-    let data = told(VolumeError::BadData(18), Cost::Unnamed(owner(&rt), name()));
+    let data = told(VolumeError::BadData(18), Cost::Unnamed(owner(), foo()));
     assert!(rt; second_told(&rt, rt.alloc(), &mut copied) == Some(data));
     Ok(())
 }

@@ -1,24 +1,18 @@
+//! Tests of `begin` that fail.
 ghost use Rattle.std.specs.Prelude.{IfOk};
 
-use crate::disks::{SIZE, expect_room, open, v1};
+use crate::disks::{expect_room, open};
 use crate::publish_tests::{empty, expect_directory, expect_timely};
 use blockdisk::MemDisk;
 use retrieval::{Mode, Prime};
 use std::alloc::Global;
 use std::process::Abort;
 use std::test::Fail;
-use volume::{CallError, Kind, Pending, Volume};
+use test_support::{SIZE, foo, v1};
+use volume::{CallError, Pending, PendingKind, Volume};
 use words36::{FileName, Half, Moment, Ppn, Word};
 
-/// The file of V1, FOO.TXT.
-fn foo() -> FileName {
-    FileName {
-        name: Word::from_bits(0o465757000000),
-        ext: Half::from_bits(0o647064),
-    }
-}
-
-/// The number [10,n].
+/// Returns the number [10,n].
 pub(crate) fn ppn_of(rt: &impl Abort, n: u32) -> Ppn {
     let Some(ppn) = Ppn::new(0o10, n) else {
         panic!(rt; "no such number");
@@ -26,7 +20,7 @@ pub(crate) fn ppn_of(rt: &impl Abort, n: u32) -> Ppn {
     ppn
 }
 
-/// The nth name that no file of V1 has.
+/// Returns the nth name that no file of V1 has.
 fn numbered(n: u8) -> FileName {
     FileName {
         name: Word::from_bits(u64::from(n)),
@@ -34,7 +28,7 @@ fn numbered(n: u8) -> FileName {
     }
 }
 
-/// What the prime block of a version of a file in [10,n] says.
+/// Returns what the prime block of a version of a file in [10,n] says.
 fn prime_of(rt: &impl Abort, n: u32, file: FileName) -> Prime {
     let Ok(moment) = Moment::new(0, 0) else {
         panic!(rt; "no such moment");
@@ -45,19 +39,19 @@ fn prime_of(rt: &impl Abort, n: u32, file: FileName) -> Prime {
     prime
 }
 
-/// Begins a version. What else `begin` promises stays behind this function.
+/// Begins a version. It hides what else `begin` promises.
 fn begin_version(
     rt: &impl Abort,
     alloc: Global,
     volume: &mut Volume<MemDisk>,
-    kind: Kind,
+    kind: PendingKind,
     prime: Prime,
 ) -> Result<Pending, CallError> {
     expect_timely(rt, volume, &prime);
     volume.begin(alloc, kind, prime)
 }
 
-/// No file is created, for this reason.
+/// Checks that no file is created, for this reason.
 fn expect_unbegun(
     rt: &impl Abort,
     alloc: Global,
@@ -65,7 +59,7 @@ fn expect_unbegun(
     prime: Prime,
     error: CallError,
 ) {
-    assert!(rt; begin_version(rt, alloc, volume, Kind::Create, prime) == Err(error));
+    assert!(rt; begin_version(rt, alloc, volume, PendingKind::Create, prime) == Err(error));
 }
 
 /// A volume that has failed begins nothing.
@@ -79,13 +73,13 @@ fn a_failed_volume(rt: HostRuntime) -> Result<(), Fail> {
     Ok(())
 }
 
-/// Begins a new file; after `NoMemory` all is as before, and the next call begins it.
+/// Begins a new file; after `NoMemory` nothing has changed, and the next call begins it.
 fn begin_again(rt: &impl Abort, alloc: Global, volume: &mut Volume<MemDisk>) {
     let refused = begin_version(
         rt,
         alloc,
         volume,
-        Kind::Create,
+        PendingKind::Create,
         prime_of(rt, 0o20, numbered(1)),
     );
     if refused == Err(CallError::NoMemory) {
@@ -94,7 +88,7 @@ fn begin_again(rt: &impl Abort, alloc: Global, volume: &mut Volume<MemDisk>) {
             rt,
             alloc,
             volume,
-            Kind::Create,
+            PendingKind::Create,
             prime_of(rt, 0o20, numbered(1)),
         );
         assert!(rt; again.is_ok());
@@ -102,11 +96,11 @@ fn begin_again(rt: &impl Abort, alloc: Global, volume: &mut Volume<MemDisk>) {
     }
 }
 
-/// Run with each allocation refused in turn: after `NoMemory` all is as before, and the next call begins the
+/// Run with each allocation refused in turn: after `NoMemory` nothing has changed, and the next call begins the
 /// version.
 #[test]
 fn each_allocation_of_a_version_refused(rt: HostRuntime) {
-    let Ok(disk) = v1(&rt, rt.alloc(), 1) else {
+    let Ok(disk) = v1(rt.alloc(), 1) else {
         return;
     };
     let Some(mut volume) = open(rt.alloc(), disk) else {

@@ -1,18 +1,19 @@
+//! Tests of what directories are charged for.
 ghost use Rattle.std.specs.Prelude.{◌≡◌};
 ghost use Rattle.spec_image.specs.Common.{layout_number};
 
-use crate::disks::{expect_room, opened, reopened, word};
+use crate::disks::{expect_room, opened, reopened};
 use crate::publish_tests::{
-    FOO, expect_directory, expect_published, file_name, hold, numbers, ppn_of, store, write,
+    expect_directory, expect_published, file_name, hold, numbers, store, write,
 };
 use crate::put_tests::put;
-use crate::update_tests::BAR;
 use blockdisk::{Disk, MemDisk, NoMemory};
 use spec_image::layout::Layout;
 use std::alloc::Global;
 use std::process::Abort;
 use std::test::Fail;
-use volume::{Charge, Kind, Volume};
+use test_support::{BAR, FOO, owner, word};
+use volume::{Charge, PendingKind, Volume};
 use words36::{Ppn, Word};
 
 /// What [10,20] is charged for with no file.
@@ -21,12 +22,12 @@ const EMPTY: u64 = 1;
 /// What it is charged for with FOO.TXT of 300 words: three blocks, and a prime block.
 const WITH_FOO: u64 = EMPTY + 3 + 1;
 
-/// An empty volume of layout 2 is made on a disk.
+/// Makes an empty volume of layout 2 on a disk.
 fn expect_made(rt: &impl Abort, disk: &mut MemDisk) {
     assert!(rt; Volume::init_layout(disk, Layout::Two) == Ok(()));
 }
 
-/// The volume has layout 2.
+/// Checks that the volume has layout 2.
 fn expect_layout_2<D: Disk>(rt: &impl Abort, volume: &Volume<D>)
     ensures { layout_number volume.now.layout ≡ 2 }
 {
@@ -36,14 +37,14 @@ fn expect_layout_2<D: Disk>(rt: &impl Abort, volume: &Volume<D>)
     }
 }
 
-/// A directory of a volume of layout 2 gets a quota.
+/// Gives a directory of a volume of layout 2 a quota.
 pub(crate) fn limit<D: Disk>(rt: &impl Abort, volume: &mut Volume<D>, ppn: Ppn, quota: u32) {
     expect_layout_2(rt, volume);
     assert!(rt; quota < 0o1000000);
     assert!(rt; volume.set_quota(ppn, quota) == Ok(()));
 }
 
-/// A volume of 64 blocks in layout 2 with the directory [10,20], which has this quota.
+/// Returns a volume of 64 blocks in layout 2 with the directory [10,20], which has this quota.
 pub(crate) fn limited(
     rt: &impl Abort,
     alloc: Global,
@@ -52,29 +53,29 @@ pub(crate) fn limited(
     let mut disk = MemDisk::new(alloc, 64, 1000)?;
     expect_made(rt, &mut disk);
     let mut volume = opened(rt, alloc, disk);
-    expect_directory(rt, alloc, &mut volume, ppn_of(rt), Ok(()));
-    limit(rt, &mut volume, ppn_of(rt), quota);
+    expect_directory(rt, alloc, &mut volume, owner(), Ok(()));
+    limit(rt, &mut volume, owner(), quota);
     Ok(volume)
 }
 
-/// [10,20], whose quota is 10, is charged for so many blocks, and so much room is left.
+/// Checks that [10,20], whose quota is 10, is charged for `used` blocks, and how much room is left.
 fn expect_charge<D: Disk>(rt: &impl Abort, volume: &Volume<D>, used: u64, room: i64) {
     let charge = Charge { quota: 10, used };
-    assert!(rt; volume.charge(ppn_of(rt)) == Some(charge));
+    assert!(rt; volume.charge(owner()) == Some(charge));
     expect_room(rt, volume, room);
 }
 
-/// A file of [10,20] is deleted.
+/// Deletes a file of [10,20].
 fn delete<D: Disk>(rt: &impl Abort, volume: &mut Volume<D>, name: u64) {
-    assert!(rt; volume.delete(ppn_of(rt), &file_name(name)) == Ok(()));
+    assert!(rt; volume.delete(owner(), &file_name(name)) == Ok(()));
 }
 
-/// FOO.TXT of 300 words and BAR.TXT of none are made.
+/// Makes FOO.TXT of 300 words and BAR.TXT of none.
 fn make_two<D: Disk>(rt: &impl Abort, alloc: Global, volume: &mut Volume<D>, words: &[Word]) {
     expect_charge(rt, volume, EMPTY, 47);
-    store(rt, alloc, volume, Kind::Create, FOO, words, Some(43));
+    store(rt, alloc, volume, PendingKind::Create, FOO, words, Some(43));
     expect_charge(rt, volume, WITH_FOO, 43);
-    store(rt, alloc, volume, Kind::Create, BAR, &[], Some(42));
+    store(rt, alloc, volume, PendingKind::Create, BAR, &[], Some(42));
     expect_charge(rt, volume, WITH_FOO + 1, 42);
 }
 
@@ -89,7 +90,7 @@ fn files_are_charged(rt: HostRuntime) -> Result<(), Fail> {
         &rt,
         alloc,
         &mut volume,
-        Kind::Supersede,
+        PendingKind::Supersede,
         FOO,
         &[word(7)],
         Some(44),
@@ -101,18 +102,18 @@ fn files_are_charged(rt: HostRuntime) -> Result<(), Fail> {
     Ok(())
 }
 
-/// FOO.TXT of 300 words is superseded by a version of a word while a reader holds it, who then lets it go.
+/// Supersedes FOO.TXT of 300 words by a version of one word while a reader has it pinned, and then unpins it.
 fn supersede_held<D: Disk>(rt: &impl Abort, alloc: Global, volume: &mut Volume<D>) {
     let pin = hold(rt, volume);
-    expect_charge(rt, volume, WITH_FOO, 43); // the file's version counts once, though it is held
-    let pending = write(rt, alloc, volume, Kind::Supersede, FOO, &[word(7)]);
+    expect_charge(rt, volume, WITH_FOO, 43); // the file's version counts once, though it is pinned
+    let pending = write(rt, alloc, volume, PendingKind::Supersede, FOO, &[word(7)]);
     expect_charge(rt, volume, WITH_FOO + 2, 41);
     expect_published(rt, alloc, volume, pending, 1, &[], Ok(()));
     expect_charge(rt, volume, EMPTY + 2, 41);
     volume.unpin(pin);
 }
 
-/// A version that is only held costs room, and no directory is charged for it.
+/// A version that is only pinned costs room, and no directory is charged for it.
 #[test]
 fn a_held_version_is_not_charged(rt: HostRuntime) -> Result<(), Fail> {
     let alloc = rt.alloc();
@@ -122,7 +123,7 @@ fn a_held_version_is_not_charged(rt: HostRuntime) -> Result<(), Fail> {
         &rt,
         alloc,
         &mut volume,
-        Kind::Create,
+        PendingKind::Create,
         FOO,
         words.as_slice(),
         Some(43),
@@ -132,9 +133,9 @@ fn a_held_version_is_not_charged(rt: HostRuntime) -> Result<(), Fail> {
     Ok(())
 }
 
-/// FOO.TXT of three blocks is updated: a block that it has changes, a fourth is put, and the update is dropped.
+/// Updates FOO.TXT of three blocks: changes a block that it has, puts a fourth one, and drops the update.
 fn update_foo<D: Disk>(rt: &impl Abort, alloc: Global, volume: &mut Volume<D>) {
-    let pending = write(rt, alloc, volume, Kind::Update, FOO, &[word(7)]);
+    let pending = write(rt, alloc, volume, PendingKind::Update, FOO, &[word(7)]);
     expect_charge(rt, volume, WITH_FOO + 4, 39);
     assert!(rt; put(volume, pending, 4, &[word(8)]) == Ok(()));
     expect_charge(rt, volume, WITH_FOO + 5, 38);
@@ -142,7 +143,7 @@ fn update_foo<D: Disk>(rt: &impl Abort, alloc: Global, volume: &mut Volume<D>) {
     expect_charge(rt, volume, WITH_FOO, 43);
 }
 
-/// An update is charged in full, beside the file that it updates.
+/// An update is charged in full, besides the file that it updates.
 #[test]
 fn an_update_is_charged_in_full(rt: HostRuntime) -> Result<(), Fail> {
     let alloc = rt.alloc();
@@ -152,7 +153,7 @@ fn an_update_is_charged_in_full(rt: HostRuntime) -> Result<(), Fail> {
         &rt,
         alloc,
         &mut volume,
-        Kind::Create,
+        PendingKind::Create,
         FOO,
         words.as_slice(),
         Some(43),

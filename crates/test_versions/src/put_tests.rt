@@ -1,41 +1,42 @@
+//! Tests of `put_words`, also without memory and on damaged blocks.
 ghost use Rattle.std.specs.Prelude.{◌<◌, IsSome, IfSome};
 ghost use Rattle.volume.specs.Common.{pending_at};
 
-use crate::disks::{expect_failure, expect_room, open, spoiled, v1, word};
+use crate::disks::{expect_failure, expect_room, open, spoiled};
 use crate::publish_tests::expect_timely;
-use blockdisk::{Disk, NoMemory};
+use blockdisk::{Disk, Fault, NoMemory};
 use retrieval::{Mode, Prime};
 use std::alloc::Global;
 use std::process::Abort;
 use std::test::Fail;
-use volume::{CallError, Kind, Pending, VersionHandle, Volume};
-use words36::{FileName, Half, Moment, Ppn, Word};
+use test_support::{owner, v1, word};
+use volume::{CallError, Pending, PendingKind, VersionHandle, Volume};
+use words36::{FileName, Half, Moment, Word};
 
-/// What the prime block of a new version of FOO.TXT of [10,20] says.
+/// Returns what the prime block of a new version of FOO.TXT of [10,20] says.
 fn foo(rt: &impl Abort) -> Prime {
     let file = FileName {
         name: word(0o465757000000),
         ext: Half::from_bits(0o647064),
     };
-    let ppn = Ppn::new(0o10, 0o20).expect(rt, "a PPN");
     let moment = Moment::new(4095, 17).expect(rt, "a moment");
-    Prime::new(file, ppn, 0o057, Mode::Dump, moment).expect(rt, "a prime block")
+    Prime::new(file, owner(), 0o057, Mode::Dump, moment).expect(rt, "a prime block")
 }
 
-/// The volume on a disk that has FOO.TXT, with a version of it begun. Nothing where that is refused.
+/// Returns the volume on a disk that has FOO.TXT, with a version of it begun; `None` if that is refused.
 fn open_and_begin<D: Disk + Drop>(
     rt: &impl Abort,
     alloc: Global,
     disk: D,
 ) -> Option<(Volume<D>, Pending)>
-    ensures { IfSome result (λ begun. IsSome (pending_at begun.0.core.pending begun.1.key)) }
+    ensures { IfSome result (λ begun. IsSome (pending_at begun.0.map.pending begun.1.key)) }
 {
     let prime = foo(rt);
     let Some(mut volume) = open(alloc, disk) else {
         return None;
     };
     expect_timely(rt, &volume, &prime);
-    match volume.begin(alloc, Kind::Supersede, prime) {
+    match volume.begin(alloc, PendingKind::Supersede, prime) {
         Ok(pending) => Some((volume, pending)),
         Err(_refused) => None,
     }
@@ -48,14 +49,14 @@ pub(crate) fn put<D: Disk>(
     block: u32,
     words: &[Word],
 ) -> Result<(), CallError>
-    requires live { IsSome (pending_at volume.old.core.pending pending.key) }
+    requires live { IsSome (pending_at volume.old.map.pending pending.key) }
     requires first { 0 < block }
-    ensures live { IsSome (pending_at volume.new.core.pending pending.key) }
+    ensures live { IsSome (pending_at volume.new.map.pending pending.key) }
 {
     volume.put_words(pending, block, words)
 }
 
-/// Putting words is answered so.
+/// Checks the answer to a put of words.
 fn expect_answer<D: Disk>(
     rt: &impl Abort,
     volume: &mut Volume<D>,
@@ -64,14 +65,14 @@ fn expect_answer<D: Disk>(
     words: &[Word],
     wanted: Result<(), CallError>,
 )
-    requires live { IsSome (pending_at volume.old.core.pending pending.key) }
+    requires live { IsSome (pending_at volume.old.map.pending pending.key) }
     requires first { 0 < block }
-    ensures live { IsSome (pending_at volume.new.core.pending pending.key) }
+    ensures live { IsSome (pending_at volume.new.map.pending pending.key) }
 {
     assert!(rt; put(volume, pending, block, words) == wanted);
 }
 
-/// Puts a word, which is answered so, and leaves so much room.
+/// Puts a word, and checks the answer and how much room is left.
 fn expect_put<D: Disk>(
     rt: &impl Abort,
     volume: &mut Volume<D>,
@@ -80,31 +81,31 @@ fn expect_put<D: Disk>(
     wanted: Result<(), CallError>,
     room: i64,
 )
-    requires live { IsSome (pending_at volume.old.core.pending pending.key) }
+    requires live { IsSome (pending_at volume.old.map.pending pending.key) }
     requires first { 0 < block }
-    ensures live { IsSome (pending_at volume.new.core.pending pending.key) }
+    ensures live { IsSome (pending_at volume.new.map.pending pending.key) }
 {
     expect_answer(rt, volume, pending, block, &[word(7)], wanted);
     expect_room(rt, volume, room);
 }
 
-/// The words of a version from a block on.
+/// Returns the words of a version from a block.
 pub(crate) fn read<D: Disk>(
     alloc: Global,
     volume: &mut Volume<D>,
     pending: Pending,
     block: u32,
 ) -> Result<Vec<Word>, CallError>
-    requires live { IsSome (pending_at volume.old.core.pending pending.key) }
+    requires live { IsSome (pending_at volume.old.map.pending pending.key) }
     requires first { 0 < block }
-    ensures live { IsSome (pending_at volume.new.core.pending pending.key) }
+    ensures live { IsSome (pending_at volume.new.map.pending pending.key) }
 {
     volume.get_words(alloc, VersionHandle::Pending(pending), block, 1000)
 }
 
-/// Puts a word; after `NoMemory` all is as before, and the next call puts it.
+/// Puts a word; after `NoMemory` nothing has changed, and the next call puts it.
 fn put_again<D: Disk>(rt: &impl Abort, volume: &mut Volume<D>, pending: Pending)
-    requires live { IsSome (pending_at volume.old.core.pending pending.key) }
+    requires live { IsSome (pending_at volume.old.map.pending pending.key) }
 {
     let first = put(volume, pending, 1, &[word(7)]);
     if first == Err(CallError::NoMemory) {
@@ -116,11 +117,10 @@ fn put_again<D: Disk>(rt: &impl Abort, volume: &mut Volume<D>, pending: Pending)
     }
 }
 
-/// Run with each allocation refused in turn: after `NoMemory` all is as before, and the next call puts the
-/// words.
+/// Run with each allocation refused in turn: after `NoMemory` nothing has changed, and the next call puts the words.
 #[test]
 fn each_allocation_of_a_put_refused(rt: HostRuntime) {
-    let Ok(disk) = v1(&rt, rt.alloc(), 100) else {
+    let Ok(disk) = v1(rt.alloc(), 100) else {
         return;
     };
     let Some((mut volume, pending)) = open_and_begin(&rt, rt.alloc(), disk) else {
@@ -129,10 +129,10 @@ fn each_allocation_of_a_put_refused(rt: HostRuntime) {
     put_again(&rt, &mut volume, pending);
 }
 
-/// A version has this one word.
+/// Checks that a version has this one word.
 fn expect_word<D: Disk>(rt: &impl Abort, alloc: Global, volume: &mut Volume<D>, pending: Pending)
-    requires live { IsSome (pending_at volume.old.core.pending pending.key) }
-    ensures live { IsSome (pending_at volume.new.core.pending pending.key) }
+    requires live { IsSome (pending_at volume.old.map.pending pending.key) }
+    ensures live { IsSome (pending_at volume.new.map.pending pending.key) }
 {
     match read(alloc, volume, pending, 1) {
         Ok(words) => assert!(rt; words.as_slice() == [word(7)].as_slice()),
@@ -140,9 +140,9 @@ fn expect_word<D: Disk>(rt: &impl Abort, alloc: Global, volume: &mut Volume<D>, 
     }
 }
 
-/// Puts a word far behind the one that a version has; after `NoMemory` the version has its word, and no block more.
+/// Puts a word far after the one that a version has; after `NoMemory` the version has its word, and no block more.
 fn grow_again<D: Disk>(rt: &impl Abort, alloc: Global, volume: &mut Volume<D>, pending: Pending)
-    requires live { IsSome (pending_at volume.old.core.pending pending.key) }
+    requires live { IsSome (pending_at volume.old.map.pending pending.key) }
 {
     let longer = put(volume, pending, 40, &[word(8)]);
     if longer == Err(CallError::NoMemory) {
@@ -155,10 +155,10 @@ fn grow_again<D: Disk>(rt: &impl Abort, alloc: Global, volume: &mut Volume<D>, p
     }
 }
 
-/// The same where a version that has words grows: after `NoMemory` it has its words, and no block more.
+/// The same if a version that has words grows: after `NoMemory` it has its words, and no block more.
 #[test]
 fn each_allocation_of_a_longer_version_refused(rt: HostRuntime) {
-    let Ok(disk) = v1(&rt, rt.alloc(), 100) else {
+    let Ok(disk) = v1(rt.alloc(), 100) else {
         return;
     };
     let Some((mut volume, pending)) = open_and_begin(&rt, rt.alloc(), disk) else {
@@ -169,9 +169,9 @@ fn each_allocation_of_a_longer_version_refused(rt: HostRuntime) {
     }
 }
 
-/// Puts words over words. A volume that finds a block damaged has failed; tells whether the words are put.
+/// Puts words over words. A volume that finds a block damaged has failed; returns whether the words are put.
 fn is_put<D: Disk>(rt: &impl Abort, volume: &mut Volume<D>, pending: Pending) -> bool
-    requires live { IsSome (pending_at volume.old.core.pending pending.key) }
+    requires live { IsSome (pending_at volume.old.map.pending pending.key) }
 {
     expect_answer(rt, volume, pending, 1, &[word(7), word(8)], Ok(()));
     if put(volume, pending, 1, &[word(9)]) == Ok(()) {
@@ -183,17 +183,17 @@ fn is_put<D: Disk>(rt: &impl Abort, volume: &mut Volume<D>, pending: Pending) ->
     false
 }
 
-/// Whether words are put over words of V1 on a disk of which each block is damaged after so many reads; nothing where
-/// no version is begun.
+/// Returns whether words are put over words of V1 on a disk on which each block is damaged after the first `reads`
+/// reads; `None` if no version is begun.
 fn is_put_after(rt: &impl Abort, alloc: Global, reads: u32) -> Result<Option<bool>, NoMemory> {
-    let disk = spoiled(v1(rt, alloc, 100)?, reads, false);
+    let disk = spoiled(v1(alloc, 100)?, reads, Fault::Damaged);
     let Some((mut volume, pending)) = open_and_begin(rt, alloc, disk) else {
         return Ok(None);
     };
     Ok(Some(is_put(rt, &mut volume, pending)))
 }
 
-/// A block of which words stay is found damaged: the volume has failed then.
+/// A block of which some words stay is found damaged: the volume has failed then.
 #[test]
 fn a_block_that_was_put_is_damaged(rt: HostRuntime) -> Result<(), Fail> {
     let mut put_and_failed = (false, false);

@@ -1,35 +1,37 @@
+//! Tests of what a quota allows.
 use crate::charge_tests::{limit, limited};
-use crate::disks::{expect_room, word};
-use crate::publish_tests::{FOO, expect_directory, file_name, numbers, ppn_of, store, write};
-use crate::update_tests::{BAR, move_out, other_ppn};
+use crate::disks::expect_room;
+use crate::publish_tests::{expect_directory, file_name, numbers, store, write};
+use crate::update_tests::{move_out, other_ppn};
 use blockdisk::{Disk, MemDisk, NoMemory};
 use std::alloc::Global;
 use std::process::Abort;
 use std::test::Fail;
-use volume::{Charge, Kind, Pending, Volume};
+use test_support::{BAR, FOO, owner, word};
+use volume::{Charge, Pending, PendingKind, Volume};
 use words36::{BLOCK_WORDS, Ppn};
 
 /// More blocks than a file has.
 const TOO_MANY: u32 = 16384 + 1;
 
-/// Whether the quota of a directory allows a version of a file to be begun in it.
-fn allows<D: Disk>(volume: &Volume<D>, kind: Kind, ppn: Ppn, name: u64) -> bool {
+/// Returns whether the quota of a directory allows a version of a file to be begun in it.
+fn allows<D: Disk>(volume: &Volume<D>, kind: PendingKind, ppn: Ppn, name: u64) -> bool {
     volume.quota_allows_begin(kind, ppn, &file_name(name))
 }
 
-/// A file of [10,20] may be begun so, or not.
+/// Checks whether a version of a file of [10,20] may be begun.
 fn expect_begin<D: Disk>(
     rt: &impl Abort,
     volume: &Volume<D>,
-    kind: Kind,
+    kind: PendingKind,
     name: u64,
     is_allowed: bool,
 ) {
-    assert!(rt; allows(volume, kind, ppn_of(rt), name) == is_allowed);
+    assert!(rt; allows(volume, kind, owner(), name) == is_allowed);
 }
 
-/// What begins in a directory with FOO.TXT of 300 words, which is charged for five blocks, and has this quota: a new
-/// file or a version that supersedes FOO.TXT, and an update of it.
+/// Checks what may begin in a directory with FOO.TXT of 300 words, which is charged for five blocks, and has this
+/// quota: a new file or a version that supersedes FOO.TXT, and an update of it.
 fn expect_begins(
     rt: &impl Abort,
     alloc: Global,
@@ -43,20 +45,20 @@ fn expect_begins(
         rt,
         alloc,
         &mut volume,
-        Kind::Create,
+        PendingKind::Create,
         FOO,
         words.as_slice(),
         Some(43),
     );
-    expect_begin(rt, &volume, Kind::Create, BAR, is_new);
-    expect_begin(rt, &volume, Kind::Supersede, FOO, is_new);
-    expect_begin(rt, &volume, Kind::Update, FOO, is_updated);
-    expect_begin(rt, &volume, Kind::Append, FOO, is_updated);
+    expect_begin(rt, &volume, PendingKind::Create, BAR, is_new);
+    expect_begin(rt, &volume, PendingKind::Supersede, FOO, is_new);
+    expect_begin(rt, &volume, PendingKind::Update, FOO, is_updated);
+    expect_begin(rt, &volume, PendingKind::Append, FOO, is_updated);
     Ok(())
 }
 
-/// A new version costs a block, and an update what its file costs now: four. That may be all that is left. A quota may
-/// be below the charge, and 0 is no limit.
+/// A new version costs a block, and an update what its file costs now: four. That may be everything that is left. A
+/// quota may be below the charge, and 0 is no limit.
 #[test]
 fn versions_are_begun_within_a_quota(rt: HostRuntime) -> Result<(), Fail> {
     for (quota, is_new, is_updated) in [
@@ -79,19 +81,19 @@ fn versions_are_begun_within_a_quota(rt: HostRuntime) -> Result<(), Fail> {
 #[test]
 fn a_directory_that_isnt_there_allows_all(rt: HostRuntime) -> Result<(), Fail> {
     let volume = limited(&rt, rt.alloc(), 1)?;
-    expect_begin(&rt, &volume, Kind::Create, FOO, false);
-    assert!(&rt; allows(&volume, Kind::Create, other_ppn(&rt), FOO));
+    expect_begin(&rt, &volume, PendingKind::Create, FOO, false);
+    assert!(&rt; allows(&volume, PendingKind::Create, other_ppn(&rt), FOO));
     Ok(())
 }
 
-/// Makes the nth file of [10,20], of no words. It has no other directory, and all its files are such.
+/// Makes the nth file of [10,20], of no words. The volume has no other directory, and all its files are such.
 fn make_one(rt: &impl Abort, alloc: Global, volume: &mut Volume<MemDisk>, n: u8) {
     let before = volume.room();
     store(
         rt,
         alloc,
         volume,
-        Kind::Create,
+        PendingKind::Create,
         u64::from(n),
         &[],
         before.checked_sub(1),
@@ -105,25 +107,32 @@ fn make_41(rt: &impl Abort, alloc: Global, volume: &mut Volume<MemDisk>) {
     }
 }
 
-/// [10,20] has this charge.
+/// Checks the charge of [10,20].
 fn expect_charge<D: Disk>(rt: &impl Abort, volume: &Volume<D>, quota: u32, used: u64) {
     let charge = Charge { quota, used };
-    assert!(rt; volume.charge(ppn_of(rt)) == Some(charge));
+    assert!(rt; volume.charge(owner()) == Some(charge));
 }
 
 /// Begins to write a file that will be the 43rd of its directory, which costs a block for itself and a second one of
 /// the directory, and drops it.
 fn begin_43rd(rt: &impl Abort, alloc: Global, volume: &mut Volume<MemDisk>, quota: u32) {
-    let pending = write(rt, alloc, volume, Kind::Create, FOO, &[]);
+    let pending = write(rt, alloc, volume, PendingKind::Create, FOO, &[]);
     expect_charge(rt, volume, quota, 2 + 41 + 2);
     expect_room(rt, volume, 3);
-    expect_begin(rt, volume, Kind::Create, 42, quota == 0 || quota > 45);
+    expect_begin(
+        rt,
+        volume,
+        PendingKind::Create,
+        42,
+        quota == 0 || quota > 45,
+    );
     volume.discard(pending);
     expect_charge(rt, volume, quota, 1 + 41 + 1);
     expect_room(rt, volume, 5);
 }
 
-/// A directory with 41 files and a 42nd one that is being written has this quota: a 43rd one may be begun, or not.
+/// Checks whether a 43rd file may be begun in a directory with 41 files and a 42nd one that is being written, which has
+/// this quota.
 fn expect_43rd(
     rt: &impl Abort,
     alloc: Global,
@@ -132,9 +141,9 @@ fn expect_43rd(
 ) -> Result<(), NoMemory> {
     let mut volume = limited(rt, alloc, quota)?;
     make_41(rt, alloc, &mut volume);
-    let _first = write(rt, alloc, &mut volume, Kind::Create, BAR, &[]);
+    let _first = write(rt, alloc, &mut volume, PendingKind::Create, BAR, &[]);
     expect_charge(rt, &volume, quota, 1 + 41 + 1);
-    expect_begin(rt, &volume, Kind::Create, FOO, is_allowed);
+    expect_begin(rt, &volume, PendingKind::Create, FOO, is_allowed);
     begin_43rd(rt, alloc, &mut volume, quota);
     Ok(())
 }
@@ -148,7 +157,7 @@ fn a_directory_grows_within_a_quota(rt: HostRuntime) -> Result<(), Fail> {
     Ok(())
 }
 
-/// So many words may be put at a block, or not.
+/// Checks whether `count` words may be put at a block.
 fn expect_put<D: Disk>(
     rt: &impl Abort,
     volume: &Volume<D>,
@@ -160,8 +169,8 @@ fn expect_put<D: Disk>(
     assert!(rt; volume.quota_allows_put(pending, block, count) == is_allowed);
 }
 
-/// What may be put into a new version without words in a directory with this quota, which is charged for two blocks:
-/// words of a block, and words of two. None are always allowed, and more than a file has.
+/// Checks what may be put into a new version without words in a directory with this quota, which is charged for two
+/// blocks: the words of one block, and the words of two. No words are always allowed, and so are more than a file has.
 fn expect_puts(
     rt: &impl Abort,
     alloc: Global,
@@ -170,7 +179,7 @@ fn expect_puts(
     are_two: bool,
 ) -> Result<(), Fail> {
     let mut volume = limited(rt, alloc, quota)?;
-    let pending = write(rt, alloc, &mut volume, Kind::Create, FOO, &[]);
+    let pending = write(rt, alloc, &mut volume, PendingKind::Create, FOO, &[]);
     expect_put(rt, &volume, pending, (1, 0), true);
     expect_put(rt, &volume, pending, (1, 1), is_one);
     expect_put(rt, &volume, pending, (1, BLOCK_WORDS), is_one);
@@ -181,7 +190,7 @@ fn expect_puts(
     Ok(())
 }
 
-/// The words that are put may take all that is left.
+/// The words that are put may take everything that is left.
 #[test]
 fn words_are_put_within_a_quota(rt: HostRuntime) -> Result<(), Fail> {
     for (quota, is_one, are_two) in [
@@ -197,13 +206,20 @@ fn words_are_put_within_a_quota(rt: HostRuntime) -> Result<(), Fail> {
     Ok(())
 }
 
-/// The quota of a directory is set below its charge: words are put where the version has words already, and nowhere
+/// The quota of a directory is set below its charge: words may be put where the version has words already, and nowhere
 /// else.
 #[test]
 fn words_that_cost_nothing(rt: HostRuntime) -> Result<(), Fail> {
     let mut volume = limited(&rt, rt.alloc(), 10)?;
-    let pending = write(&rt, rt.alloc(), &mut volume, Kind::Create, FOO, &[word(7)]);
-    limit(&rt, &mut volume, ppn_of(&rt), 1);
+    let pending = write(
+        &rt,
+        rt.alloc(),
+        &mut volume,
+        PendingKind::Create,
+        FOO,
+        &[word(7)],
+    );
+    limit(&rt, &mut volume, owner(), 1);
     expect_put(&rt, &volume, pending, (1, 1), true);
     expect_put(&rt, &volume, pending, (1, BLOCK_WORDS), true);
     expect_put(&rt, &volume, pending, (1, BLOCK_WORDS + 1), false);
@@ -212,7 +228,7 @@ fn words_that_cost_nothing(rt: HostRuntime) -> Result<(), Fail> {
     Ok(())
 }
 
-/// A file may come from the first directory to the second, or not.
+/// Checks whether a file may move from the first directory to the second.
 fn expect_move<D: Disk>(
     rt: &impl Abort,
     volume: &Volume<D>,
@@ -223,8 +239,8 @@ fn expect_move<D: Disk>(
     assert!(rt; volume.quota_allows_move(ppn, &file_name(name), to) == is_allowed);
 }
 
-/// FOO.TXT of 300 words may come to the empty directory [10,21], which has this quota, or not. It may take another
-/// place in its own directory though that has more than its quota.
+/// Checks whether FOO.TXT of 300 words may move to the empty directory [10,21], which has this quota. It may take
+/// another place in its own directory, though that has more than its quota.
 fn expect_moves(rt: &impl Abort, alloc: Global, quota: u32, is_allowed: bool) -> Result<(), Fail> {
     let words = numbers(alloc, 1, 300)?;
     let mut volume = limited(rt, alloc, 1)?;
@@ -233,18 +249,18 @@ fn expect_moves(rt: &impl Abort, alloc: Global, quota: u32, is_allowed: bool) ->
         rt,
         alloc,
         &mut volume,
-        Kind::Create,
+        PendingKind::Create,
         FOO,
         words.as_slice(),
         Some(42),
     );
     limit(rt, &mut volume, other_ppn(rt), quota);
-    expect_move(rt, &volume, (ppn_of(rt), FOO), other_ppn(rt), is_allowed);
-    expect_move(rt, &volume, (ppn_of(rt), FOO), ppn_of(rt), true);
+    expect_move(rt, &volume, (owner(), FOO), other_ppn(rt), is_allowed);
+    expect_move(rt, &volume, (owner(), FOO), owner(), true);
     Ok(())
 }
 
-/// A file that comes from another directory costs four blocks beside the one that is charged: all of a quota of 5.
+/// A file that comes from another directory costs four blocks besides the one that is charged: all of a quota of 5.
 #[test]
 fn a_file_moves_within_a_quota(rt: HostRuntime) -> Result<(), Fail> {
     for (quota, is_allowed) in [
@@ -260,14 +276,15 @@ fn a_file_moves_within_a_quota(rt: HostRuntime) -> Result<(), Fail> {
     Ok(())
 }
 
-/// FOO.TXT of no words comes to [10,21].
+/// Makes FOO.TXT of no words, and moves it to [10,21].
 fn move_foo(rt: &impl Abort, alloc: Global, volume: &mut Volume<MemDisk>) {
     expect_directory(rt, alloc, volume, other_ppn(rt), Ok(()));
-    store(rt, alloc, volume, Kind::Create, FOO, &[], Some(45));
+    store(rt, alloc, volume, PendingKind::Create, FOO, &[], Some(45));
     assert!(rt; move_out(rt, alloc, volume) == Ok(()));
 }
 
-/// The file of [10,21] may come to [10,20] as its 43rd one, or not: it costs a block, and the directory a second one.
+/// Checks whether the file of [10,21] may move to [10,20] as its 43rd one: it costs a block, and the directory a second
+/// one.
 fn expect_move_as_43rd(
     rt: &impl Abort,
     alloc: Global,
@@ -277,9 +294,9 @@ fn expect_move_as_43rd(
     let mut volume = limited(rt, alloc, quota)?;
     move_foo(rt, alloc, &mut volume);
     make_41(rt, alloc, &mut volume);
-    let _first = write(rt, alloc, &mut volume, Kind::Create, FOO, &[]);
+    let _first = write(rt, alloc, &mut volume, PendingKind::Create, FOO, &[]);
     expect_charge(rt, &volume, quota, 1 + 41 + 1);
-    expect_move(rt, &volume, (other_ppn(rt), BAR), ppn_of(rt), is_allowed);
+    expect_move(rt, &volume, (other_ppn(rt), BAR), owner(), is_allowed);
     Ok(())
 }
 

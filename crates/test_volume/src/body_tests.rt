@@ -1,26 +1,21 @@
+//! Tests of files that are read at a start: their prime blocks, extensions and data blocks.
 use crate::open_tests::{
-    DIRECTORY, HOME, MASTER, beginning, damage, disk_of, expect_booked, expect_in_use,
-    expect_no_memory, expect_numbers, expect_reads, load, map_of, only_version, opened, prime, put,
-    refused, replaced, v1, word,
+    damage, disk_of, expect_booked, expect_in_use, expect_no_memory, expect_numbers, expect_reads,
+    load, map_of, only_version, opened, prime, put, refused, replaced,
 };
 use blockdisk::{Disk, MemDisk, NoMemory};
 use retrieval::Mode;
 use std::alloc::Global;
 use std::process::Abort;
 use std::test::Fail;
-use volume::{FileFacts, StoredVersion, Volume, VolumeError};
+use test_support::{BAR, DIRECTORY, FOO, HOME, MASTER, beginning, v1, word};
+use volume::{FileFacts, LoadedVersion, Volume, VolumeError};
 use words36::{BLOCK_WORDS, Block, FileName, Half, Moment, Ppn};
-
-/// FOO in SIXBIT.
-const FOO: u64 = 0o465757000000;
-
-/// BAR in SIXBIT.
-const BAR: u64 = 0o424162000000;
 
 /// What V1's prime block says: protection 057, mode 0, midnight of 4-Jan-75.
 const ATTRIBUTES: u64 = 0o057000007777;
 
-/// How many blocks the disk with the long file has. Its free space begins at 15 too.
+/// The number of blocks of the disk with the long file. Its free space begins at 15 too.
 const LARGE: u32 = 1024;
 
 /// The table of that disk: the blocks before 18, block 21, and 100 to 212.
@@ -33,7 +28,7 @@ const TABLE: [u64; 6] = [
     0o777777777770,
 ];
 
-/// Pointers of one block each, to so many blocks from this one on, from a place of a block on.
+/// Puts pointers of one block each, to `count` blocks from `first`, into the words of a block from `from`.
 fn put_pointers(block: &mut Block, from: usize, count: usize, first: u64) {
     for i in 0..count {
         if i < BLOCK_WORDS && from < BLOCK_WORDS - i && first < 2048 {
@@ -42,7 +37,7 @@ fn put_pointers(block: &mut Block, from: usize, count: usize, first: u64) {
     }
 }
 
-/// A prime block of FOO.TXT, with so many pointers of one block each, and this extension.
+/// Returns a prime block of FOO.TXT, with `count` pointers of one block each, and this extension.
 fn rib(length: u64, count: usize, next: u64, first: u64) -> Block {
     let mut block = prime(ATTRIBUTES, length, 0);
     block[6] = word(count as u64);
@@ -51,8 +46,8 @@ fn rib(length: u64, count: usize, next: u64, first: u64) -> Block {
     block
 }
 
-/// V1 on a larger disk, where FOO.TXT has 113 blocks, 100 to 212, and an extension in 21. It has room to record two
-/// syncs, so that it can be opened twice.
+/// Returns V1 on a larger disk, where FOO.TXT has 113 blocks, 100 to 212, and an extension in 21. It has room to record
+/// two syncs, so that it can be opened twice.
 fn with_a_rib(rt: &impl Abort, alloc: Global) -> Result<MemDisk, NoMemory> {
     let mut disk = MemDisk::new(alloc, LARGE, 2)?;
     let [name, layout, _, tables, images, master] = HOME;
@@ -69,13 +64,13 @@ fn with_a_rib(rt: &impl Abort, alloc: Global) -> Result<MemDisk, NoMemory> {
     Ok(disk)
 }
 
-/// A version has so many data blocks and these extensions.
-fn expect_blocks(rt: &impl Abort, stored: &StoredVersion, blocks: u32, ribs: &[u32]) {
+/// Checks that a version has this many data blocks and these extensions.
+fn expect_blocks(rt: &impl Abort, stored: &LoadedVersion, blocks: u32, ribs: &[u32]) {
     assert_eq!(rt; stored.version.count(), blocks as usize);
     expect_numbers(rt, stored.version.ribs(), ribs);
 }
 
-/// FOO.TXT has what V1's prime block says, so many words and data blocks.
+/// Checks that FOO.TXT has what V1's prime block says, and this many words and data blocks.
 fn expect_facts<D: Disk>(rt: &impl Abort, volume: &Volume<D>, words: u32, blocks: u32) {
     let facts = FileFacts {
         protection: 0o057,
@@ -92,8 +87,8 @@ fn expect_facts<D: Disk>(rt: &impl Abort, volume: &Volume<D>, words: u32, blocks
     assert!(rt; volume.look(ppn, &foo) == Ok(facts));
 }
 
-/// The volume on a disk has one file, FOO.TXT, with what V1's prime block says, so many words and data blocks, and
-/// these extensions; and so many blocks are in use.
+/// Checks that the volume on a disk has one file, FOO.TXT, with what V1's prime block says, this many words and data
+/// blocks, and these extensions; and that `booked` blocks are in use.
 fn expect_file(
     rt: &impl Abort,
     alloc: Global,
@@ -112,25 +107,25 @@ fn expect_file(
 
 #[test]
 fn the_file_of_v1(rt: HostRuntime) -> Result<(), Fail> {
-    let disk = v1(&rt, rt.alloc(), 1)?;
+    let disk = v1(rt.alloc(), 1)?;
     expect_file(&rt, rt.alloc(), disk, (2, 1), &[], 4);
     Ok(())
 }
 
-/// It has its prime block alone.
+/// The file has only its prime block.
 #[test]
 fn a_file_of_no_words(rt: HostRuntime) -> Result<(), Fail> {
-    let mut disk = v1(&rt, rt.alloc(), 1)?;
+    let mut disk = v1(rt.alloc(), 1)?;
     load(&rt, &mut disk, 17, &rib(0, 0, 0, 0));
     put(&rt, &mut disk, 14, &[0o777777000000]);
     expect_file(&rt, rt.alloc(), disk, (0, 0), &[], 3);
     Ok(())
 }
 
-/// What stands behind the last word of a file is nobody's business.
+/// What follows the last word of a file is nobody's business.
 #[test]
 fn words_behind_the_last(rt: HostRuntime) -> Result<(), Fail> {
-    let mut disk = v1(&rt, rt.alloc(), 1)?;
+    let mut disk = v1(rt.alloc(), 1)?;
     load(&rt, &mut disk, 18, &[word(0o777777777777); BLOCK_WORDS]);
     expect_file(&rt, rt.alloc(), disk, (2, 1), &[], 4);
     Ok(())
@@ -146,7 +141,7 @@ fn a_file_with_a_rib(rt: HostRuntime) -> Result<(), Fail> {
     Ok(())
 }
 
-/// One bit of the table is another: that of block 16, 17, 18, 21, 99, 100, 211, 212 or 213.
+/// One bit of the table is wrong: that of block 16, 17, 18, 21, 99, 100, 211, 212 or 213.
 #[test]
 fn each_block_of_a_file_with_a_rib_is_reached(rt: HostRuntime) -> Result<(), Fail> {
     for (place, number) in [
@@ -188,8 +183,8 @@ fn a_block_of_two_files(rt: HostRuntime) -> Result<(), Fail> {
     Ok(())
 }
 
-/// Beside four reads before and that of the table, one of the prime block, one of the extension, and one of each of
-/// 113 data blocks.
+/// The reads are four before those of the file, and one of the table; one of the prime block, one of the extension, and
+/// one of each of 113 data blocks.
 #[test]
 fn each_read_of_a_file_with_a_rib_may_fail(rt: HostRuntime) -> Result<(), Fail> {
     for reads in [4, 5, 6, 7, 117, 118, 119, 120] {
@@ -211,7 +206,7 @@ fn each_allocation_for_a_rib_refused(rt: HostRuntime) {
     }
 }
 
-/// An error has this text.
+/// Checks that an error has this text.
 fn expect_text(rt: &impl Abort, alloc: Global, error: VolumeError, text: &str) -> Result<(), Fail> {
     let printed = error.to_string(alloc)?;
     assert_eq!(rt; printed.as_str(), text);

@@ -1,3 +1,4 @@
+//! Tests of the first calls on a fresh volume.
 use crate::open_tests::{expect_answer, expect_made, expect_protection, expect_room, opened};
 use blockdisk::{Disk, MemDisk};
 use spec_image::ErrorCode;
@@ -7,12 +8,12 @@ use std::test::Fail;
 use volume::{CallError, Volume};
 use words36::{FileName, Half, Ppn, Word};
 
-/// The volume has 64 blocks.
+/// Checks that the volume has 64 blocks.
 fn expect_64_blocks<D: Disk>(rt: &impl Abort, volume: &Volume<D>) {
     assert_eq!(rt; volume.blocks(), 64);
 }
 
-/// A directory has no file.
+/// Checks that a directory has no file.
 fn expect_no_file<D: Disk>(rt: &impl Abort, alloc: Global, volume: &Volume<D>, ppn: Ppn) {
     let name = FileName {
         name: Word::from_bits(1),
@@ -25,7 +26,7 @@ fn expect_no_file<D: Disk>(rt: &impl Abort, alloc: Global, volume: &Volume<D>, p
     }
 }
 
-/// Makes a directory, which can't be made twice.
+/// Makes a directory, and checks that it can't be made twice.
 fn make_twice<D: Disk>(rt: &impl Abort, alloc: Global, volume: &mut Volume<D>, ppn: Ppn) {
     expect_room(rt, volume, 48);
     expect_protection(
@@ -47,8 +48,7 @@ fn make_twice<D: Disk>(rt: &impl Abort, alloc: Global, volume: &mut Volume<D>, p
     expect_room(rt, volume, 47);
 }
 
-/// A fresh volume of 64 blocks has room 48. A directory takes a block, is there then, and can't be made
-/// twice.
+/// A fresh volume of 64 blocks has room 48. A directory takes a block, exists then, and can't be made twice.
 #[test]
 fn a_directory_is_made(rt: HostRuntime) -> Result<(), Fail> {
     let Some(ppn) = Ppn::new(0o10, 0o20) else {

@@ -1,3 +1,4 @@
+//! Tests of `copy_image`.
 use crate::image_tests::{expect_image, image_disk, opened, v1};
 use blockdisk::{Disk, MemDisk};
 use imagefile::{ImageDisk, MemFile};
@@ -16,7 +17,7 @@ fn damage(rt: &impl Abort, image: &mut [u8]) {
     image[1024 * DAMAGED as usize] = 0x80;
 }
 
-/// An image with one file of two words and a damaged block, with room to record so many writes and syncs.
+/// Returns an image with one file of two words and a damaged block, with room to record `calls` writes and syncs.
 fn damaged_disk(rt: &impl Abort, alloc: Global, calls: usize) -> Result<ImageDisk<MemFile>, Fail> {
     let mut image = v1(rt, alloc)?;
     damage(rt, image.as_mut_slice());
@@ -25,7 +26,7 @@ fn damaged_disk(rt: &impl Abort, alloc: Global, calls: usize) -> Result<ImageDis
     Ok(disk?)
 }
 
-/// What a copy answers.
+/// Returns the answer of a copy.
 fn copied<D: Disk, E: Disk>(
     rt: &impl Abort,
     alloc: Global,
@@ -36,14 +37,14 @@ fn copied<D: Disk, E: Disk>(
     Volume::copy_image(alloc, from, to)
 }
 
-/// The words of a block are zeros.
+/// Checks that the words of a block are zeros.
 fn expect_zeros<D: Disk>(rt: &impl Abort, disk: &mut D, n: u32) {
     assert!(rt; n < disk.blocks());
     assert!(rt; disk.read(n) == Ok([Word::ZERO; BLOCK_WORDS]));
 }
 
-/// The image is recovered by one sync, and its copy is written by 64 calls and synced by two, of which the first comes
-/// before the home copies are written; one more opens it.
+/// The image is recovered by one sync. Its copy is written by 64 calls and synced by two, the first of them before the
+/// home copies are written. One more sync opens it.
 #[test]
 fn an_image_is_copied(rt: HostRuntime) -> Result<(), Fail> {
     let mut source = damaged_disk(&rt, rt.alloc(), 1)?;
@@ -55,7 +56,7 @@ fn an_image_is_copied(rt: HostRuntime) -> Result<(), Fail> {
     Ok(())
 }
 
-/// A copy that finds no room for its last sync, and an image that finds none for its recovery.
+/// A copy has no room for its last sync; an image has no room for its recovery.
 #[test]
 fn copies_that_fail(rt: HostRuntime) -> Result<(), Fail> {
     let mut source = damaged_disk(&rt, rt.alloc(), 1)?;

@@ -1,12 +1,14 @@
-use crate::open_tests::{booked, load, put, refused, replaced, v1, v1_to_recover};
+//! Tests of bad logs and of chains of directories with faults.
+use crate::open_tests::{booked, load, put, refused, replaced, v1_to_recover};
 use blockdisk::{Disk, Fault, MemDisk, NoMemory};
 use std::alloc::Global;
 use std::process::Abort;
 use std::test::Fail;
+use test_support::v1;
 use volume::VolumeError;
 use words36::Block;
 
-/// The words of a block that is good.
+/// Returns the words of a block, which must be whole.
 fn block_of<D: Disk>(rt: &impl Abort, disk: &mut D, n: u32) -> Block {
     assert!(rt; n < disk.blocks());
     let Ok(block) = disk.read(n) else {
@@ -15,7 +17,7 @@ fn block_of<D: Disk>(rt: &impl Abort, disk: &mut D, n: u32) -> Block {
     block
 }
 
-/// V1 with another word at this place of a block.
+/// Returns V1 with another word at this place of a block.
 fn with_word(
     rt: &impl Abort,
     alloc: Global,
@@ -23,19 +25,19 @@ fn with_word(
     place: usize,
     number: u64,
 ) -> Result<MemDisk, NoMemory> {
-    let mut disk = v1(rt, alloc, 1)?;
+    let mut disk = v1(alloc, 1)?;
     let block = block_of(rt, &mut disk, n);
     load(rt, &mut disk, n, &replaced(rt, &block, place, number));
     Ok(disk)
 }
 
-/// A block is damaged.
+/// Checks that a block is damaged.
 fn expect_damaged<D: Disk>(rt: &impl Abort, disk: &mut D, n: u32) {
     assert!(rt; n < disk.blocks());
     assert!(rt; disk.read(n) == Err(Fault::Damaged));
 }
 
-/// A bad log is named before all else, and nothing is put.
+/// A bad log is named before everything else, and nothing is put.
 #[test]
 fn a_log_of_zeros(rt: HostRuntime) -> Result<(), Fail> {
     let mut disk = v1_to_recover(&rt, rt.alloc(), 5)?;
@@ -49,8 +51,8 @@ fn a_log_of_zeros(rt: HostRuntime) -> Result<(), Fail> {
     Ok(())
 }
 
-/// Two faults stand here, and either may be named: a block that is not full leads on, and its chain comes to a
-/// block a second time.
+/// There are two faults, and either may be named: a block that isn't full leads to another one, and its chain comes to
+/// a block a second time.
 #[test]
 fn chains_with_a_loop(rt: HostRuntime) -> Result<(), Fail> {
     for (n, next) in [(15, 15), (16, 16), (16, 15)] {
@@ -62,7 +64,7 @@ fn chains_with_a_loop(rt: HostRuntime) -> Result<(), Fail> {
     Ok(())
 }
 
-/// The same, and the chain ends with an empty block.
+/// There are two faults as before, but the chain ends with an empty block.
 #[test]
 fn chains_with_an_empty_end(rt: HostRuntime) -> Result<(), Fail> {
     for n in [15, 16] {

@@ -1,17 +1,19 @@
-use crate::open_tests::{HOME, SIZE, beginning, booked, damage, expect_reads, filled, load, v1};
+//! Tests of home copies.
+use crate::open_tests::{booked, damage, expect_reads, load};
 use blockdisk::MemDisk;
 use std::alloc::Global;
 use std::process::Abort;
 use std::test::Fail;
+use test_support::{HOME, SIZE, beginning, filled, v1};
 use volume::VolumeError;
 use words36::Block;
 
-/// A home copy of 64 blocks with this first block of the master directory.
+/// Returns a home copy of 64 blocks with this first block of the master directory.
 fn home(master: u64) -> Block {
     beginning(&[HOME[0], 1, 0o100, 1, 0o11, master])
 }
 
-/// Puts a home copy into a block, or damages it where there is none.
+/// Puts a home copy into a block, or damages the block if there is none.
 fn set_copy(rt: &impl Abort, disk: &mut MemDisk, n: u32, copy: Option<&Block>) {
     match copy {
         Some(copy) => load(rt, disk, n, copy),
@@ -19,8 +21,8 @@ fn set_copy(rt: &impl Abort, disk: &mut MemDisk, n: u32, copy: Option<&Block>) {
     }
 }
 
-/// Why a disk with these home copies is refused. The blocks where they may say that the master directory begins are
-/// damaged, so that the refusal names the one that is read.
+/// Returns why a disk with these home copies is refused. The blocks in which they may say that the master directory
+/// begins are damaged, so that the refusal names the one that is read.
 fn refusal(
     rt: &impl Abort,
     alloc: Global,
@@ -36,7 +38,7 @@ fn refusal(
     booked(alloc, disk)
 }
 
-/// The home copies lead to this block, as the first of the master directory.
+/// Checks that the home copies lead to this block, as the first of the master directory.
 fn expect_master(
     rt: &impl Abort,
     alloc: Global,
@@ -96,11 +98,11 @@ fn a_copy_with_a_wrong_word_is_bad(rt: HostRuntime) {
     }
 }
 
-/// V1 takes a read less, where its first copy is good.
+/// V1 takes a read less if its first copy is good.
 #[test]
 fn the_second_copy_is_read_where_it_is_needed(rt: HostRuntime) -> Result<(), Fail> {
     for reads in 0..9 {
-        let mut disk = v1(&rt, rt.alloc(), 0)?;
+        let mut disk = v1(rt.alloc(), 0)?;
         load(&rt, &mut disk, 1, &home(0o16));
         expect_reads(&rt, rt.alloc(), disk, reads, 8);
     }

@@ -1,49 +1,15 @@
+//! Tests of volumes on images: bytes in memory as a disk.
 use blockdisk::{Disk, Fault, NoMemory};
 use imagefile::{Durable, ImageDisk, MemFile};
 use std::alloc::{AllocError, Global};
 use std::process::Abort;
 use std::test::Fail;
+use test_support::{DIRECTORY, HOME, MASTER, OPEN, PRIME, TABLE, TEXT, foo, owner};
 use volume::{Volume, VolumeError};
-use words36::{BLOCK_WORDS, Block, FileName, Half, Ppn, Word};
+use words36::BLOCK_WORDS;
 
-/// How many bytes an image of 64 blocks has: 1024 a block, 8 a word.
+/// The number of bytes of an image of 64 blocks: 1024 a block, 8 a word.
 const SIZE: usize = 65536;
-
-/// The home copies, in blocks 1 and 2. The table is block 14, the free space begins at 15.
-pub(crate) const HOME: [u64; 6] = [0o465154634562, 1, 0o100, 1, 0o11, 0o17];
-
-/// The master directory, in block 15: [10,20] with protection 775.
-pub(crate) const MASTER: [u64; 5] = [0, 1, 0o000010000020, 0o775000000000, 0o20];
-
-/// The directory [10,20], in block 16: FOO.TXT.
-pub(crate) const DIRECTORY: [u64; 5] = [0, 1, 0o465757000000, 0o647064000000, 0o21];
-
-/// The prime block of FOO.TXT, in block 17: two words, in block 18.
-pub(crate) const PRIME: [u64; 17] = [
-    0o625142000000,
-    0o465757000000,
-    0o647064000000,
-    0o057000007777,
-    0o000010000020,
-    2,
-    1,
-    0,
-    0,
-    0,
-    0,
-    0,
-    0,
-    0,
-    0,
-    0,
-    0o000001000022,
-];
-
-/// The words of FOO.TXT.
-pub(crate) const WORDS: [u64; 2] = [0o442131446236, 0o064240000000];
-
-/// Each word of an open gate.
-const OPEN: u64 = 0o252525252525;
 
 /// Puts these words at the beginning of a block.
 fn put(rt: &impl Abort, image: &mut [u8], block: usize, words: &[u64]) {
@@ -58,21 +24,21 @@ fn put(rt: &impl Abort, image: &mut [u8], block: usize, words: &[u64]) {
 fn put_image(rt: &impl Abort, image: &mut [u8]) {
     put(rt, image, 1, &HOME);
     put(rt, image, 2, &HOME);
-    put(rt, image, 14, &[0o777777400000]);
+    put(rt, image, 14, &TABLE);
     put(rt, image, 15, &MASTER);
     put(rt, image, 16, &DIRECTORY);
     put(rt, image, 17, &PRIME);
-    put(rt, image, 18, &WORDS);
+    put(rt, image, 18, &TEXT);
 }
 
-/// The bytes of an image with one file of two words.
+/// Returns the bytes of an image with one file of two words.
 pub(crate) fn v1(rt: &impl Abort, alloc: Global) -> Result<Vec<u8>, AllocError> {
     let mut bytes = vec![in alloc; 0; SIZE]?;
     put_image(rt, bytes.as_mut_slice());
     Ok(bytes)
 }
 
-/// The disk of an image in memory, with room to record so many writes and syncs; none where there is no such image.
+/// Returns the disk of an image in memory, with room to record `calls` writes and syncs, if there is such an image.
 fn disk_of(
     alloc: Global,
     bytes: &[u8],
@@ -81,7 +47,7 @@ fn disk_of(
     Ok(ImageDisk::new(MemFile::new(alloc, bytes, calls)?).ok())
 }
 
-/// The disk of an image in memory, with room to record so many writes and syncs.
+/// Returns the disk of an image in memory, with room to record `calls` writes and syncs.
 pub(crate) fn image_disk(
     rt: &impl Abort,
     alloc: Global,
@@ -94,14 +60,14 @@ pub(crate) fn image_disk(
     Ok(disk)
 }
 
-/// The bytes of a file are as many as those of an image, and are read into these.
+/// Checks that a file has as many bytes as an image, and reads them.
 fn read_all(rt: &impl Abort, file: &mut MemFile, bytes: &mut [u8]) {
     assert_eq!(rt; bytes.len(), SIZE);
     assert_eq!(rt; file.len(), Ok(SIZE as u64));
     assert_eq!(rt; file.read_at(0, bytes), Ok(()));
 }
 
-/// All bytes of the file behind a disk.
+/// Returns all bytes of the file under a disk.
 fn bytes_of(
     rt: &impl Abort,
     alloc: Global,
@@ -113,20 +79,13 @@ fn bytes_of(
     Ok(bytes)
 }
 
-fn ppn(rt: &impl Abort, project: u32, programmer: u32) -> Ppn {
-    match Ppn::new(project, programmer) {
-        Some(ppn) => ppn,
-        None => panic!(rt; "no such number"),
-    }
-}
-
-/// The volume of a disk, or why it is refused. Of what `Volume::open` promises this says what its callers need: their
-/// proofs are short without the rest.
+/// Opens the volume on a disk, or returns why it is refused. It states only those promises of `Volume::open` that its
+/// callers need: their proofs are short without the rest.
 fn open<D: Disk + Drop>(alloc: Global, disk: D) -> Result<Volume<D>, (VolumeError, D)> {
     Volume::open(alloc, disk)
 }
 
-/// The volume of a disk that has to be accepted.
+/// Returns the volume on a disk, which must be accepted.
 pub(crate) fn opened<D: Disk + Drop>(rt: &impl Abort, alloc: Global, disk: D) -> Volume<D> {
     match open(alloc, disk) {
         Ok(volume) => volume,
@@ -134,34 +93,30 @@ pub(crate) fn opened<D: Disk + Drop>(rt: &impl Abort, alloc: Global, disk: D) ->
     }
 }
 
-/// The disk of a volume, which is let go.
+/// Returns the disk of a volume, and drops the volume.
 fn disk_behind<D: Disk + Drop>(volume: Volume<D>) -> D {
     volume.into_disk()
 }
 
-/// So many blocks are left.
+/// Checks that `wanted` blocks are left.
 fn expect_room<D: Disk>(rt: &impl Abort, volume: &Volume<D>, wanted: i64) {
     assert_eq!(rt; volume.room(), wanted);
 }
 
-/// The directory [10,20] has this protection.
+/// Checks that the directory [10,20] has this protection.
 fn expect_directory<D: Disk>(rt: &impl Abort, volume: &Volume<D>, protection: u16) {
-    assert!(rt; volume.directory(ppn(rt, 0o10, 0o20)) == Ok(protection));
+    assert!(rt; volume.directory(owner()) == Ok(protection));
 }
 
-/// FOO.TXT of [10,20] has two words.
+/// Checks that FOO.TXT of [10,20] has two words.
 fn expect_foo<D: Disk>(rt: &impl Abort, volume: &Volume<D>) {
-    let name = FileName {
-        name: Word::from_bits(0o465757000000),
-        ext: Half::from_bits(0o647064),
-    };
-    let Ok(facts) = volume.look(ppn(rt, 0o10, 0o20), &name) else {
+    let Ok(facts) = volume.look(owner(), &foo()) else {
         panic!(rt; "the file isn't there");
     };
     assert_eq!(rt; facts.words, 2);
 }
 
-/// The volume has 64 blocks, of which 45 are left, and in [10,20] FOO.TXT.
+/// Checks that the volume has 64 blocks, of which 45 are left, and FOO.TXT in [10,20].
 pub(crate) fn expect_image<D: Disk>(rt: &impl Abort, volume: &Volume<D>) {
     assert_eq!(rt; volume.blocks(), 64);
     expect_room(rt, volume, 45);
@@ -169,12 +124,12 @@ pub(crate) fn expect_image<D: Disk>(rt: &impl Abort, volume: &Volume<D>) {
     expect_foo(rt, volume);
 }
 
-/// The bytes of an image are these.
+/// Checks that the bytes of an image are these.
 fn expect_bytes(rt: &impl Abort, found: &[u8], wanted: &[u8]) {
     assert!(rt; found == wanted);
 }
 
-/// An image is opened and looked at, after which its bytes are as they were.
+/// Opens an image and reads it, and checks that its bytes are then as they were.
 fn open_image(rt: &impl Abort, alloc: Global, image: &[u8]) -> Result<(), Fail> {
     let disk = image_disk(rt, alloc, image, 9)?;
     let volume = opened(rt, alloc, disk);
@@ -184,7 +139,7 @@ fn open_image(rt: &impl Abort, alloc: Global, image: &[u8]) -> Result<(), Fail> 
     Ok(())
 }
 
-/// With room to record it all an image is accepted, and its bytes stay.
+/// With room to record everything, an image is accepted, and its bytes stay.
 #[test]
 fn an_image_is_opened(rt: HostRuntime) -> Result<(), Fail> {
     let image = v1(&rt, rt.alloc())?;
@@ -193,12 +148,12 @@ fn an_image_is_opened(rt: HostRuntime) -> Result<(), Fail> {
     done
 }
 
-/// Why a disk is refused, and the disk that is handed back; nothing where it is accepted.
+/// Returns why a disk is refused, with the disk that is handed back; `None` if it is accepted.
 fn refused<D: Disk + Drop>(alloc: Global, disk: D) -> Option<(VolumeError, D)> {
     open(alloc, disk).err()
 }
 
-/// The disk that is handed back by an `open` that blames the device.
+/// Returns the disk that is handed back by an `open` that blames the device.
 fn blamed<D: Disk + Drop>(rt: &impl Abort, alloc: Global, disk: D) -> D {
     let Some((error, disk)) = refused(alloc, disk) else {
         panic!(rt; "a sync that fails is overlooked");
@@ -207,12 +162,12 @@ fn blamed<D: Disk + Drop>(rt: &impl Abort, alloc: Global, disk: D) -> D {
     disk
 }
 
-/// A refusal is a fault of the device.
+/// Checks that a refusal is a fault of the device.
 fn expect_blame(rt: &impl Abort, error: VolumeError) {
     assert!(rt; error == VolumeError::Device);
 }
 
-/// An image whose disk has no room to record anything is refused, after which its bytes are as they were.
+/// Checks that an image whose disk has no room to record anything is refused, and that its bytes are then as they were.
 fn refuse_image(rt: &impl Abort, alloc: Global, image: &[u8]) -> Result<(), Fail> {
     let disk = image_disk(rt, alloc, image, 0)?;
     let bytes = bytes_of(rt, alloc, blamed(rt, alloc, disk))?;
@@ -220,8 +175,8 @@ fn refuse_image(rt: &impl Abort, alloc: Global, image: &[u8]) -> Result<(), Fail
     Ok(())
 }
 
-/// Where recovery's first sync finds the record full, the answer is a fault of the device, and the disk is
-/// handed back with its bytes.
+/// If the first sync of a recovery finds the record full, the answer is a fault of the device, and the disk is handed
+/// back with its bytes.
 #[test]
 fn a_record_that_is_full(rt: HostRuntime) -> Result<(), Fail> {
     let image = v1(&rt, rt.alloc())?;
@@ -230,7 +185,7 @@ fn a_record_that_is_full(rt: HostRuntime) -> Result<(), Fail> {
     done
 }
 
-/// Opens the gate of an image whose log has the master directory, and damages that in its place.
+/// Opens the gate of an image whose log has the master directory, and damages the master directory at its place.
 fn damage(rt: &impl Abort, image: &mut [u8]) {
     put(rt, image, 3, &[OPEN; BLOCK_WORDS]);
     put(rt, image, 4, &[0o545747000000, 1, 0o17]);
@@ -238,20 +193,20 @@ fn damage(rt: &impl Abort, image: &mut [u8]) {
     put(rt, image, 15, &[1 << 63]);
 }
 
-/// Block 15 of a disk of 64 blocks is damaged.
+/// Checks that block 15 of a disk of 64 blocks is damaged.
 fn expect_damaged(rt: &impl Abort, disk: &mut ImageDisk<MemFile>) {
     assert!(rt; disk.blocks() == 64);
     assert!(rt; disk.read(15) == Err(Fault::Damaged));
 }
 
-/// The gate and the master directory are as they were.
+/// Checks that the gate and the master directory are as they were.
 fn expect_recovered(rt: &impl Abort, found: &[u8], wanted: &[u8]) {
     assert!(rt; found.len() == SIZE && wanted.len() == SIZE);
     expect_bytes(rt, &found[3072..4096], &wanted[3072..4096]);
     expect_bytes(rt, &found[15360..16384], &wanted[15360..16384]);
 }
 
-/// The bytes that are left of a damaged image once it was opened.
+/// Returns the bytes of a damaged image after it was opened.
 fn recovered(rt: &impl Abort, alloc: Global, image: &[u8]) -> Result<Vec<u8>, Fail> {
     let mut disk = image_disk(rt, alloc, image, 9)?;
     expect_damaged(rt, &mut disk);
@@ -271,17 +226,17 @@ fn a_damaged_block_is_recovered(rt: HostRuntime) -> Result<(), Fail> {
     Ok(())
 }
 
-/// Makes a disk a volume in which there is no directory.
+/// Makes a disk a volume without directories.
 fn init<D: Disk>(rt: &impl Abort, disk: &mut D) {
     assert!(rt; Volume::init(disk) == Ok(()));
 }
 
 /// Makes the directory [10,20].
 fn make_directory<D: Disk>(rt: &impl Abort, alloc: Global, volume: &mut Volume<D>) {
-    assert!(rt; volume.make_dir(alloc, ppn(rt, 0o10, 0o20), 0o755) == Ok(()));
+    assert!(rt; volume.make_dir(alloc, owner(), 0o755) == Ok(()));
 }
 
-/// The bytes of a volume in which the directory [10,20] was made.
+/// Returns the bytes of a volume in which the directory [10,20] was made.
 fn made(rt: &impl Abort, alloc: Global) -> Result<Vec<u8>, Fail> {
     let empty = vec![in alloc; 0; SIZE]?;
     let mut disk = image_disk(rt, alloc, empty.as_slice(), 64)?;
@@ -291,16 +246,16 @@ fn made(rt: &impl Abort, alloc: Global) -> Result<Vec<u8>, Fail> {
     Ok(bytes_of(rt, alloc, disk_behind(volume))?)
 }
 
-/// The directory is there, and so many blocks are left.
+/// Checks that the directory is there, and that 47 blocks are left.
 fn expect_made<D: Disk>(rt: &impl Abort, volume: &Volume<D>) {
     expect_room(rt, volume, 47);
     expect_directory(rt, volume, 0o755);
 }
 
-/// Lets a volume go.
+/// Drops a volume.
 fn drop_volume<D: Disk + Drop>(_volume: Volume<D>) {}
 
-/// A directory that was made is there when the bytes are opened anew.
+/// A directory that was made is there when the bytes are opened again.
 #[test]
 fn a_directory_is_found_again(rt: HostRuntime) -> Result<(), Fail> {
     let bytes = made(&rt, rt.alloc())?;

@@ -1,21 +1,24 @@
+//! Tests of `init` and `init_layout`.
 use crate::open_tests::{
-    FailingDisk, HOME, SIZE, beginning, disk_of, expect_block, expect_made, expect_numbers,
-    failing, filled, init, left_of_reads, load, map_of, opened, v1,
+    disk_of, expect_block, expect_made, expect_numbers, failing, init, left_of_reads, load, map_of,
+    opened,
 };
 use blockdisk::{MemDisk, NoMemory};
 use std::alloc::Global;
 use std::process::Abort;
 use std::test::Fail;
-use volume::{DiskMap, Layout, Volume, VolumeError};
+use test_support::{FailingDisk, HOME, SIZE, beginning, filled, v1};
+use volume::{Layout, LoadedMap, Volume, VolumeError};
 
-/// The master directory has this one block, there is no other directory, and nothing else is in use.
-fn expect_bare(rt: &impl Abort, map: &DiskMap, master: u32) {
+/// Checks that the master directory has this one block, that there is no other directory, and that nothing else is in
+/// use.
+fn expect_bare(rt: &impl Abort, map: &LoadedMap, master: u32) {
     expect_numbers(rt, map.master.blocks(), &[master]);
     assert!(rt; map.directories.is_empty());
     assert_eq!(rt; map.table.booked(), 1);
 }
 
-/// The volume on a disk is opened: its master directory has this one block, and nothing else is in use.
+/// Opens the volume on a disk, and checks that its master directory has this one block and nothing else is in use.
 fn expect_empty(rt: &impl Abort, alloc: Global, disk: MemDisk, master: u32) {
     let mut disk = disk;
     load(rt, &mut disk, 0, &filled(0)); // the record is empty then
@@ -30,14 +33,14 @@ fn fill(rt: &impl Abort, disk: &mut MemDisk, first: u32, end: u32, number: u64) 
     }
 }
 
-/// These blocks have this number in each word.
+/// Checks that these blocks have this number in each word.
 fn expect_filled(rt: &impl Abort, disk: &mut MemDisk, first: u32, end: u32, number: u64) {
     for n in first..end {
         expect_block(rt, disk, n, &filled(number));
     }
 }
 
-/// The blocks of an empty volume of 64 blocks, over blocks that were filled.
+/// Checks that these are the blocks of an empty volume of 64 blocks, over blocks that were filled.
 fn expect_small(rt: &impl Abort, disk: &mut MemDisk) {
     expect_block(rt, disk, 1, &beginning(&HOME));
     expect_block(rt, disk, 2, &beginning(&HOME));
@@ -60,7 +63,7 @@ fn a_small_volume_is_made(rt: HostRuntime) -> Result<(), Fail> {
     Ok(())
 }
 
-/// The blocks of an empty volume of 4609 blocks from 14 on, over blocks that were filled.
+/// Checks that these are the blocks, from 14, of an empty volume of 4609 blocks, over blocks that were filled.
 fn expect_two_table_blocks(rt: &impl Abort, disk: &mut MemDisk) {
     let home = beginning(&[HOME[0], 1, 0o11001, 2, 0o12, 0o21]);
     expect_block(rt, disk, 1, &home);
@@ -93,15 +96,15 @@ fn making_stops_at_each_fault(rt: HostRuntime) -> Result<(), Fail> {
     Ok(())
 }
 
-/// A disk is not made a volume for this reason, and has failed so often then.
+/// Checks that making a volume of a disk fails for this reason, and that the disk has failed `failures` times then.
 fn expect_unmade(rt: &impl Abort, disk: &mut FailingDisk, error: VolumeError, failures: u64) {
     assert_eq!(rt; init(disk), Err(error));
     assert_eq!(rt; disk.failures, failures);
 }
 
-/// V1 on a disk that says that it has so many blocks, and fails each read and each write.
-fn of_size(rt: &impl Abort, alloc: Global, size: u32) -> Result<FailingDisk, NoMemory> {
-    let disk = v1(rt, alloc, 0)?;
+/// Returns V1 on a disk that says that it has `size` blocks, and fails each read and each write.
+fn of_size(alloc: Global, size: u32) -> Result<FailingDisk, NoMemory> {
+    let disk = v1(alloc, 0)?;
     Ok(failing(disk, size, 0))
 }
 
@@ -109,19 +112,19 @@ fn of_size(rt: &impl Abort, alloc: Global, size: u32) -> Result<FailingDisk, NoM
 #[test]
 fn other_sizes_are_refused(rt: HostRuntime) -> Result<(), Fail> {
     for size in [0, 1, 63, 131073, u32::MAX] {
-        let mut disk = of_size(&rt, rt.alloc(), size)?;
+        let mut disk = of_size(rt.alloc(), size)?;
         expect_unmade(&rt, &mut disk, VolumeError::NotVolume, 0);
         let refused = left_of_reads(rt.alloc(), disk);
         assert_eq!(rt; refused, Err((VolumeError::NotVolume, 0)));
     }
     for size in [64, 131072] {
-        let mut disk = of_size(&rt, rt.alloc(), size)?;
+        let mut disk = of_size(rt.alloc(), size)?;
         expect_unmade(&rt, &mut disk, VolumeError::Device, 1);
     }
     Ok(())
 }
 
-/// A volume of layout 2 has the blocks of one of layout 1, but for the home copies.
+/// A volume of layout 2 has the blocks of one of layout 1, except the home copies.
 #[test]
 fn a_volume_of_layout_2_is_made(rt: HostRuntime) -> Result<(), Fail> {
     let mut disk = MemDisk::new(rt.alloc(), SIZE, 8)?;

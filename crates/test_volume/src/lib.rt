@@ -1,7 +1,7 @@
-//! Tests of how a volume comes to be, through its public calls alone: it is made and opened, its home copies, logs,
-//! directories and files are read, or refused for what is wrong with them, and directories are made and get quotas, on
-//! disks that serve and on disks that fail. They stand apart from the crate that they test so that it is proved once,
-//! and from `test_versions`, where versions are written and read. There is no code here beside them.
+//! Tests of how a volume comes to be, through its public calls alone: it is made and opened; its home copies, logs,
+//! directories and files are read, or refused for their faults; and directories are made and get quotas, on disks that
+//! serve and on disks that fail. They are apart from the crate that they test so that it is proved once, and from
+//! `test_versions`, where versions are written and read. There is no other code here.
 #![tactic(auto)]
 
 #[cfg(test)]

@@ -1,16 +1,18 @@
+//! Tests of `make_dir`, also on disks that fail.
 use crate::open_tests::{
-    SIZE, beginning, disk_of, expect_answer, expect_block, expect_booked, expect_made,
-    expect_protection, expect_room, load, make_dir, open, opened, word,
+    disk_of, expect_answer, expect_block, expect_booked, expect_made, expect_protection,
+    expect_room, load, make_dir, open, opened,
 };
 use blockdisk::{Disk, MemDisk, NoMemory};
 use spec_image::ErrorCode;
 use std::alloc::{AllocError, Global};
 use std::process::Abort;
 use std::test::Fail;
+use test_support::{SIZE, beginning, filled};
 use volume::{CallError, Volume};
-use words36::{BLOCK_WORDS, Block, Ppn};
+use words36::{Block, Ppn};
 
-/// What stands in each word of a block that nobody wrote.
+/// Each word of a block that nobody wrote.
 const OLD: u64 = 0o123456765432;
 
 /// The writes and syncs of `init`, seven and one, and the one sync of `open`.
@@ -20,16 +22,16 @@ const BEFORE: usize = 9;
 /// block of the master directory and one of a table block, the log header, and a sync.
 const SHUT: u8 = 1 + 2 + 1 + 1;
 
-/// All of them: the gate is opened, then a sync; the images are written to their places, then a sync; the
-/// gate is closed, then a sync.
+/// All of them: the gate is opened, then a sync; the images are written to their places, then a sync; the gate is
+/// closed, then a sync.
 const WHOLE: u8 = SHUT + 2 + 3 + 2;
 
-/// The same where two blocks of the master directory are put, since it grows.
+/// The same if two blocks of the master directory are put, since it grows.
 const SHUT_GROWING: u8 = 1 + 3 + 1 + 1;
 
 const WHOLE_GROWING: u8 = SHUT_GROWING + 2 + 4 + 2;
 
-/// The number [1,n].
+/// Returns the number [1,n].
 fn ppn_of(rt: &impl Abort, n: u8) -> Ppn {
     let Some(ppn) = Ppn::new(1, u32::from(n)) else {
         panic!(rt; "no such number");
@@ -37,38 +39,39 @@ fn ppn_of(rt: &impl Abort, n: u8) -> Ppn {
     ppn
 }
 
-/// A disk of 64 blocks with an empty volume, which has room to record so many writes and syncs once that is opened.
+/// Returns a disk of 64 blocks with an empty volume, which has room to record `calls` writes and syncs after that is
+/// opened.
 fn fresh_disk(rt: &impl Abort, alloc: Global, calls: u16) -> Result<MemDisk, NoMemory> {
     let mut disk = MemDisk::new(alloc, SIZE, BEFORE + usize::from(calls))?;
     for n in 0..SIZE {
-        load(rt, &mut disk, n, &[word(OLD); BLOCK_WORDS]);
+        load(rt, &mut disk, n, &filled(OLD));
     }
     expect_made(rt, &mut disk);
     Ok(disk)
 }
 
-/// A fresh volume of 64 blocks, on a disk with room to record so many writes and syncs more.
+/// Returns a fresh volume of 64 blocks, on a disk with room to record `calls` more writes and syncs.
 fn fresh(rt: &impl Abort, alloc: Global, calls: u16) -> Result<Volume<MemDisk>, NoMemory> {
     let disk = fresh_disk(rt, alloc, calls)?;
     Ok(opened(rt, alloc, disk))
 }
 
-/// Makes the directory [1,n], which leaves a block less.
+/// Makes the directory [1,n], and checks that one block less is left.
 fn make_one<D: Disk>(rt: &impl Abort, alloc: Global, volume: &mut Volume<D>, n: u8) {
     let before = volume.room();
     expect_answer(rt, alloc, volume, ppn_of(rt, n), Ok(()));
     assert!(rt; before.checked_sub(1) == Some(volume.room()));
 }
 
-/// Makes the directories [1,n] for these n, with protection 775. Each leaves a block less.
+/// Makes the directories [1,n] for these n, with protection 775, and checks that each leaves one block less.
 fn make_each(rt: &impl Abort, alloc: Global, volume: &mut Volume<MemDisk>, first: u8, end: u8) {
     for n in first..end {
         make_one(rt, alloc, volume, n);
     }
 }
 
-/// A block of the master directory that names this next block and has the directories of `make_each`, each
-/// in the block behind that of the one before.
+/// Returns a block of the master directory that names this next block and has the directories of `make_each`, each in
+/// the block after that of the one before.
 fn master_block(
     alloc: Global,
     next: u64,
@@ -96,7 +99,7 @@ fn make_43(rt: &impl Abort, alloc: Global, volume: &mut Volume<MemDisk>) {
     expect_room(rt, volume, 4);
 }
 
-/// The blocks of the master directory with 43 directories, and that of the table.
+/// Checks the blocks of the master directory with 43 directories, and that of the table.
 fn expect_43(rt: &impl Abort, alloc: Global, disk: &mut MemDisk) -> Result<(), AllocError> {
     let first = master_block(alloc, 59, 1, 42, 16)?;
     expect_block(rt, disk, 15, &first);
@@ -107,15 +110,15 @@ fn expect_43(rt: &impl Abort, alloc: Global, disk: &mut MemDisk) -> Result<(), A
     Ok(())
 }
 
-/// These blocks are all like this one.
+/// Checks that these blocks are all like this one.
 fn expect_each(rt: &impl Abort, disk: &mut MemDisk, first: u32, end: u32, block: &Block) {
     for n in first..end {
         expect_block(rt, disk, n, block);
     }
 }
 
-/// The first block of the master directory has room for 42 directories, which take the blocks from 16 on.
-/// The 43rd takes block 58, and the master directory block 59.
+/// The first block of the master directory has room for 42 directories, which take the blocks from 16. The 43rd takes
+/// block 58, and the master directory block 59.
 #[test]
 fn the_master_directory_grows(rt: HostRuntime) -> Result<(), Fail> {
     let mut volume = fresh(&rt, rt.alloc(), 1000)?;
@@ -123,13 +126,13 @@ fn the_master_directory_grows(rt: HostRuntime) -> Result<(), Fail> {
     let mut disk = disk_of(volume);
     let looked = expect_43(&rt, rt.alloc(), &mut disk);
     expect_each(&rt, &mut disk, 16, 59, &beginning(&[]));
-    expect_each(&rt, &mut disk, 60, SIZE, &[word(OLD); BLOCK_WORDS]);
+    expect_each(&rt, &mut disk, 60, SIZE, &filled(OLD));
     expect_booked(&rt, rt.alloc(), disk, Ok(45));
     looked?;
     Ok(())
 }
 
-/// Makes as many directories as there is room for, and is refused one more, and one that there is.
+/// Makes as many directories as there is room for, and checks that one more is refused, and one that exists.
 fn make_all(rt: &impl Abort, alloc: Global, volume: &mut Volume<MemDisk>) {
     make_each(rt, alloc, volume, 1, 43);
     expect_answer(rt, alloc, volume, ppn_of(rt, 43), Ok(()));
@@ -152,7 +155,7 @@ fn make_all(rt: &impl Abort, alloc: Global, volume: &mut Volume<MemDisk>) {
     expect_room(rt, volume, 0);
 }
 
-/// The second block of the master directory with 47 directories, and that of the table.
+/// Checks the second block of the master directory with 47 directories, and that of the table.
 fn expect_47(rt: &impl Abort, disk: &mut MemDisk) {
     let second = beginning(&[
         0,
@@ -189,13 +192,13 @@ fn a_volume_is_full(rt: HostRuntime) -> Result<(), Fail> {
     Ok(())
 }
 
-/// The volume has failed, or hasn't.
+/// Checks whether the volume has failed.
 fn expect_failed<D: Disk>(rt: &impl Abort, volume: &Volume<D>, is_failed: bool) {
     assert!(rt; volume.has_failed() == is_failed);
 }
 
-/// The disk after a `make_dir` of the directory [1,n] behind so many others: it has room to record so many writes and
-/// syncs of it, and is done where these are all.
+/// Returns the disk after a `make_dir` of the directory [1,n], which follows `others` others. The disk has room to
+/// record `calls` of its writes and syncs; the call is done if these are all.
 fn cut_off(
     rt: &impl Abort,
     alloc: Global,
@@ -218,8 +221,8 @@ fn cut_off(
     Ok(disk)
 }
 
-/// The `make_dir` of the directory [1,n] behind so many others is cut off before each of its writes and syncs, and then
-/// is done: the directory is there once the gate was opened.
+/// Interrupts the `make_dir` of the directory [1,n], which follows `others` others, before each of its writes and
+/// syncs, and then lets it finish. Checks that the directory is there after the gate was opened.
 fn expect_cuts(
     rt: &impl Abort,
     alloc: Global,
@@ -241,8 +244,8 @@ fn expect_cuts(
     Ok(())
 }
 
-/// The record has room for so many writes and syncs of a `make_dir`, and the next one fails. What was
-/// written is there when the disk is opened again: the directory, once the gate was opened.
+/// The record has room for a number of writes and syncs of a `make_dir`, and the next one fails. What was written is
+/// there when the disk is opened again: the directory, if the gate was opened.
 #[test]
 fn each_write_or_sync_of_a_directory_may_fail(rt: HostRuntime) -> Result<(), Fail> {
     expect_cuts(&rt, rt.alloc(), (1, 0), (SHUT, WHOLE), (48, 47))?;
@@ -256,7 +259,7 @@ fn each_write_or_sync_of_a_directory_may_fail(rt: HostRuntime) -> Result<(), Fai
     Ok(())
 }
 
-/// Makes a directory; after `NoMemory` all is as before, and the next call makes it.
+/// Makes a directory; after `NoMemory` nothing has changed, and the next call makes it.
 fn make_again(rt: &impl Abort, alloc: Global, volume: &mut Volume<MemDisk>) {
     if make_dir(alloc, volume, ppn_of(rt, 1)) == Err(CallError::NoMemory) {
         expect_room(rt, volume, 48);
@@ -265,7 +268,7 @@ fn make_again(rt: &impl Abort, alloc: Global, volume: &mut Volume<MemDisk>) {
     expect_room(rt, volume, 47);
 }
 
-/// Run with each allocation refused in turn: after `NoMemory` all is as before, and the next call makes the
+/// Run with each allocation refused in turn: after `NoMemory` nothing has changed, and the next call makes the
 /// directory.
 #[test]
 fn each_allocation_of_a_directory_refused(rt: HostRuntime) {

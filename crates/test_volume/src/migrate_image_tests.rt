@@ -1,11 +1,13 @@
-use crate::migrate_tests::{home, migrate};
-use crate::open_tests::{DIRECTORY, MASTER, OPEN, beginning, filled, only_version, prime};
+//! Tests of migrations of images, stopped at each write and sync, in both forms.
+use crate::migrate_tests::migrate;
+use crate::open_tests::only_version;
 use blockdisk::{Disk, NoMemory, Pick};
 use imagefile::{Durable, Form, ImageDisk, MemFile};
 use spec_image::layout::Layout;
 use std::alloc::Global;
 use std::process::Abort;
 use std::test::Fail;
+use test_support::{DIRECTORY, HOME, MASTER, OPEN, PRIME, TABLE, TEXT, beginning, filled};
 use volume::{Migrated, Volume, VolumeError, read_volume};
 use words36::{Block, block_to_bytes, block_to_nine};
 
@@ -20,7 +22,7 @@ const RECOVERY_CALLS: usize = 6;
 
 const RECOVERY_SYNCS: [usize; 5] = [1, 4, 6, 6, 6];
 
-/// What a crash leaves of each open block. What the last sync left is left by an earlier stop, too.
+/// What a crash leaves of each open block. An earlier stop leaves what the last sync left, too.
 const PICKS: [Pick; 4] = [Pick::New, Pick::Damaged, Pick::Half, Pick::Open];
 
 /// What is stopped.
@@ -37,7 +39,7 @@ struct Image {
     bytes: Vec<u8>,
 }
 
-/// The disk of an image in memory, with room to record this many writes and syncs.
+/// Returns the disk of an image in memory, with room to record this many writes and syncs.
 fn disk_over(
     rt: &impl Abort,
     alloc: Global,
@@ -57,7 +59,7 @@ fn read_all(rt: &impl Abort, file: &mut MemFile, bytes: &mut [u8]) {
     assert_eq!(rt; file.read_at(0, bytes), Ok(()));
 }
 
-/// The image that lies on a disk.
+/// Returns the image that is on a disk.
 fn image_on(
     rt: &impl Abort,
     alloc: Global,
@@ -85,16 +87,16 @@ fn write<D: Disk>(rt: &impl Abort, disk: &mut D, n: u32, block: &Block) {
 
 /// Writes V1.
 fn write_v1<D: Disk>(rt: &impl Abort, disk: &mut D) {
-    write(rt, disk, 1, &home(1));
-    write(rt, disk, 2, &home(1));
-    write(rt, disk, 14, &beginning(&[0o777777400000]));
+    write(rt, disk, 1, &beginning(&HOME));
+    write(rt, disk, 2, &beginning(&HOME));
+    write(rt, disk, 14, &beginning(&TABLE));
     write(rt, disk, 15, &beginning(&MASTER));
     write(rt, disk, 16, &beginning(&DIRECTORY));
-    write(rt, disk, 17, &prime(0o057000007777, 2, 0o000001000022));
-    write(rt, disk, 18, &beginning(&[0o442131446236, 0o064240000000]));
+    write(rt, disk, 17, &beginning(&PRIME));
+    write(rt, disk, 18, &beginning(&TEXT));
 }
 
-/// V1 in this form.
+/// Returns V1 in this form.
 fn v1(rt: &impl Abort, alloc: Global, form: Form) -> Result<Image, Fail> {
     let bytes = vec![in alloc; 0; size_of(form)]?;
     let mut disk = disk_over(rt, alloc, &Image { form, bytes }, 7)?;
@@ -163,7 +165,7 @@ fn all_stopped(
     Ok(left)
 }
 
-/// The last of these syncs among this many calls, or 0.
+/// Returns the last of these syncs among this many calls, or 0.
 fn last_sync(syncs: [usize; 5], passing: usize) -> usize {
     let mut last = 0;
     for sync in syncs {
@@ -174,13 +176,13 @@ fn last_sync(syncs: [usize; 5], passing: usize) -> usize {
     last
 }
 
-/// Whether this call is a sync. One that fails leaves the same blocks open as the write before it.
+/// Returns whether this call is a sync. One that fails leaves the same blocks open as the write before it.
 fn is_sync(syncs: [usize; 5], call: usize) -> bool {
     last_sync(syncs, call) == call
 }
 
-/// What a crash leaves of an image after this many writes and syncs, of which these are syncs. The blocks that have
-/// changed since the last sync are open, also that of the write that fails.
+/// Returns what a crash leaves of an image after this many writes and syncs, of which these are syncs. The blocks that
+/// have changed since the last sync are open, also that of the write that fails.
 fn crashed(
     rt: &impl Abort,
     alloc: Global,
@@ -242,14 +244,15 @@ fn put_words_of_a_gate(rt: &impl Abort, form: Form, bytes: &mut [u8]) {
     }
 }
 
-/// Whether the gate of an image is open.
+/// Returns whether the gate of an image is open.
 fn is_gate_open(rt: &impl Abort, alloc: Global, image: &Image) -> Result<bool, NoMemory> {
     let mut disk = disk_over(rt, alloc, image, 0)?;
     assert!(rt; 3 < disk.blocks());
     Ok(disk.read(3) == Ok(filled(OPEN)))
 }
 
-/// An image that a crash has left is started: it has the file of V1 and a layout, which is 2 if the migration was done.
+/// Starts an image that a crash has left, and checks that it has the file of V1 and a layout, which is 2 if the
+/// migration was done.
 fn expect_started(
     rt: &impl Abort,
     alloc: Global,
@@ -265,7 +268,7 @@ fn expect_started(
     Ok(())
 }
 
-/// The layout of a volume with the file of V1.
+/// Returns the layout of a volume with the file of V1.
 fn layout_on<D: Disk>(rt: &impl Abort, alloc: Global, disk: &mut D) -> Layout {
     let Ok(map) = read_volume(alloc, disk) else {
         panic!(rt; "the image is refused");
@@ -274,7 +277,7 @@ fn layout_on<D: Disk>(rt: &impl Abort, alloc: Global, disk: &mut D) -> Layout {
     map.layout
 }
 
-/// The table and each block after it are those of V1.
+/// Checks that the table and each block after it are those of V1.
 fn expect_same_files(rt: &impl Abort, form: Form, left: &[u8], v1: &[u8]) {
     let at = 14 * (size_of(form) / 64);
     assert!(rt; at <= left.len() && at <= v1.len());
@@ -291,7 +294,7 @@ fn expect_recovered(
 ) -> Result<(), Fail> {
     expect_started(rt, alloc, image, v1, done)?;
     if !is_gate_open(rt, alloc, image)? {
-        return Ok(()); // the start makes no other call but a sync
+        return Ok(()); // the start makes no other call except a sync
     }
     let left = all_stopped(rt, alloc, Act::Recover, image, RECOVERY_CALLS)?;
     for passing in 0..RECOVERY_CALLS {
@@ -351,7 +354,7 @@ fn a_migration_of_a_wide_image_stops(rt: HostRuntime) -> Result<(), Fail> {
     expect_either(&rt, rt.alloc(), Form::Wide)
 }
 
-/// The same of an image of form 2.
+/// The same for an image of form 2.
 #[test]
 fn a_migration_of_a_packed_image_stops(rt: HostRuntime) -> Result<(), Fail> {
     expect_either(&rt, rt.alloc(), Form::Packed)

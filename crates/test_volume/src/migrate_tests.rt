@@ -1,33 +1,30 @@
+//! Tests of `migrate` on disks in memory.
 use crate::open_tests::{
-    HOME, beginning, damage, expect_block, expect_booked, failing, filled, load, map_of,
-    only_version, put, v1, v1_to_recover,
+    damage, expect_block, expect_booked, failing, load, map_of, only_version, put, v1_to_recover,
 };
 use blockdisk::{Disk, Fail, FuseDisk, MemDisk, NoMemory, Pick};
 use spec_image::layout::Layout;
 use std::alloc::Global;
 use std::process::Abort;
 use std::test::Fail as TestFail;
+use test_support::{HOME, PICKS, filled, home_of, v1};
 use volume::{Migrated, Volume, VolumeError};
 use words36::Block;
 
-/// How many writes and syncs a migration makes of a disk with a closed gate: recovery's sync, seven writes and four
-/// syncs.
+/// The number of writes and syncs that a migration of a disk with a closed gate makes: recovery's sync, seven writes
+/// and four syncs.
 const CALLS: usize = 12;
 
-/// How many blocks of V1 it reads: the gate, the first home copy, and those of the file, the directories and the table.
+/// The number of blocks of V1 that it reads: the gate, the first home copy, and those of the file, the directories and
+/// the table.
 const READS: u64 = 7;
 
-/// A home copy of V1 for this layout.
-pub(crate) fn home(layout: u64) -> Block {
-    beginning(&[HOME[0], layout, 0o100, 1, 0o11, 0o17])
-}
-
-/// Migrates a volume. What else `migrate` promises stays behind this function.
+/// Migrates a volume. It hides what else `migrate` promises.
 pub(crate) fn migrate<D: Disk>(alloc: Global, disk: &mut D) -> Result<Migrated, VolumeError> {
     Volume::migrate(alloc, disk)
 }
 
-/// A migration is answered so.
+/// Checks the answer of a migration.
 fn expect_migrated<D: Disk>(
     rt: &impl Abort,
     alloc: Global,
@@ -37,22 +34,22 @@ fn expect_migrated<D: Disk>(
     assert_eq!(rt; migrate(alloc, disk), wanted);
 }
 
-/// The disk has this layout, and the file of V1.
+/// Checks that the disk has this layout, and the file of V1.
 fn expect_layout(rt: &impl Abort, alloc: Global, disk: &mut MemDisk, layout: Layout) {
     let map = map_of(rt, alloc, disk);
     assert_eq!(rt; map.layout, layout);
     assert_eq!(rt; only_version(rt, &map).version.length(), 2);
 }
 
-/// The words of a block, if it isn't damaged.
+/// Returns the words of a block, if it isn't damaged.
 fn block_of(rt: &impl Abort, disk: &mut MemDisk, n: u32) -> Option<Block> {
     assert!(rt; n < disk.blocks());
     disk.read(n).ok()
 }
 
-/// The blocks of V1 after its home copies that are no part of gate and log.
+/// Checks the blocks of V1 after its home copies, except those of gate and log.
 fn expect_others_of_v1(rt: &impl Abort, alloc: Global, disk: &mut MemDisk) -> Result<(), NoMemory> {
-    let mut before = v1(rt, alloc, 1)?;
+    let mut before = v1(alloc, 1)?;
     for n in 14..64 {
         let Some(block) = block_of(rt, &mut before, n) else {
             panic!(rt; "a block of V1 isn't read");
@@ -62,16 +59,17 @@ fn expect_others_of_v1(rt: &impl Abort, alloc: Global, disk: &mut MemDisk) -> Re
     Ok(())
 }
 
-/// Both copies of V1 get layout 2, and no other block but those of gate and log is written; the second time nothing is.
+/// Both copies of V1 get layout 2, and no other block is written except those of gate and log; the second time nothing
+/// is.
 #[test]
 fn v1_is_migrated(rt: HostRuntime) -> Result<(), TestFail> {
-    let mut disk = v1(&rt, rt.alloc(), CALLS + 1)?;
+    let mut disk = v1(rt.alloc(), CALLS + 1)?;
     expect_migrated(&rt, rt.alloc(), &mut disk, Ok(Migrated::Done));
-    expect_block(&rt, &mut disk, 1, &home(2));
-    expect_block(&rt, &mut disk, 2, &home(2));
+    expect_block(&rt, &mut disk, 1, &home_of(2));
+    expect_block(&rt, &mut disk, 2, &home_of(2));
     expect_block(&rt, &mut disk, 3, &filled(0));
     expect_others_of_v1(&rt, rt.alloc(), &mut disk)?;
-    // there is room for the recovery's sync alone
+    // there is room only for the recovery's sync
     expect_migrated(&rt, rt.alloc(), &mut disk, Ok(Migrated::Already));
     expect_layout(&rt, rt.alloc(), &mut disk, Layout::Two);
     expect_booked(&rt, rt.alloc(), disk, Ok(4));
@@ -88,7 +86,7 @@ fn a_volume_is_recovered_and_migrated(rt: HostRuntime) -> Result<(), TestFail> {
     Ok(())
 }
 
-/// The first valid copy tells the layout. A migration writes both copies, and at `Already` none.
+/// The first valid copy names the layout. A migration writes both copies, and at `Already` neither.
 #[test]
 fn copies_of_two_layouts(rt: HostRuntime) -> Result<(), TestFail> {
     for (first, second, layout) in [
@@ -97,17 +95,17 @@ fn copies_of_two_layouts(rt: HostRuntime) -> Result<(), TestFail> {
         (3, 2, Layout::Two),
         (0, 1, Layout::One),
     ] {
-        let mut disk = v1(&rt, rt.alloc(), 100)?;
-        load(&rt, &mut disk, 1, &home(first));
-        load(&rt, &mut disk, 2, &home(second));
+        let mut disk = v1(rt.alloc(), 100)?;
+        load(&rt, &mut disk, 1, &home_of(first));
+        load(&rt, &mut disk, 2, &home_of(second));
         expect_layout(&rt, rt.alloc(), &mut disk, layout);
         let (answer, copies) = match layout {
             Layout::One => (Migrated::Done, [2, 2]),
             Layout::Two => (Migrated::Already, [first, second]),
         };
         expect_migrated(&rt, rt.alloc(), &mut disk, Ok(answer));
-        expect_block(&rt, &mut disk, 1, &home(copies[0]));
-        expect_block(&rt, &mut disk, 2, &home(copies[1]));
+        expect_block(&rt, &mut disk, 1, &home_of(copies[0]));
+        expect_block(&rt, &mut disk, 2, &home_of(copies[1]));
         expect_layout(&rt, rt.alloc(), &mut disk, Layout::Two);
     }
     Ok(())
@@ -116,29 +114,29 @@ fn copies_of_two_layouts(rt: HostRuntime) -> Result<(), TestFail> {
 /// A damaged first copy leaves the layout to the second.
 #[test]
 fn a_damaged_copy_before_one_of_layout_2(rt: HostRuntime) -> Result<(), TestFail> {
-    let mut disk = v1(&rt, rt.alloc(), 100)?;
+    let mut disk = v1(rt.alloc(), 100)?;
     damage(&rt, &mut disk, 1);
-    load(&rt, &mut disk, 2, &home(2));
+    load(&rt, &mut disk, 2, &home_of(2));
     expect_migrated(&rt, rt.alloc(), &mut disk, Ok(Migrated::Already));
     expect_layout(&rt, rt.alloc(), &mut disk, Layout::Two);
     assert!(rt; block_of(&rt, &mut disk, 1).is_none());
     Ok(())
 }
 
-/// Where both copies were written, the master directory is that of the first valid one.
+/// If both copies were written, the master directory is that of the first valid one.
 #[test]
 fn the_first_copy_names_the_master_directory(rt: HostRuntime) -> Result<(), TestFail> {
-    let mut disk = v1(&rt, rt.alloc(), 100)?;
+    let mut disk = v1(rt.alloc(), 100)?;
     put(&rt, &mut disk, 2, &[HOME[0], 1, 0o100, 1, 0o11, 0o20]);
     expect_migrated(&rt, rt.alloc(), &mut disk, Ok(Migrated::Done));
-    expect_block(&rt, &mut disk, 2, &home(2));
+    expect_block(&rt, &mut disk, 2, &home_of(2));
     Ok(())
 }
 
 /// What `open` refuses isn't migrated, and stays as it is.
 #[test]
 fn a_refused_volume_isnt_migrated(rt: HostRuntime) -> Result<(), TestFail> {
-    let mut disk = v1(&rt, rt.alloc(), 100)?;
+    let mut disk = v1(rt.alloc(), 100)?;
     damage(&rt, &mut disk, 17);
     expect_migrated(
         &rt,
@@ -146,24 +144,24 @@ fn a_refused_volume_isnt_migrated(rt: HostRuntime) -> Result<(), TestFail> {
         &mut disk,
         Err(VolumeError::BadRetrieval(17)),
     );
-    expect_block(&rt, &mut disk, 1, &home(1));
-    let mut disk = v1(&rt, rt.alloc(), 100)?;
-    load(&rt, &mut disk, 1, &home(3));
-    load(&rt, &mut disk, 2, &home(0));
+    expect_block(&rt, &mut disk, 1, &home_of(1));
+    let mut disk = v1(rt.alloc(), 100)?;
+    load(&rt, &mut disk, 1, &home_of(3));
+    load(&rt, &mut disk, 2, &home_of(0));
     expect_migrated(&rt, rt.alloc(), &mut disk, Err(VolumeError::BadHome));
-    let mut disk = failing(v1(&rt, rt.alloc(), 0)?, 64, 100);
+    let mut disk = failing(v1(rt.alloc(), 0)?, 64, 100);
     expect_migrated(&rt, rt.alloc(), &mut disk, Err(VolumeError::Device));
     Ok(())
 }
 
-/// The answer of a migration of V1 on a disk that fails once so many calls have passed, and what a crash leaves of it.
+/// Returns the answer of a migration of V1 on a disk that fails after `passing` calls, and what a crash leaves of it.
 fn stopped(
     rt: &impl Abort,
     alloc: Global,
     passing: u64,
     pick: Pick,
 ) -> Result<(bool, MemDisk), NoMemory> {
-    let mut fused = FuseDisk::new(v1(rt, alloc, 100)?, passing, Fail::All);
+    let mut fused = FuseDisk::new(v1(alloc, 100)?, passing, Fail::All);
     let answer = migrate(alloc, &mut fused);
     assert!(rt; matches!(answer, Ok(Migrated::Done) | Err(VolumeError::Device)));
     let mut disk = fused.into_inner();
@@ -171,7 +169,8 @@ fn stopped(
     Ok((answer.is_ok(), disk))
 }
 
-/// What a crash left of a stopped migration is opened, has the file, and has layout 1 or 2: layout 2 if it was done.
+/// Checks that what a crash left of a stopped migration is opened, has the file, and has layout 1 or 2: layout 2 if it
+/// was done.
 fn expect_either(
     rt: &impl Abort,
     alloc: Global,
@@ -189,7 +188,7 @@ fn expect_either(
 /// A migration that stops at any of its reads, writes and syncs, and crashes so, leaves a volume in layout 1 or 2.
 #[test]
 fn a_migration_that_stops(rt: HostRuntime) -> Result<(), TestFail> {
-    for pick in [Pick::Old, Pick::New, Pick::Damaged, Pick::Half, Pick::Open] {
+    for pick in PICKS {
         for passing in 0..READS + CALLS as u64 {
             let done = expect_either(&rt, rt.alloc(), passing, pick)?;
             assert!(rt; !done);

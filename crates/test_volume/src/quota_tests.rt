@@ -1,16 +1,18 @@
+//! Tests of quotas that are read at a start.
 ghost use Rattle.std.specs.Prelude.{◌<◌};
 
-use crate::open_tests::{HOME, expect_booked, load, put, replaced, v1, word};
+use crate::open_tests::{expect_booked, load, put, replaced};
 use blockdisk::{MemDisk, NoMemory};
 use std::alloc::Global;
 use std::process::Abort;
 use std::test::Fail;
+use test_support::{HOME, v1, word};
 use volume::VolumeError;
 use words36::{BLOCK_WORDS, Block, Word};
 
-/// V1 with this word for the protection of its directory, which is 775 with no quota.
+/// Returns V1 with this word for the protection of its directory, which is 775 with no quota.
 fn v1_with(rt: &impl Abort, alloc: Global, protection: u64) -> Result<MemDisk, NoMemory> {
-    let mut disk = v1(rt, alloc, 1)?;
+    let mut disk = v1(alloc, 1)?;
     let master = [0, 1, 0o000010000020, protection, 0o20];
     put(rt, &mut disk, 15, &master);
     Ok(disk)
@@ -29,7 +31,8 @@ fn v1_with_a_quota(rt: HostRuntime) -> Result<(), Fail> {
     Ok(())
 }
 
-/// A block of a master directory with so many directories from `[1,1]` and block 17 on, less those before.
+/// Returns a block of a master directory with `count` directories after the first `before`. Their numbers begin at
+/// `[1,1]`, and their blocks at 17.
 fn directories(next: u64, before: u64, count: u64) -> Block
     requires { before < 1000 }
 {
@@ -45,8 +48,8 @@ fn directories(next: u64, before: u64, count: u64) -> Block
     block
 }
 
-/// A disk of layout 1 with 43 directories, all empty: 42 in block 15, and one in block 16. The last of the 42 has the
-/// first of these quotas, and the one behind them the second.
+/// Returns a disk of layout 1 with 43 directories, all empty: 42 in block 15, and one in block 16. The last of the 42
+/// has the first of these quotas, and the one after them the second.
 fn crowded(
     rt: &impl Abort,
     alloc: Global,

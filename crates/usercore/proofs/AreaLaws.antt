@@ -51,7 +51,7 @@ then_within areas a b c one two = record {
   others = λ address out. two.others address out ∙ one.others address out;
 }
 
--- Words in a row.
+-- Consecutive words.
 
 pub placed_miss : (a : ℕ) (ws : List ℕ) (address : ℕ) → (address < a) ⊎ (a + length ws ≤ address)
     → AllMiss address (placed a ws)
@@ -108,7 +108,7 @@ setup_within core h size n ready is = by (lies_outside core (base core) (n * buf
 
 -- A step, in the core that it finds.
 
--- what a step may change where its ring is there
+-- what a step may change if its ring exists
 abbrev found_areas : List ℕ → ℕ → ℕ → List Area
 found_areas core h left = words_at h 3 ∷ words_at (current core h) left ∷ words_at (target core h - 1) buffer_words ∷ []
 

@@ -18,11 +18,11 @@ use Rattle.usercore.specs.Common.{bits_of, is_spared, first_is_good}
 use Rattle.spec_machine.proofs.Common.{writes_append, writes_length}
 use Rattle.usercore.proofs.WriteLaws.{read_header}
 
--- the core that the setup leaves, where the ring fits
+-- the core that the setup leaves, if the ring fits
 abbrev pub ringed : List ℕ → ℕ → ℕ → List ℕ
 ringed core h size = after_writes core (setup_writes core h size 2)
 
--- its buffers alone
+-- only its buffers
 abbrev buffered : List ℕ → List ℕ
 buffered core = after_writes core (ring_writes (base core) 2 2)
 
@@ -53,7 +53,7 @@ first_linked : (core : List ℕ) (b : ℕ) → b + 262 ≤ length core
     → slice_index (after_writes core (ring_writes b 2 2)) (b + 1) ≡ join 0o201 (buffer_at b 1)
 first_linked core b fits = grind (arith, elements)
 
--- a test of a word that is written over in one of four ways
+-- a test of a word that is overwritten in one of four ways
 over : (test : ℕ → Bool) (t u v w : Bool) (a b c d e : ℕ) → test a ≡ false → test b ≡ false → test c ≡ false
     → test e ≡ true
     → test (if t then a else if u then b else if v then c else if w then d else e)
@@ -167,7 +167,7 @@ ring_over : (core : List ℕ) (h size : ℕ) → current core h ≡ 0 → length
 unfolding setup
 ring_over core h size none over = grind (arith, nat_tests)
 
--- a header outside core has no ring
+-- a header outside the core has no ring
 pub ring_past : (core : List ℕ) (h size : ℕ) → length core < h + 3 → with_ring core h size ≡ None
 unfolding setup
 ring_past core h size past = grind (arith, nat_tests)
@@ -244,7 +244,7 @@ pub out_past : (core : List ℕ) (h size : ℕ) → length core < h + 3 → out_
 unfolding out_ready
 out_past core h size past = ap (kept_if (out_is_good h)) (ring_past core h size past)
 
--- where a ring is set up first: nothing is put, or nothing can be done
+-- if a ring is set up first: nothing is put, or nothing can be done
 pub out_first_good : (core : List ℕ) (h : ℕ) (bytes : ByteSize) → h + 3 ≤ length core → length core ≤ 2 ^ 17
     → first_free < length core → current core h ≡ 0 → first_is_good core h ≡ true
     → option_map (λ ready. ring_words ready h) (out_ready core h (bits_of bytes)) ≡ Some []

@@ -8,7 +8,7 @@ use Rattle.spec_machine.specs.declared.area.Area.{Area}
 use Rattle.spec_machine.specs.Common.{areas_from, dump_list, word_count}
 use Rattle.spec_image.proofs.Common.{total-append}
 
--- areas that were found already, and then those that are still to be found
+-- areas that were found already, and then those that are still to find
 abbrev pub prepend : List Area → Option (List Area) → Option (List Area)
 prepend areas None = None
 prepend areas (Some more) = Some (areas ++ more)
@@ -82,7 +82,7 @@ nothing_before : (more : Option (List Area)) → prepend [] more ≡ more
 nothing_before None = refl
 nothing_before (Some areas) = refl
 
--- a command word that names an area, and a word behind it that ends the list
+-- a command word that names an area, and a word after it that ends the list
 pub lone_found : (core : List ℕ) (a first count : ℕ) → a + 1 < length core → length core ≤ 131072
     → left (slice_index core a) ≢ 0 → slice_index core (a + 1) ≡ 0 → first ≡ right (slice_index core a) + 1
     → count ≡ 2 ^ 18 - left (slice_index core a) → first + count ≤ length core

@@ -22,7 +22,7 @@ placed_append : (a : ℕ) (xs ys : List ℕ) → placed a (xs ++ ys) ≡ placed 
 placed_append a [] ys = grind arith
 placed_append a (x ∷ xs) ys = grind (arith, placed_append (a + 1) xs ys)
 
--- one word more of those in a row
+-- one more of consecutive words
 pub placed_more : (core : List ℕ) (a i w : ℕ) (ws : List ℕ) → i < length ws → w ≡ slice_index ws i
     → slice_set (after_writes core (placed a (take i ws))) (a + i) w ≡ after_writes core (placed a (take (i + 1) ws))
 placed_more core a i w ws lt e =
@@ -68,7 +68,7 @@ module _ (core : List ℕ) (a : ℕ) (ws : List ℕ) (fits : a + length ws ≤ l
   placed_at_once = ext_get_or 0 once (after_writes core (placed a ws))
       (length-once ∙ sym (writes_length core (placed a ws))) (λ k inside. each k)
 
--- as a slice of the core shows it
+-- as a slice of the core has it
 pub overwritten : (core ws all part : List ℕ) (a n : ℕ) → a + length ws ≤ length core → all ≡ core → part ≡ ws
     → n ≡ length core
     → take n (put_mid a (a + length ws - a) all part ++ drop (length (put_mid a (a + length ws - a) all part)) core)
@@ -95,7 +95,7 @@ one_seen ws i w inside is fits before k d less = ⊎_elim (λ earlier. before k 
     word_of : (v w : ℕ) → v ≡ w → IsWord v → IsWord w
     word_of v w same fits = omega (arith, same, fits)
 
--- a core that words are put into is one still
+-- a core that words are put into is still a core
 pub core_placed : (core ws : List ℕ) (a : ℕ) → IsCore core → All IsWord ws → IsCore (after_writes core (placed a ws))
 core_placed core [] a is all = is
 core_placed core (w ∷ ws) a is all = core_placed (slice_set core a w) ws (a + 1) (record {
@@ -104,7 +104,7 @@ core_placed core (w ∷ ws) a is all = core_placed (slice_set core a w) ws (a + 
   words = All-set IsWord core a w (all 0 w (omega arith)) is.words;
 }) (λ k d inside. all (suc k) d (omega arith))
 
--- one buffer more of a ring
+-- one more buffer of a ring
 pub ring_more : (core : List ℕ) (b n k : ℕ) → after_writes (after_writes core (ring_writes b n k)) (buffer_writes b n k)
     ≡ after_writes core (ring_writes b n (k + 1))
 ring_more core b n k =
@@ -150,7 +150,7 @@ take_fewer count n xs e = rw e (std_take_min count xs)
 drop_fewer : (count n : ℕ) (xs : List ℕ) → n ≡ min count (length xs) → drop n xs ≡ drop count xs
 drop_fewer count n xs e = grind (arith, common_steps, drop_all)
 
--- one area more that words are dealt to
+-- one more area that words are dealt to
 pub deal_more : (core new : List ℕ) (areas : List Area) (i n first count : ℕ) (words front back : List ℕ) (area : Area)
     → i < length areas
     → area ≡ get_or areas i area → record { first = first; count = count } ≡ area
@@ -165,7 +165,7 @@ deal_more core new areas i n first count words front back area lt is view e f b 
     rw (← next, ← t, ← s) (writes_append core (placed first (take n words))
     (dealt (drop (suc i) areas) (drop n words))))
 
--- one area more that is counted
+-- one more area that is counted
 pub count_on : (areas : List Area) (i first count : ℕ) (area : Area) → i < length areas → area ≡ get_or areas i area
     → record { first = first; count = count } ≡ area
     → word_count (drop i areas) ≡ count + word_count (drop (i + 1) areas)
@@ -174,7 +174,7 @@ count_on areas i first count area lt is view =
     (let next : suc i ≡ i + 1 = omega arith in
     ap (λ n. count + word_count (drop n areas)) next)
 
--- one area more whose words are joined
+-- one more area whose words are joined
 pub join_on : (core : List ℕ) (areas : List Area) (i first count : ℕ) (area : Area) → i < length areas
     → area ≡ get_or areas i area → record { first = first; count = count } ≡ area
     → joined core (drop i areas) ≡ slice_range core first (first + count) ++ joined core (drop (i + 1) areas)
@@ -188,7 +188,7 @@ read_set : (core : List ℕ) (k v a : ℕ) → k < length core → slice_index (
     ≡ (if a == k then v else slice_index core a)
 read_set core k v a inside = grind (arith, elements, nat_tests)
 
--- and after one, and three in a row
+-- and after one, and three consecutive ones
 pub read_header : (core : List ℕ) (k v h p q z a : ℕ) → k < length core → h + 2 < length core
     → slice_index (after_writes core ((k, v) ∷ placed h (p ∷ q ∷ z ∷ []))) a
     ≡ (if a == h + 1 + 1 then z else if a == h + 1 then q else if a == h then p else if a == k then v

@@ -9,13 +9,13 @@ use Rattle.spec_machine.specs.Common.{first_free, buffer_words, base, current, t
 abbrev pub IsOutside : ℕ → Area → Type 0
 IsOutside address area = (address < area.first) ⊎ (area.first + area.count ≤ address)
 
--- A core that became another one, of as many words: those outside the areas stayed.
+-- A core that became another one with the same number of words: those outside the areas stayed.
 pub record ChangesWithin (areas : List Area) (core core' : List ℕ) : Type 0 where
   pub length : length core' ≡ length core
   pub others : (address : ℕ) → AllByRecursion (IsOutside address) areas
       → slice_index core' address ≡ slice_index core address
 
--- words from an address on
+-- `count` words from an address
 abbrev pub words_at : ℕ → ℕ → Area
 words_at address count = record { first = address; count = count }
 
@@ -23,8 +23,8 @@ words_at address count = record { first = address; count = count }
 abbrev pub setup_areas : List ℕ → ℕ → ℕ → List Area
 setup_areas core header n = words_at first_free 1 ∷ words_at (base core) (n * buffer_words) ∷ words_at header 3 ∷ []
 
--- A step: the header, as many words of the buffer that was the current one, and the whole buffer that it goes on to.
--- Where the header names no buffer, a ring of two is set up first, and the step goes on to its first buffer.
+-- A step: the header, `left` words of the buffer that was the current one, and the whole buffer that the step moves on
+-- to. If the header names no buffer, a ring of two is set up first, and the step moves on to its first buffer.
 abbrev pub step_areas : List ℕ → ℕ → ℕ → List Area
 step_areas core header left =
     if current core header == 0 then setup_areas core header 2

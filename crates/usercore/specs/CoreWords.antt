@@ -1,4 +1,4 @@
--- What a job's core is: so many words, each of 36 bits.
+-- What a job's core is: 1000 to 400000 words (octal), each of 36 bits.
 use Rattle.std.specs.Prelude.{ℕ, ◌≤◌, List, length}
 use Rattle.std.specs.List.{All}
 use Rattle.words36.specs.Common.{IsWord}

@@ -28,7 +28,7 @@ header_unset header size = if header == 0 then [] else unused_header header size
 
 -- Parts of the steps, by the words that they have read.
 
--- a header that names a buffer with so many words
+-- a header that names a buffer with `count` words
 abbrev pub header_words : ℕ → ℕ → ℕ → ℕ → List (ℕ × ℕ)
 header_words header size a count = placed header (a ∷ pointer size (a + 1) ∷ count * bytes_in_word size ∷ [])
 

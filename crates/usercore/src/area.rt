@@ -1,15 +1,16 @@
+//! An area of words in a core.
 use std::marker::Model;
 
-/// Words of a core in a row, seen as an area of the definitions.
+/// Consecutive words of a core, seen as an area of the definitions.
 #[derive(Clone, Copy, Debug, PartialEq, Eq)]
-pub struct Area {
-    /// The address of the first.
+pub struct CoreArea {
+    /// The address of the first word.
     pub first: usize,
-    /// How many there are.
+    /// The number of words.
     pub count: usize,
 }
 
-impl Model for Area {
+impl Model for CoreArea {
     ghost use Rattle.spec_machine.specs.declared.area.Area.{Area as Words};
 
     ghost Value = { Words };
@@ -19,13 +20,13 @@ impl Model for Area {
     ghost inverse = { λ a. record { first = a.first; count = a.count } };
 }
 
-impl Default for Area {
+impl Default for CoreArea {
     ghost use Rattle.std.specs.Prelude.{◌≡◌};
 
     ghost is_default = { λ area. (area.first ≡ 0) × (area.count ≡ 0) };
 
-    /// No words: what stands in the unused room of a list.
-    fn default() -> Area {
-        Area { first: 0, count: 0 }
+    /// Returns no words: they fill the unused room of a list.
+    fn default() -> CoreArea {
+        CoreArea { first: 0, count: 0 }
     }
 }

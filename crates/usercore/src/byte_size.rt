@@ -1,3 +1,4 @@
+//! The sizes of the bytes in a ring.
 ghost use Rattle.std.specs.Prelude.{◌≡◌, ◌<◌, ◌^◌};
 ghost use Rattle.spec_machine.specs.Common.{byte_size, bytes_in_word, pointer};
 ghost use Rattle.usercore.specs.Common.{bits_of};
@@ -14,7 +15,7 @@ pub enum ByteSize {
 }
 
 impl ByteSize {
-    /// The bytes of a mode with buffers: of 7 bits in modes 0 and 1, else of 36.
+    /// Returns the bytes of a mode with buffers: of 7 bits in modes 0 and 1, else of 36.
     pub fn of_mode(mode: u32) -> ByteSize
         ensures { bits_of result ≡ byte_size mode }
     {
@@ -25,7 +26,7 @@ impl ByteSize {
         }
     }
 
-    /// How many bits a byte has.
+    /// Returns the number of bits in a byte.
     pub fn bits(self) -> u32
         ensures { result ≡ bits_of self }
     {
@@ -35,7 +36,7 @@ impl ByteSize {
         }
     }
 
-    /// How many bytes a word holds.
+    /// Returns the number of bytes in a word.
     pub fn count_in_word(self) -> usize
         ensures { result ≡ bytes_in_word (bits_of self) }
     {
@@ -45,7 +46,7 @@ impl ByteSize {
         }
     }
 
-    /// The byte pointer to an address: no position, the size of a byte, and the address.
+    /// Returns the byte pointer to an address: no position, the size of a byte, and the address.
     pub(crate) fn pointer(self, address: usize) -> Word
         requires { address < 2 ^ 24 }
         ensures { result ≡ pointer (bits_of self) address }

@@ -1,19 +1,20 @@
+//! Command lists, which name the words that IN and OUT move in dump mode.
 ghost use Rattle.std.specs.Prelude.{◌≡◌, ◌<◌, ◌≤◌, ◌+◌, ◌-◌, ◌^◌, ◌↔◌, All, [], ◌∷◌, Some, None, IsSome, IfSome};
 ghost use Rattle.std.specs.Prelude.{IfOk, IfErr, OnErr, length, slice_index};
 ghost use Rattle.words36.specs.Common.{left, right};
 ghost use Rattle.spec_machine.specs.Common.{dump_list, word_count};
 ghost use Rattle.usercore.specs.declared.error.CoreError.TheVariants.{AddressCheck};
 
-use crate::{Area, Core, CoreError, LARGEST_CORE};
+use crate::{Core, CoreArea, CoreError, LARGEST_CORE};
 use arrayvec::ArrayVec;
 
-/// How many command words of a list are looked at.
+/// The greatest number of command words of a list that are read.
 pub const MAX_COMMANDS: usize = 512;
 
 impl Core {
-    /// The area that the command list at an address names, where its first word names one and the word behind it ends
-    /// the list: most lists are such, and nothing has to be kept of them.
-    pub fn lone_area(&self, address: u32) -> Option<Area>
+    /// Returns the area that the command list at an address names, if its first word names one and the word after it
+    /// ends the list. Most lists are such, and nothing of them has to be stored.
+    pub fn lone_area(&self, address: u32) -> Option<CoreArea>
         ensures area { IfSome result (λ area. dump_list self.now address ≡ Some (area ∷ [])) }
         ensures within { IfSome result (λ area. area.first + area.count ≤ length self.now) }
         ensures some { IfSome result (λ area. 0 < area.count) }
@@ -33,17 +34,17 @@ impl Core {
         if left == 0 || next.bits() != 0 || first + count > self.length() {
             return None;
         }
-        Some(Area { first, count })
+        Some(CoreArea { first, count })
     }
 
-    /// What the command list at an address names: areas of words that lie in this core. The whole list is
-    /// read before anything is moved.
+    /// Returns what the command list at an address names: areas of words that lie in this core. The whole list is read
+    /// before anything is moved.
     ///
     /// # Errors
     ///
-    /// `AddressCheck` where a command word, or a word that it names, lies outside the core, where the list
-    /// has no end within 512 command words, and where it names more than 131,072 words.
-    pub fn dump_list(&self, address: u32) -> Result<ArrayVec<Area, MAX_COMMANDS>, CoreError>
+    /// `AddressCheck` if a command word, or a word that it names, is outside the core, if the list has no end within
+    /// 512 command words, and if it names more than 131,072 words.
+    pub fn dump_list(&self, address: u32) -> Result<ArrayVec<CoreArea, MAX_COMMANDS>, CoreError>
         ensures areas { IfOk result (λ areas. dump_list self.now address ≡ Some areas.items) }
         ensures within { IfOk result (λ areas. All (λ area. area.first + area.count ≤ length self.now) areas.items) }
         ensures some { IfOk result (λ areas. All (λ area. 0 < area.count) areas.items) }
@@ -76,7 +77,7 @@ impl Core {
             if first + count > self.length() {
                 return Err(CoreError::AddressCheck);
             }
-            areas.push(Area { first, count });
+            areas.push(CoreArea { first, count });
             total += count;
             address += 1;
         }

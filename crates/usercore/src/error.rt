@@ -1,3 +1,4 @@
+//! The errors of a core's calls.
 ghost use Rattle.std.specs.Prelude.{◌≡◌};
 
 use std::alloc::AllocError;
@@ -6,7 +7,7 @@ use thiserror::Error;
 /// Why a core wasn't made, read or changed.
 #[derive(Clone, Copy, Debug, PartialEq, Eq, Error)]
 pub enum CoreError {
-    /// A word that is named lies outside the core, or a ring or a command list isn't as it should be.
+    /// A word that is named is outside the core, or a ring or a command list isn't valid.
     #[error("address check")]
     AddressCheck,
     /// A growth was refused.

@@ -1,9 +1,10 @@
+//! A law about the words that a step changes.
 ghost use Rattle.std.specs.Prelude.{◌≡◌, ◌≤◌, ℕ, List, Some, length};
 ghost use Rattle.spec_machine.specs.Common.{after_writes, dealt, data_words, setup};
 ghost use Rattle.spec_machine.specs.declared.area.Area.{Area as Words};
 ghost use Rattle.usercore.specs.Common.{ChangesWithin, setup_areas, in_areas, out_areas, after_in, after_out};
 
-/// A step changes no words but those of its areas: words that are dealt out, a setup, an IN and an OUT.
+/// Proves that a step changes no words except those of its areas: dealing words out, a setup, an IN and an OUT.
 pub fn steps_change_their_areas()
     ensures dealt { (core : List ℕ) (areas : List Words) (words : List ℕ)
         → ChangesWithin areas core (after_writes core (dealt areas words)) }

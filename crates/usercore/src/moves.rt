@@ -1,13 +1,14 @@
+//! Moves of words into and out of a core.
 ghost use Rattle.std.specs.Prelude.{◌≡◌, ◌<◌, ◌≤◌, ◌+◌, ◌^◌, ◌↔◌, All, IsOk, IfOk, OnOk, OnErr, IfErr, length};
 ghost use Rattle.std.specs.Prelude.{slice_range};
 ghost use Rattle.spec_machine.specs.Common.{after_writes, placed, dealt, joined, word_count};
 ghost use Rattle.usercore.specs.declared.error.CoreError.TheVariants.{AddressCheck};
 
-use crate::{Area, Core, CoreError};
+use crate::{Core, CoreArea, CoreError};
 use words36::Word;
 
-/// How many words areas have together.
-pub fn word_count(areas: &[Area]) -> usize
+/// Returns the number of words that areas have together.
+pub fn word_count(areas: &[CoreArea]) -> usize
     requires { word_count areas.now ≤ 0o400000 }
     ensures { result ≡ word_count areas.now }
 {
@@ -19,12 +20,12 @@ pub fn word_count(areas: &[Area]) -> usize
 }
 
 impl Core {
-    /// The words of an area.
+    /// Returns the words of an area.
     ///
     /// # Errors
     ///
-    /// `AddressCheck` where not all of them lie in the core.
-    pub fn words(&self, area: Area) -> Result<&[Word], CoreError>
+    /// `AddressCheck` if they don't all lie in the core.
+    pub fn words(&self, area: CoreArea) -> Result<&[Word], CoreError>
         ensures words { IfOk result (λ words. words.now ≡ slice_range self.now area.first (area.first + area.count)) }
         ensures there { IsOk result ↔ (area.first + area.count ≤ length self.now) }
         ensures refused { IfErr result (λ error. error ≡ AddressCheck) }
@@ -35,11 +36,11 @@ impl Core {
         Ok(self.slice(area.first, area.count))
     }
 
-    /// Puts words from an address on.
+    /// Puts words at consecutive addresses, the first of them at `address`.
     ///
     /// # Errors
     ///
-    /// `AddressCheck` where not all of them would lie in the core, and nothing is changed.
+    /// `AddressCheck` if they wouldn't all lie in the core; nothing is changed then.
     pub fn put(&mut self, address: u32, words: &[Word]) -> Result<(), CoreError>
         ensures put { OnOk result (self.new ≡ after_writes self.old (placed address words.now)) }
         ensures there { IsOk result ↔ (address + length words.now ≤ length self.old) }
@@ -55,9 +56,8 @@ impl Core {
         Ok(())
     }
 
-    /// Deals words out to areas in their order, until either ends. The words of the areas that get none
-    /// stay.
-    pub fn deal(&mut self, areas: &[Area], words: &[Word])
+    /// Deals words out to areas in their order, until either ends. The words of the areas that get none stay.
+    pub fn deal(&mut self, areas: &[CoreArea], words: &[Word])
         requires { All (λ area. area.first + area.count ≤ length self.old) areas.now }
         ensures dealt { self.new ≡ after_writes self.old (dealt areas.now words.now) }
         ensures length { length self.new ≡ length self.old }
@@ -71,8 +71,8 @@ impl Core {
         }
     }
 
-    /// Copies the words of areas, joined in their order, into a slice that has room for just these.
-    pub fn gather(&self, areas: &[Area], words: &mut [Word])
+    /// Copies the words of areas, joined in their order, into a slice that has room for exactly these.
+    pub fn gather(&self, areas: &[CoreArea], words: &mut [Word])
         requires within { All (λ area. area.first + area.count ≤ length self.now) areas.now }
         requires room { length words.old ≡ word_count areas.now }
         ensures { words.new ≡ joined self.now areas.now }
@@ -85,7 +85,7 @@ impl Core {
         }
     }
 
-    /// Puts words from an address on: those outside the core are lost.
+    /// Puts words at consecutive addresses, the first of them at `first`. Those outside the core are lost.
     #[tactic(auto, using(spec_machine::proofs::CoreWrites::writes_length, crate::proofs::WriteLaws::placed_more))]
     pub(crate) fn place(&mut self, first: usize, words: &[Word])
         requires { first + length words.now < 2 ^ 64 }

@@ -1,3 +1,4 @@
+//! The writes of the steps of a ring, part by part.
 ghost use Rattle.std.specs.Prelude.{◌≡◌, ◌<◌, ◌≤◌, ◌+◌, ◌*◌, ◌^◌, Some, IsSome, length};
 ghost use Rattle.spec_machine.specs.Common.{after_writes, data_words, buffer_words, base, buffer_writes};
 ghost use Rattle.spec_machine.specs.Common.{unused_header, setup, with_ring, buffer_left, in_writes, put_behind};
@@ -13,9 +14,9 @@ use words36::{Half, Word};
 /// The left half of the first word of a header whose ring isn't in use.
 const UNUSED: u32 = 0o400000;
 
-/// What the steps of a ring write, part by part.
+/// The writes of the steps of a ring, part by part.
 impl Core {
-    /// The words of a header whose ring isn't in use: its first buffer, or 0.
+    /// Writes the words of a header whose ring isn't in use: they name its first buffer, or 0.
     fn put_header(&mut self, header: usize, bytes: ByteSize, first: usize)
         requires low { header < 2 ^ 32 }
         requires fits { first < 2 ^ 18 }
@@ -26,7 +27,7 @@ impl Core {
         self.place(header, &[name, bytes.pointer(0), Word::ZERO]);
     }
 
-    /// Gives a header its first words, where there is one.
+    /// Gives a header its first words, if there is one.
     pub(crate) fn open_header(&mut self, header: usize, bytes: ByteSize)
         requires { header < 2 ^ 32 }
         ensures opened { self.new ≡ after_writes self.old (header_unset header (bits_of bytes)) }
@@ -57,7 +58,7 @@ impl Core {
         self.put_header(header, bytes, base + 1);
     }
 
-    /// Links buffer k of a ring of so many.
+    /// Links buffer `k` of a ring of `count` buffers.
     fn link_buffer(&mut self, base: usize, count: usize, k: usize)
         requires there { k < count }
         requires fits { base + count * buffer_words ≤ 2 ^ 17 }
@@ -70,7 +71,7 @@ impl Core {
         self.place(base + k * BUFFER_WORDS, &[Word::ZERO, link, Word::ZERO]);
     }
 
-    /// Sets up a ring of two where the header names no buffer.
+    /// Sets up a ring of two if the header names no buffer.
     #[tactic(auto, using(std::proofs::lemmas::Bool::Decides::nat_tests), unfolding(spec_machine::specs::Rings::setup))]
     pub(crate) fn make_ready(&mut self, header: usize, bytes: ByteSize)
         requires low { header < 2 ^ 32 }
@@ -83,7 +84,7 @@ impl Core {
         }
     }
 
-    /// Fills the next buffer of a ring that is there.
+    /// Fills the next buffer of a ring that exists.
     #[tactic(auto, using(crate::proofs::WriteLaws::in_parts))]
     pub(crate) fn fill(&mut self, header: usize, bytes: ByteSize, status: IoStatus, words: &[Word])
         requires low { header < 2 ^ 32 }
@@ -98,7 +99,7 @@ impl Core {
         self.fill_buffer(header, bytes, status, words, target, in_use);
     }
 
-    /// The buffer that was the current one is no longer in use.
+    /// Marks the buffer that was the current one as no longer in use.
     fn leave_behind(&mut self, header: usize)
         ensures left { self.new ≡ after_writes self.old (buffer_left self.old header) }
         ensures length { length self.new ≡ length self.old }
@@ -109,7 +110,7 @@ impl Core {
         }
     }
 
-    /// Fills a buffer, whose own word becomes this one, and makes it the current one.
+    /// Fills a buffer, whose own word becomes `in_use`, and makes it the current one.
     #[tactic(auto, using(spec_machine::proofs::CoreWrites::writes_append))]
     fn fill_buffer(
         &mut self,
@@ -136,7 +137,7 @@ impl Core {
         self.name_buffer(header, bytes, buffer, count);
     }
 
-    /// Takes the current buffer away, and empties the one that follows.
+    /// Takes the current buffer away, and empties the one after it.
     #[tactic(auto, using(crate::proofs::WriteLaws::out_parts))]
     pub(crate) fn empty(&mut self, header: usize, bytes: ByteSize)
         requires { header < 2 ^ 32 }
@@ -148,7 +149,7 @@ impl Core {
         self.empty_buffer(header, bytes, target);
     }
 
-    /// The buffer that was the current one keeps its count, and is no longer in use.
+    /// Writes the count of the buffer that was the current one, and marks it as no longer in use.
     fn put_behind(&mut self, header: usize)
         requires { header < 2 ^ 32 }
         ensures put { self.new ≡ after_writes self.old (put_behind self.old header) }
@@ -178,7 +179,7 @@ impl Core {
         self.name_buffer(header, bytes, buffer, DATA_WORDS);
     }
 
-    /// The header's words: the current buffer, a byte pointer before its data, and so many words of bytes.
+    /// Writes the header's words: the current buffer, a byte pointer before its data, and the bytes of `count` words.
     fn name_buffer(&mut self, header: usize, bytes: ByteSize, buffer: usize, count: usize)
         requires low { header < 2 ^ 32 }
         requires fits { buffer < 2 ^ 18 }
@@ -191,7 +192,7 @@ impl Core {
         self.place(header, &[name, bytes.pointer(buffer + 1), held]);
     }
 
-    /// Marks the header of a side that closes, whose first word becomes this one.
+    /// Marks the header of a side that closes: its first word becomes `unused`.
     pub(crate) fn close_header(&mut self, header: usize, unused: Word)
         requires { header < 2 ^ 32 }
         ensures closed { self.new ≡ after_writes self.old (closed_by header unused) }

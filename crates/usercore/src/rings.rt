@@ -1,3 +1,4 @@
+//! The steps of a ring: OPEN, a setup, IN, OUT and CLOSE.
 ghost use Rattle.std.specs.Prelude.{ℕ, ◌≡◌, ◌<◌, ◌^◌, ◌++◌, Some, None, OnOk, OnErr, IfErr, length, take};
 ghost use Rattle.spec_machine.specs.Common.{after_writes, byte_size, data_words, setup, buffers_of, in_ready};
 ghost use Rattle.spec_machine.specs.Common.{out_ready, closed_header, header_opened};
@@ -10,8 +11,8 @@ use spec_machine::IoStatus;
 use words36::Word;
 
 impl Core {
-    /// Gives the headers that an OPEN names their first words, the output's first: a ring that isn't set up
-    /// yet. Address 0 is no header.
+    /// Gives the headers that an OPEN names their first words, the output's first: a ring that isn't set up yet.
+    /// Address 0 is no header.
     pub fn ring_open(&mut self, output: u32, input: u32, bytes: ByteSize)
         ensures opened { (mode : ℕ) → byte_size mode ≡ bits_of bytes
             → self.new ≡ after_writes self.old (header_opened mode output ++ header_opened mode input) }
@@ -21,12 +22,12 @@ impl Core {
         self.open_header(input as usize, bytes);
     }
 
-    /// Sets up a ring of so many buffers, where 0 means 2, at the place that job word 121 (octal) names, which
-    /// then names what is behind it.
+    /// Sets up a ring of `buffers` buffers, where 0 means 2, at the place that job word 121 (octal) names. After that,
+    /// this word names the place after the ring.
     ///
     /// # Errors
     ///
-    /// `AddressCheck` where the buffers or the header don't lie in the core, and nothing is changed.
+    /// `AddressCheck` if the buffers or the header don't lie in the core; nothing is changed then.
     #[tactic(auto, using(std::proofs::lemmas::Bool::Decides::nat_tests), unfolding(spec_machine::specs::Rings::setup))]
     pub fn ring_setup(
         &mut self,
@@ -49,12 +50,12 @@ impl Core {
         Ok(())
     }
 
-    /// Fills the next buffer of a ring with words, at most 200 (octal), and writes the status before them: an
-    /// IN. Where the header names no buffer, a ring of two is set up first.
+    /// Does an IN: fills the next buffer of a ring with words, at most 200 (octal), and writes the status before them.
+    /// If the header names no buffer, a ring of two is set up first.
     ///
     /// # Errors
     ///
-    /// `AddressCheck` where `ring_check` has it, and nothing is changed.
+    /// `AddressCheck` if `ring_check` returns it; nothing is changed then.
     pub fn ring_in(
         &mut self,
         header: u32,
@@ -76,12 +77,12 @@ impl Core {
         Ok(())
     }
 
-    /// Takes the current buffer of a ring away and gives the next one to be filled: an OUT, whose words
-    /// `ring_check` names beforehand. Where the header names no buffer, a ring of two is set up first.
+    /// Does an OUT: takes the current buffer of a ring away, and gives the next one to be filled. `ring_check` names
+    /// its words beforehand. If the header names no buffer, a ring of two is set up first.
     ///
     /// # Errors
     ///
-    /// `AddressCheck` where `ring_check` has it, and nothing is changed.
+    /// `AddressCheck` if `ring_check` returns it; nothing is changed then.
     pub fn ring_out(&mut self, header: u32, bytes: ByteSize) -> Result<(), CoreError>
         ensures done { OnOk result (after_out self.old header (bits_of bytes) ≡ Some self.new) }
         ensures none { OnErr result (out_ready self.old header (bits_of bytes) ≡ None) }
@@ -96,8 +97,8 @@ impl Core {
         Ok(())
     }
 
-    /// Marks the headers of the sides that close, the output's first. Both are read before. Address 0 is no
-    /// header, or one of a side that stays.
+    /// Marks the headers of the sides that close, the output's first. Both are read before that. Address 0 means that
+    /// there is no header, or that the side stays open.
     pub fn ring_close(&mut self, output: u32, input: u32)
         ensures closed { self.new
             ≡ after_writes self.old (closed_header self.old output ++ closed_header self.old input) }
@@ -109,7 +110,7 @@ impl Core {
     }
 }
 
-/// How many buffers a number asks for.
+/// Returns the number of buffers that an argument means: 2 for 0.
 pub(crate) fn buffers_of(buffers: u32) -> usize
     ensures value { result ≡ buffers_of buffers }
     ensures fits { result < 2 ^ 32 }

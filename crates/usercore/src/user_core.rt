@@ -1,3 +1,4 @@
+//! A job's core, and its words.
 ghost use Rattle.std.specs.Prelude.{◌≡◌, ◌<◌, ◌≤◌, ◌+◌, ◌↔◌, ◌⊎◌, IsOk, IfOk, IfErr, OnErr, IsErrOf, length};
 ghost use Rattle.std.specs.Prelude.{replicate, All, slice_index, slice_range, slice_set};
 ghost use Rattle.words36.specs.Common.{IsWord};
@@ -9,13 +10,13 @@ use std::alloc::Global;
 use std::marker::Model;
 use words36::{Half, Word};
 
-/// How many words the smallest core has.
+/// The number of words in the smallest core.
 pub const SMALLEST_CORE: u32 = 0o1000;
 
-/// How many words the largest core has.
+/// The number of words in the largest core.
 pub const LARGEST_CORE: u32 = 0o400000;
 
-/// The address of the job word whose right half says where the next ring of buffers goes.
+/// The address of the job word whose right half names the place of the next ring of buffers.
 pub const FIRST_FREE: u32 = 0o121;
 
 /// The address of the first word of a job's first ring.
@@ -38,7 +39,7 @@ impl Model for Core {
     ghost invariant = { λ c. IsCore c.words.items };
 }
 
-/// Says of words what each of them ensures. Nothing is done.
+/// Proves of words what each of them ensures. It does nothing.
 fn see_words(words: &[Word])
     ensures { All IsWord words.now }
 {
@@ -48,13 +49,13 @@ fn see_words(words: &[Word])
 }
 
 impl Core {
-    /// The core of a job that logs in: zeros, but that word 121 (octal) holds 140 (octal), where the
-    /// first ring of buffers goes.
+    /// Returns the core of a job that logs in: zeros, except that word 121 (octal) is 140 (octal), where the first ring
+    /// of buffers goes.
     ///
     /// # Errors
     ///
-    /// `AddressCheck` for a number of words that isn't 1000 to 400000 (octal); `NoMemory` where the words
-    /// find no room.
+    /// `AddressCheck` for a number of words that isn't 1000 to 400000 (octal); `NoMemory` if there is no memory for the
+    /// words.
     pub fn new(alloc: Global, words: u32) -> Result<Core, CoreError>
         ensures fresh { IfOk result (λ core. core ≡ slice_set (replicate words 0) first_free rings_begin) }
         ensures length { IfOk result (λ core. length core ≡ words) }
@@ -68,7 +69,7 @@ impl Core {
         Ok(Core { words })
     }
 
-    /// How many words there are.
+    /// Returns the number of words.
     pub fn length(&self) -> usize
         ensures value { result ≡ length self.now }
         ensures least { 0o1000 ≤ result }
@@ -77,7 +78,7 @@ impl Core {
         self.words.len()
     }
 
-    /// The word at an address.
+    /// Returns the word at an address.
     ///
     /// # Errors
     ///
@@ -98,7 +99,7 @@ impl Core {
     ///
     /// # Errors
     ///
-    /// `AddressCheck` for an address outside the core, and nothing is changed.
+    /// `AddressCheck` for an address outside the core; nothing is changed then.
     pub fn set_word(&mut self, address: u32, word: Word) -> Result<(), CoreError>
         ensures put { self.new ≡ slice_set self.old address word }
         ensures length { length self.new ≡ length self.old }
@@ -114,7 +115,7 @@ impl Core {
         Ok(())
     }
 
-    /// Lets the next ring of buffers go where a job's first one does, as RESET does: the right half of word
+    /// Resets the place of the next ring of buffers to that of a job's first one, as RESET does: the right half of word
     /// 121 (octal) becomes 140 (octal).
     pub fn reset_rings(&mut self)
         ensures reset { self.new ≡ with_right self.old first_free rings_begin }
@@ -124,7 +125,7 @@ impl Core {
         self.words[FIRST_FREE as usize] = Word::from_halves(left, Half::from_bits(RINGS_BEGIN));
     }
 
-    /// The word at an address, 0 outside the core.
+    /// Returns the word at an address, or 0 outside the core.
     pub(crate) fn read(&self, address: usize) -> Word
         ensures word { result ≡ slice_index self.now address }
         ensures fits { IsWord result }
@@ -132,7 +133,7 @@ impl Core {
         self.words.get(address).copied().unwrap_or(Word::ZERO)
     }
 
-    /// Puts a word at an address: outside the core it is lost.
+    /// Puts a word at an address; outside the core it is lost.
     pub(crate) fn write(&mut self, address: usize, word: Word)
         ensures put { self.new ≡ slice_set self.old address word }
         ensures length { length self.new ≡ length self.old }
@@ -142,7 +143,8 @@ impl Core {
         }
     }
 
-    /// Puts words from an address on, of which all lie in the core: they are copied at once.
+    /// Puts words at consecutive addresses, the first of them at `first`. All of them lie in the core, so they are
+    /// copied at once.
     pub(crate) fn overwrite(&mut self, first: usize, words: &[Word])
         requires { first + length words.now ≤ length self.old }
         ensures placed { self.new ≡ after_writes self.old (placed first words.now) }
@@ -152,7 +154,7 @@ impl Core {
         self.words[first..first + words.len()].copy_from_slice(words);
     }
 
-    /// Words in a row that lie in the core.
+    /// Returns consecutive words, all of which lie in the core.
     pub(crate) fn slice(&self, first: usize, count: usize) -> &[Word]
         requires { first + count ≤ length self.now }
         ensures { result.now ≡ slice_range self.now first (first + count) }

@@ -2,6 +2,6 @@
 pub mod Entries
 pub mod Removals
 pub mod Places
-pub mod Core
+pub mod Memory
 pub mod Law
 pub mod Transactions

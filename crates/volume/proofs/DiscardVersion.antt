@@ -1,2 +1,2 @@
 -- A version is dropped.
-pub mod Core
+pub mod Memory

@@ -3,5 +3,5 @@ pub mod Transactions
 pub mod Law
 pub mod Lists
 pub mod Entries
-pub mod MakingDirectories
+pub mod MadeDirectories
 pub mod Places

@@ -4,11 +4,11 @@ pub mod Law
 pub mod Entries
 pub mod Keys
 pub mod Slots
-pub mod Core
+pub mod Memory
 pub mod UsedVersions
-pub mod MakingCurrent
-pub mod BecomingCurrent
-pub mod Supplying
+pub mod StepPremises
+pub mod CurrentVersion
+pub mod Preallocs
 pub mod Blocks
 pub mod Transactions
 pub mod Publications

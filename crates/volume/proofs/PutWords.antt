@@ -1,3 +1,3 @@
 -- Words are put into a version.
-pub mod Core
+pub mod Memory
 pub mod Disk

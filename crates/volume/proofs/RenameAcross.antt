@@ -1,10 +1,10 @@
 -- A file moves to another directory.
 pub mod Places
-pub mod Core
+pub mod Memory
 pub mod Refusals
-pub mod Arriving
-pub mod Leaving
-pub mod MovingAcross
+pub mod Arrivals
+pub mod Departures
+pub mod Moves
 pub mod Law
 pub mod Transactions
 pub mod PrimesRead

@@ -3,6 +3,6 @@ pub mod Entries
 pub mod Renamings
 pub mod Law
 pub mod Places
-pub mod Core
+pub mod Memory
 pub mod Transactions
 pub mod Refusals

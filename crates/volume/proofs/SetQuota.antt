@@ -1,5 +1,5 @@
 -- A directory gets another quota.
 pub mod Entries
-pub mod Core
+pub mod Memory
 pub mod Law
 pub mod Transactions

@@ -3,13 +3,13 @@ pub mod Quotas
 pub mod HomeCopies
 pub mod FreshTable
 pub mod FreshVolume
-pub mod Finding
+pub mod FileFaults
 pub mod FoundFiles
 pub mod FoundDirectories
 pub mod FaultyDirectories
 pub mod FaultyMaps
 pub mod FoundMaps
-pub mod Opening
+pub mod Opens
 pub mod Starts
-pub mod LiveOpening
+pub mod LiveVersions
 pub mod ReadTurns

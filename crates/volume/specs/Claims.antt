@@ -1,4 +1,4 @@
--- A place is claimed where a version is being written for it.
+-- A place is claimed if a version is being written for it.
 use Rattle.std.specs.Prelude.{Bool, false, List, Option, None, Some}
 use Rattle.std.specs.List.{list_any}
 use Rattle.spec_image.specs.Common.{Place, same_place, place_of}

@@ -1,4 +1,4 @@
--- What is kept in core of a file: all but its words.
+-- What is in memory of a file: everything except its words.
 use Rattle.std.specs.Prelude.{ℕ, List, length}
 use Rattle.spec_image.specs.Common.{StoredFile}
 use Rattle.retrieval.specs.Common.{mode_number, VersionState}

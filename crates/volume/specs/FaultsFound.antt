@@ -1,19 +1,20 @@
--- What a reader that stops has met: the fault that its refusal names, in the part of the disk that it was
--- to read, in the layout of the disk. `marks` tells how often each block was reached before that part.
+-- What a reader that stops has met: the fault that its refusal names, in the part of the disk that it had to read, in
+-- the layout of the disk. `marks` tells how often each block was reached before that part.
 use Rattle.std.specs.Prelude.{◌≡◌, ℕ, ◌+◌, ◌≤◌, ◌⊎◌, Bool, List, Some}
 use Rattle.std.specs.List.{AllByRecursion}
 use Rattle.std.specs.Ordering.{nat_cmp}
 use Rattle.std.specs.FinMap.Entries.{find}
 use Rattle.words36.specs.declared.names.FileName.{FileName}
 use Rattle.blockdisk.specs.Common.{Contents}
-use Rattle.spec_image.specs.Common.{EachOnce, total, Place, name_cmp, Node, items, MasterEntry, FileEntry, file_words}
+use Rattle.spec_image.specs.Common.{EachOnce, total, Place, name_cmp, Node, items, SpecMasterEntry, SpecFileEntry}
+use Rattle.spec_image.specs.Common.{file_words}
 use Rattle.spec_image.specs.Common.{IsFileEntry, place_of, LeadsAlong, InSpace, IsBadVersion, ReadFile, ReadDirectory}
 use Rattle.spec_image.specs.Common.{times_in_file, times_in_directory, IsFileRead, IsDirectoryRead, IsSettledFault}
 use Rattle.spec_image.specs.Common.{HasFault}
 use Rattle.alloctab.specs.Common.{InTable}
 use Rattle.directory.specs.Common.{IsBadChain}
 use Rattle.directory.specs.declared.error.DirectoryError.{DirectoryError}
-use Rattle.volume.specs.FileReading.{IsOtherPlace, IsReachedTwice, IsDamagedData}
+use Rattle.volume.specs.FileRead.{IsOtherPlace, IsReachedTwice, IsDamagedData}
 use Rattle.volume.specs.declared.error.VolumeError.{VolumeError}
 use Rattle.volume.specs.declared.error.VolumeError.TheVariants.{NotVolume, BadHome, BadLog, BadDirectory}
 use Rattle.volume.specs.declared.error.VolumeError.TheVariants.{BadRetrieval, BlockTwice, TableWrong, Device}
@@ -21,7 +22,7 @@ use Rattle.volume.specs.declared.error.VolumeError.TheVariants.{NoMemory, Failed
 use Rattle.spec_image.specs.Faults as faults
 use Rattle.directory.specs.declared.error.DirectoryError.TheVariants as directory
 
--- A block that a refusal names lies in the free space; that of TableWrong is one of the table. It holds on every
+-- A block that a refusal names lies in the free space; that of TableWrong is one of the table. This holds on every
 -- disk, since numbers are checked before a block is read.
 abbrev pub NamesInSpace : ℕ → VolumeError → Type 0
 NamesInSpace size (BadDirectory n) = InSpace size n
@@ -31,7 +32,7 @@ NamesInSpace size (BadData n) = InSpace size n
 NamesInSpace size (TableWrong n) = InTable size n
 NamesInSpace size error = Unit {0}
 
--- what a chain that can't be read is refused with
+-- the refusal for a chain that can't be read
 abbrev pub error_of_chain : DirectoryError → VolumeError
 error_of_chain (directory.BadDirectory n) = BadDirectory n
 error_of_chain (directory.BlockTwice n) = BlockTwice n
@@ -56,8 +57,8 @@ IsFaultOfFile size layout contents reached place prime (BadData n) = IsDamagedDa
 
 -- The files of one directory, given by its PPN and its entries.
 
--- Block n, of a version that an entry names, is not as it should be.
-pub record IsBadFileOf (size layout : ℕ) (contents : Contents) (ppn : ℕ) (entries : List FileEntry) (n : ℕ) : Type 0
+-- Block n, of a version that an entry names, is invalid.
+pub record IsBadFileOf (size layout : ℕ) (contents : Contents) (ppn : ℕ) (entries : List SpecFileEntry) (n : ℕ) : Type 0
   where
     pub name : FileName
     pub prime : ℕ
@@ -66,21 +67,21 @@ pub record IsBadFileOf (size layout : ℕ) (contents : Contents) (ppn : ℕ) (en
         ⊎ ((n ≡ prime) × IsOtherPlace layout contents (place_of ppn name) prime)
 
 -- Block n is a damaged data block.
-pub record IsBadDataOf (layout : ℕ) (contents : Contents) (ppn : ℕ) (entries : List FileEntry) (n : ℕ) : Type 0 where
+pub record IsBadDataOf (layout : ℕ) (contents : Contents) (ppn : ℕ) (entries : List SpecFileEntry) (n : ℕ) : Type 0 where
   pub name : FileName
   pub prime : ℕ
   pub entry : find name_cmp name entries ≡ Some prime
   pub bad : IsDamagedData layout contents (place_of ppn name) prime n
 
 -- Block n was reached twice.
-pub record IsTwiceInFiles (layout : ℕ) (contents : Contents) (marks : ℕ → ℕ) (ppn : ℕ) (entries : List FileEntry)
+pub record IsTwiceInFiles (layout : ℕ) (contents : Contents) (marks : ℕ → ℕ) (ppn : ℕ) (entries : List SpecFileEntry)
     (n : ℕ) : Type 0 where
   pub files : List (FileName × ReadFile)
   pub once : EachOnce name_cmp files
   pub read : AllByRecursion (IsFileRead layout contents ppn entries) files
   pub twice : 2 ≤ marks n + total (λ e. times_in_file n e.1) files
 
-abbrev pub IsFaultOfFiles : ℕ → ℕ → Contents → (ℕ → ℕ) → ℕ → List FileEntry → VolumeError → Type 0
+abbrev pub IsFaultOfFiles : ℕ → ℕ → Contents → (ℕ → ℕ) → ℕ → List SpecFileEntry → VolumeError → Type 0
 IsFaultOfFiles size layout contents marks ppn entries NotVolume = ⊥
 IsFaultOfFiles size layout contents marks ppn entries BadHome = ⊥
 IsFaultOfFiles size layout contents marks ppn entries BadLog = ⊥
@@ -95,13 +96,13 @@ IsFaultOfFiles size layout contents marks ppn entries (BadData n) = IsBadDataOf 
 
 -- One directory, given by its PPN and its first block.
 
--- Block n of its chain is not as it should be.
+-- Block n of its chain is invalid.
 abbrev pub IsBadFileChain : ℕ → Contents → ℕ → ℕ → Type 0
 IsBadFileChain size contents first n = IsBadChain name_cmp file_words IsFileEntry (λ e. e.1) size contents first n
 
 -- Its chain was walked so far, and a file of it has this fault.
-pub record IsInChain (contents : Contents) (first : ℕ) (Fault : List FileEntry → Type 0) : Type 0 where
-  pub nodes : List (Node FileEntry)
+pub record IsInChain (contents : Contents) (first : ℕ) (Fault : List SpecFileEntry → Type 0) : Type 0 where
+  pub nodes : List (Node SpecFileEntry)
   pub last : ℕ
   pub walk : LeadsAlong file_words contents first nodes last
   pub fault : Fault (items nodes)
@@ -131,21 +132,21 @@ IsFaultOfDirectory size layout contents marks ppn first (BadData n) = IsInChain 
 -- The directories that the master directory names, given by its entries.
 
 -- One of them has this fault.
-pub record IsInEntry (entries : List MasterEntry) (Fault : ℕ → ℕ → Type 0) : Type 0 where
+pub record IsInEntry (entries : List SpecMasterEntry) (Fault : ℕ → ℕ → Type 0) : Type 0 where
   pub ppn : ℕ
   pub word : ℕ
   pub first : ℕ
   pub entry : find nat_cmp ppn entries ≡ Some (word, first)
   pub fault : Fault ppn first
 
-pub record IsTwiceInDirectories (layout : ℕ) (contents : Contents) (marks : ℕ → ℕ) (entries : List MasterEntry)
+pub record IsTwiceInDirectories (layout : ℕ) (contents : Contents) (marks : ℕ → ℕ) (entries : List SpecMasterEntry)
     (n : ℕ) : Type 0 where
   pub directories : List (ℕ × ReadDirectory)
   pub once : EachOnce nat_cmp directories
   pub read : AllByRecursion (IsDirectoryRead layout contents entries) directories
   pub twice : 2 ≤ marks n + total (λ e. times_in_directory n e.1) directories
 
-abbrev pub IsFaultOfDirectories : ℕ → ℕ → Contents → (ℕ → ℕ) → List MasterEntry → VolumeError → Type 0
+abbrev pub IsFaultOfDirectories : ℕ → ℕ → Contents → (ℕ → ℕ) → List SpecMasterEntry → VolumeError → Type 0
 IsFaultOfDirectories size layout contents marks entries NotVolume = ⊥
 IsFaultOfDirectories size layout contents marks entries BadHome = ⊥
 IsFaultOfDirectories size layout contents marks entries BadLog = ⊥
@@ -168,9 +169,9 @@ IsTableRefusal Device = Unit {0}
 IsTableRefusal NoMemory = Unit {0}
 IsTableRefusal error = ⊥
 
--- The whole disk. Device and want of memory are no faults of contents.
+-- The whole disk. A failure of the device and a lack of memory are no faults of contents.
 
--- the fault stands in settled contents
+-- settled contents have the fault
 abbrev pub SettledRefuses : ℕ → Contents → VolumeError → Type 0
 SettledRefuses size settled NotVolume = IsSettledFault size settled faults.StartFault.NotVolume
 SettledRefuses size settled BadHome = IsSettledFault size settled faults.StartFault.BadHome
@@ -184,7 +185,7 @@ SettledRefuses size settled NoMemory = Unit {0}
 SettledRefuses size settled Failed = ⊥
 SettledRefuses size settled (BadData n) = IsSettledFault size settled (faults.StartFault.BadData n)
 
--- the fault stands in the contents of a disk, whatever its gate
+-- the contents of a disk have the fault, whatever their gate
 abbrev pub Refuses : ℕ → Contents → VolumeError → Type 0
 Refuses size contents NotVolume = HasFault size contents faults.StartFault.NotVolume
 Refuses size contents BadHome = HasFault size contents faults.StartFault.BadHome

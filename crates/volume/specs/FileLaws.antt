@@ -1,11 +1,11 @@
--- What was found of a file is what the file is, but for its words.
+-- What was found of a file is what the file is, except its words.
 use Rattle.std.specs.Prelude.{◌≡◌, ℕ, ◌∷◌, ◌++◌}
 use Rattle.blockdisk.specs.Common.{Contents}
 use Rattle.spec_image.specs.Common.{times, Place, reaches_in_file}
 use Rattle.retrieval.specs.Common.{VersionState}
 use Rattle.retrieval.specs.declared.prime.Prime.{Prime as PrimeValue}
 use Rattle.volume.specs.Facts.{facts_of, known_facts}
-use Rattle.volume.specs.FileReading.{IsFileFound}
+use Rattle.volume.specs.FileRead.{IsFileFound}
 
 pub facts_found : (layout : ℕ) (contents : Contents) (place : Place) (at : ℕ) (prime : PrimeValue) (v : VersionState)
     → (found : IsFileFound layout contents place at prime v)

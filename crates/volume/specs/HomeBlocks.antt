@@ -2,10 +2,10 @@
 use Rattle.std.specs.Prelude.{◌≡◌, ℕ, ◌≤◌}
 use Rattle.blockdisk.specs.Common.{Contents, DiskState, MayLeave}
 
--- they hold what they held
+-- they have the words that they had
 abbrev pub KeepsHomes : Contents → Contents → Type 0
 KeepsHomes old new = (n : ℕ) → n ≤ 2 → new n ≡ old n
 
--- they hold what they do in something that a crash could leave before
+-- they have the words that they have in something that a crash could leave before
 abbrev pub HasHomesFrom : DiskState → Contents → Type 0
 HasHomesFrom s c = (d : Contents) × MayLeave s d × KeepsHomes d c

@@ -1,8 +1,8 @@
--- What a home copy says, and what a volume holds that was just made.
+-- What a home copy says, and what a new volume has.
 use Rattle.std.specs.Prelude.{◌≡◌, ◌⊎◌, ℕ, ◌+◌, ◌-◌, ◌<◌, ◌≤◌, ◌==◌, nat_lt, if◌then◌else◌, List, [], ◌∷◌, replicate}
 use Rattle.std.specs.Prelude.{Some}
 use Rattle.blockdisk.specs.Common.{Contents}
-use Rattle.spec_image.specs.Common.{table_blocks, table_start, space_start, Home, home_block, IsHomeCopy}
+use Rattle.spec_image.specs.Common.{table_blocks, table_start, space_start, SpecHome, home_block, IsHomeCopy}
 use Rattle.spec_image.specs.Common.{layout_number, InSpace, HasName, found_map, DiskMap}
 use Rattle.alloctab.specs.Common.{table_words}
 use Rattle.volume.specs.declared.home.HomeCopy.{HomeCopy}
@@ -11,12 +11,12 @@ use Rattle.volume.specs.declared.home.HomeCopy.TheVariants.{Valid, Named, Unname
 -- Home copies.
 
 -- what a home copy says that names this layout and this first block of the master directory
-abbrev pub home_in : ℕ → ℕ → Home
+abbrev pub home_in : ℕ → ℕ → SpecHome
 home_in layout master = record { layout = layout; master = master }
 
--- the copy in block n is not valid, whatever it may say
+-- the copy in block n isn't valid, whatever it says
 abbrev pub IsNoCopy : ℕ → Contents → ℕ → Type 0
-IsNoCopy size contents n = (home : Home) → IsHomeCopy size contents n home → ⊥
+IsNoCopy size contents n = (home : SpecHome) → IsHomeCopy size contents n home → ⊥
 
 -- What was found is what the copy in block n says.
 abbrev pub IsFound : ℕ → Contents → ℕ → HomeCopy → Type 0
@@ -34,7 +34,7 @@ IsFoundInSpace size Unnamed = Unit {0}
 abbrev pub holds_words : List ℕ → Contents
 holds_words words n = Some words
 
--- A volume that was just made.
+-- A new volume.
 
 -- the blocks that are written
 abbrev pub IsInitBlock : ℕ → ℕ → Type 0
@@ -44,7 +44,7 @@ IsInitBlock size n = (n ≤ 4) ⊎ ((table_start size ≤ n) × (n ≤ space_sta
 abbrev pub bit_below : ℕ → ℕ → ℕ
 bit_below limit n = if nat_lt n limit then 1 else 0
 
--- the bits of its table: the fixed regions, and the master directory's block behind them
+-- the bits of its table: the fixed regions, and the first block of the master directory after them
 abbrev pub fresh_bit : ℕ → ℕ → ℕ
 fresh_bit size n = bit_below (space_start size + 1) n
 

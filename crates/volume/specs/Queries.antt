@@ -1,4 +1,4 @@
--- What the calls answer that only look at the files.
+-- The answers of calls that only read the files.
 use Rattle.std.specs.Prelude.{◌≡◌, ℕ, ◌+◌, ◌-◌, length, ℤ, pos, ◌-ℤ◌, slice_get, Option, None, Some, Result, Ok, Err}
 use Rattle.words36.specs.declared.names.FileName.{FileName}
 use Rattle.spec_image.specs.Common.{blocks_of, cost_of_files, File, Files, Directory, name_cmp, get, space_start}
@@ -6,17 +6,17 @@ use Rattle.spec_image.specs.declared.entry.Entry.{Entry}
 use Rattle.spec_image.specs.declared.code.ErrorCode.TheVariants.{NoDirectory, NotFound}
 use Rattle.retrieval.specs.Common.{mode_number}
 use Rattle.directory.specs.Common.{StandsAt}
-use Rattle.volume.specs.Known.{KnownVersion, KnownDirectory}
+use Rattle.volume.specs.CurrentMap.{CurrentVersion, CurrentDirectory}
 use Rattle.volume.specs.declared.error.CallError.{CallError}
 use Rattle.volume.specs.declared.file_facts.FileFacts.{FileFacts}
 use Rattle.volume.specs.declared.error.CallError.TheVariants.{Refused, Device, NoMemory, Failed}
 
--- the blocks of the free space less what the files cost, and what is booked beyond: a whole number that may be
+-- the blocks of the free space less what the files cost, and what is booked beyond them: a whole number that may be
 -- below 0
 abbrev pub room_of : ℕ → Files File → ℕ → ℤ
 room_of size files beyond = pos (size - space_start size) -ℤ pos (cost_of_files files + beyond)
 
--- the protection of the directory that there is, or none
+-- the protection of the directory, if there is one
 abbrev pub protection_answer : Option (Directory File) → Result ℕ CallError
 protection_answer None = Err (Refused NoDirectory)
 protection_answer (Some d) = Ok d.protection
@@ -37,22 +37,22 @@ pub record IsShown (file : File) (facts : FileFacts) : Type 0 where
   pub words : facts.words ≡ length file.body
   pub blocks : facts.blocks ≡ blocks_of (length file.body)
 
--- What is answered for a file that there is, or for none.
+-- The answer for a file, or for none.
 abbrev pub IsFileAnswer : Result FileFacts CallError → Option File → Type 0
 IsFileAnswer answer None = answer ≡ Err (Refused NotFound)
 IsFileAnswer answer (Some file) = (facts : FileFacts) × (answer ≡ Ok facts) × IsShown file facts
 
--- The same for a name in a directory that there is, or in none.
+-- The same for a name in a directory, or in none.
 abbrev pub IsLookAnswer : FileName → Result FileFacts CallError → Option (Directory File) → Type 0
 IsLookAnswer name answer None = answer ≡ Err (Refused NoDirectory)
 IsLookAnswer name answer (Some d) = IsFileAnswer answer (get d.files name)
 
--- The version of the entry with this name in a directory in core, and its facts.
-pub record IsNamedVersion (d : KnownDirectory) (name : FileName) (facts : FileFacts) : Type 0 where
+-- The version of the entry with this name in a directory in memory, and its facts.
+pub record IsNamedVersion (d : CurrentDirectory) (name : FileName) (facts : FileFacts) : Type 0 where
   pub place : ℕ
   pub prime : ℕ
   pub at : StandsAt name_cmp d.chain.entries name prime place
-  pub version : KnownVersion
+  pub version : CurrentVersion
   pub version_at : slice_get d.versions place ≡ Some version
   pub protection : facts.protection ≡ version.prime.protection
   pub mode : facts.mode ≡ version.prime.mode
@@ -72,8 +72,8 @@ line e = record {
   blocks = blocks_of (length e.1.body);
 }
 
--- The line of the entry with this name in a directory in core.
-abbrev pub IsLine : KnownDirectory → FileName → Entry → Type 0
+-- The line of the entry with this name in a directory in memory.
+abbrev pub IsLine : CurrentDirectory → FileName → Entry → Type 0
 IsLine d name l = (facts : FileFacts) × IsNamedVersion d name facts
     × (l ≡ record {
       name = name;
@@ -85,7 +85,7 @@ IsLine d name l = (facts : FileFacts) × IsNamedVersion d name facts
       blocks = facts.blocks;
     })
 
--- What a list is refused by.
+-- Why a list is refused.
 abbrev pub IsListError : CallError → Type 0
 IsListError (Refused code) = code ≡ NoDirectory
 IsListError Device = ⊥

@@ -1,3 +1,4 @@
+//! The beginning of a version that will be written, and what it costs.
 ghost use Rattle.std.specs.Prelude.{◌≡◌, ◌↔◌, ◌⊎◌, ◌+◌, ◌<◌, ◌≤◌, ◌^◌, ℕ, true, false, if◌then◌else◌, None, Some};
 ghost use Rattle.std.specs.Prelude.{slice_get, is_none, length, IfOk, IfErr, OnErr, IsErr, IsErrOf, IfSome, IsSome};
 ghost use Rattle.std.specs.Prelude.{IsTrue};
@@ -10,8 +11,8 @@ ghost use Rattle.spec_image.specs.Common.{most_blocks, growth};
 ghost use Rattle.alloctab.specs.Common.{space};
 ghost use Rattle.volume.specs.Common.{begin_cost, entries_with, is_absent, is_update, begun, version_before};
 ghost use Rattle.volume.specs.Common.{IsBefore, IsBegun, IsBeginRefusal, IsDirectoryOf, IsMisfit, Before};
-ghost use Rattle.volume.specs.Common.{KnownDirectory, IsNamed, cost_before, as_known, creates, is_create, pending_at};
-ghost use Rattle.volume.specs.Common.{slot, IsWholeCore, core_of, BeginsWithFile, RestsAt};
+ghost use Rattle.volume.specs.Common.{CurrentDirectory, IsNamed, cost_before, as_known, creates, is_create, pending_at};
+ghost use Rattle.volume.specs.Common.{slot, IsWholeMemory, memory_of, BeginsWithFile, RestsAt};
 ghost use Rattle.volume.specs.declared.error.CallError.TheVariants.{Refused, Device, Failed};
 
 use crate::CallError;
@@ -19,10 +20,10 @@ use crate::blocks::hold_blocks;
 use crate::cost::version_cost;
 use crate::handles::Pending;
 use crate::live::{LiveMap, LiveVersion};
-use crate::map::Volume;
-use crate::pending::{Kind, PendingVersion};
+use crate::pending::{PendingKind, PendingVersion};
 use crate::pins::find_version;
 use crate::query::directory_place;
+use crate::volume::Volume;
 use blockdisk::{Disk, NoMemory};
 use retrieval::{Prime, Version};
 use slab::Slab;
@@ -31,18 +32,18 @@ use spec_image::layout::BLOCK_ENTRIES;
 use std::alloc::Global;
 use words36::{FileName, Ppn};
 
-/// 1 for a version that will be a new entry of this directory, else 0.
+/// Returns 1 if a version will be a new entry of this directory, else 0.
 fn creates(version: &PendingVersion, ppn: Ppn) -> u64
     ensures { result ≡ creates ppn (Some version.now) }
 {
     u64::from(version.kind.is_create() && version.prime.ppn == ppn)
 }
 
-/// How many entries are being created in a directory.
+/// Returns how many entries are being created in a directory.
 pub(crate) fn creations(pending: &Slab<PendingVersion>, ppn: Ppn) -> u64
     ensures { result ≡ total (creates ppn) pending.now.slots }
 {
-    let _count = pending.len(); // no more than a number of 64 bits says
+    let _count = pending.len(); // its length fits in 64 bits
     let mut count = 0;
     for (_, version) in pending.iter() {
         count += creates(version, ppn);
@@ -50,7 +51,7 @@ pub(crate) fn creations(pending: &Slab<PendingVersion>, ppn: Ppn) -> u64
     count
 }
 
-/// By how much the cost of a directory of so many entries grows with one more.
+/// Returns by how many blocks the cost of a directory of `entries` entries grows with one more.
 fn growth(entries: u64) -> u32
     ensures value { result ≡ growth entries }
     ensures few { result < 2 }
@@ -58,45 +59,45 @@ fn growth(entries: u64) -> u32
     u32::from(entries != 0 && entries % BLOCK_ENTRIES as u64 == 0)
 }
 
-/// By how much the cost of the directory at a place grows with one entry more than it has and than are being
-/// created in it.
-pub fn growth_at(core: &LiveMap, place: usize, ppn: Ppn) -> u32
-    requires inside { place < length core.now.directories.items }
-    requires few { (d : KnownDirectory) → slice_get (core_of core.now).known.directories place ≡ Some d
-        → entries_with (core_of core.now) d ppn < 2 ^ 64 }
-    ensures value { (d : KnownDirectory) → slice_get (core_of core.now).known.directories place ≡ Some d
-        → result ≡ growth (entries_with (core_of core.now) d ppn) }
+/// Returns by how many blocks the cost of the directory at a place grows with one more entry, if those that are being
+/// created in it count as its entries.
+pub fn growth_at(memory: &LiveMap, place: usize, ppn: Ppn) -> u32
+    requires inside { place < length memory.now.directories.items }
+    requires few { (d : CurrentDirectory) → slice_get (memory_of memory.now).known.directories place ≡ Some d
+        → entries_with (memory_of memory.now) d ppn < 2 ^ 64 }
+    ensures value { (d : CurrentDirectory) → slice_get (memory_of memory.now).known.directories place ≡ Some d
+        → result ≡ growth (entries_with (memory_of memory.now) d ppn) }
     ensures few { result < 2 }
 {
-    let entries = core.directories[place].chain.len() as u64;
-    growth(entries + creations(&core.pending, ppn))
+    let entries = memory.directories[place].chain.len() as u64;
+    growth(entries + creations(&memory.pending, ppn))
 }
 
-/// What a place has before a version is begun for it: the key of its file's version, or none.
+/// Returns what a place has before a version is begun for it: the key of its file's version, or `None`.
 ///
 /// # Errors
 ///
-/// `Refused(NoDirectory)` where there is no such directory.
+/// `Refused(NoDirectory)` if there is no such directory.
 pub(crate) fn find_before(
-    core: &LiveMap,
+    memory: &LiveMap,
     ppn: Ppn,
     name: &FileName,
 ) -> Result<Option<usize>, CallError>
-    requires whole { IsWholeCore core.now.table.size (core_of core.now) }
-    ensures before { IfOk result (IsBefore (core_of core.now) ppn name.now) }
-    ensures absent { IsErr result → find nat_cmp ppn (core_of core.now).known.master.entries ≡ None }
+    requires whole { IsWholeMemory memory.now.table.size (memory_of memory.now) }
+    ensures before { IfOk result (IsBefore (memory_of memory.now) ppn name.now) }
+    ensures absent { IsErr result → find nat_cmp ppn (memory_of memory.now).known.master.entries ≡ None }
     ensures only { IfErr result (λ error. error ≡ Refused NoDirectory) }
 {
-    match find_version(core, ppn, name) {
+    match find_version(memory, ppn, name) {
         Ok(key) => Ok(Some(key)),
         Err(CallError::Refused(ErrorCode::NotFound)) => Ok(None),
         Err(error) => Err(error),
     }
 }
 
-/// Why a version can't begin so where its place has this version before, or none: `NameExists` where a file is to be
-/// created whose name there is, `NotFound` where any other kind finds no file. `None` where it can.
-fn misfit(kind: Kind, before: Option<usize>) -> Option<ErrorCode>
+/// Returns why a version of this kind can't begin at a place that has this version before, or none: `NameExists` if a
+/// creation finds a file of its name, `NotFound` if any other kind finds no file. `None` if it can begin.
+fn misfit(kind: PendingKind, before: Option<usize>) -> Option<ErrorCode>
     ensures { IsMisfit (is_create kind) (is_none before) result }
 {
     match (kind.is_create(), before) {
@@ -106,7 +107,7 @@ fn misfit(kind: Kind, before: Option<usize>) -> Option<ErrorCode>
     }
 }
 
-/// What the version under a key costs; nothing, where there is none.
+/// Returns what the version under a key costs, or 0 if there is none.
 pub(crate) fn cost_before(versions: &Slab<LiveVersion>, before: Option<usize>) -> u32
     requires few { IfSome before (λ key. IfSome (slot versions.now.slots key)
         (λ v. length v.version.blocks ≤ most_blocks)) }
@@ -121,31 +122,31 @@ pub(crate) fn cost_before(versions: &Slab<LiveVersion>, before: Option<usize>) -
     }
 }
 
-/// What a version costs that is begun in the directory at a place, by what its name has before.
+/// Returns what a version costs that begins in the directory at a place, given the version that its name has before.
 pub(crate) fn begin_cost(
-    core: &LiveMap,
+    memory: &LiveMap,
     place: usize,
     ppn: Ppn,
-    kind: Kind,
+    kind: PendingKind,
     before: Option<usize>,
 ) -> u32
-    requires inside { place < length core.now.directories.items }
-    requires few { (d : KnownDirectory) → slice_get (core_of core.now).known.directories place ≡ Some d
-        → entries_with (core_of core.now) d ppn < 2 ^ 64 }
-    requires blocks { IfSome before (λ key. IfSome (slot core.now.versions.slots key)
+    requires inside { place < length memory.now.directories.items }
+    requires few { (d : CurrentDirectory) → slice_get (memory_of memory.now).known.directories place ≡ Some d
+        → entries_with (memory_of memory.now) d ppn < 2 ^ 64 }
+    requires blocks { IfSome before (λ key. IfSome (slot memory.now.versions.slots key)
         (λ v. length v.version.blocks ≤ most_blocks)) }
-    ensures value { (d : KnownDirectory) → slice_get (core_of core.now).known.directories place ≡ Some d
-        → result ≡ begin_cost kind (entries_with (core_of core.now) d ppn)
-        (version_before core.now.versions.slots before) }
+    ensures value { (d : CurrentDirectory) → slice_get (memory_of memory.now).known.directories place ≡ Some d
+        → result ≡ begin_cost kind (entries_with (memory_of memory.now) d ppn)
+        (version_before memory.now.versions.slots before) }
 {
     match kind {
-        Kind::Create => 1 + growth_at(core, place, ppn),
-        Kind::Supersede => 1,
-        Kind::Update | Kind::Append => cost_before(&core.versions, before),
+        PendingKind::Create => 1 + growth_at(memory, place, ppn),
+        PendingKind::Supersede => 1,
+        PendingKind::Update | PendingKind::Append => cost_before(&memory.versions, before),
     }
 }
 
-/// What is said of one version, at the place of another.
+/// Returns `prime` with the directory and the file name of `place`.
 fn at_place(prime: &Prime, place: &Prime) -> Prime
     ensures { result ≡ record prime.now { file = place.now.file; ppn = place.now.ppn } }
 {
@@ -158,14 +159,14 @@ fn at_place(prime: &Prime, place: &Prime) -> Prime
     }
 }
 
-/// A version that begins with the words of another, at the place of `prime`.
+/// Returns a version that begins with the words of another, at the place of `prime`.
 ///
 /// # Errors
 ///
-/// `NoMemory` where the list of its blocks finds no room.
+/// `NoMemory` if there is no memory for the list of its blocks.
 fn begin_from(
     alloc: Global,
-    kind: Kind,
+    kind: PendingKind,
     prime: Prime,
     live: &LiveVersion,
 ) -> Result<PendingVersion, NoMemory>
@@ -175,7 +176,7 @@ fn begin_from(
 {
     let version = live.version.copy_without_ribs(alloc)?;
     let kept_blocks = match kind {
-        Kind::Append => version.count() as u32,
+        PendingKind::Append => version.count() as u32,
         _ => 0,
     };
     Ok(PendingVersion {
@@ -186,15 +187,15 @@ fn begin_from(
     })
 }
 
-/// The version that is begun, by what its name has before.
+/// Returns the version that begins, given the version that its name has before.
 ///
 /// # Errors
 ///
-/// `NoMemory` where the list of its blocks finds no room.
+/// `NoMemory` if there is no memory for the list of its blocks.
 fn begin_version(
     alloc: Global,
     versions: &Slab<LiveVersion>,
-    kind: Kind,
+    kind: PendingKind,
     prime: Prime,
     before: Option<usize>,
 ) -> Result<PendingVersion, NoMemory>
@@ -220,108 +221,112 @@ fn begin_version(
     })
 }
 
-/// Begins a version in core: of a new file, or one that will take the place of the file with this name. No block is
-/// taken yet; an update and an append hold those of the file.
+/// Begins a version in memory: of a new file, or one that will replace the file of this name. No block is taken yet; an
+/// update and an append hold those of the file.
 ///
 /// # Errors
 ///
-/// `Refused` with `NoDirectory` where the directory isn't there, with `NameExists` or `NotFound` where the name is
-/// there or isn't against its kind, and with `NoRoom` where what it costs exceeds the room; `NoMemory` where core can't
-/// grow. All is as before then.
-pub fn begin_in_core(
-    core: &mut LiveMap,
+/// `Refused` with `NoDirectory` if the directory doesn't exist, with `NameExists` if a creation finds a file of its
+/// name, with `NotFound` if any other kind finds none, and with `NoRoom` if its cost exceeds the room; `NoMemory` if
+/// there is no memory for it. Nothing changes then.
+pub fn begin_in_memory(
+    memory: &mut LiveMap,
     alloc: Global,
-    kind: Kind,
+    kind: PendingKind,
     prime: Prime,
 ) -> Result<usize, CallError>
-    requires whole { IsWholeCore core.old.table.size (core_of core.old) }
-    ensures begun { IfOk result (λ key. IsBegun (core_of core.old) (core_of core.new) key kind prime) }
-    ensures same { OnErr result (core_of core.new ≡ core_of core.old) }
-    ensures whole { IsWholeCore core.new.table.size (core_of core.new) }
+    requires whole { IsWholeMemory memory.old.table.size (memory_of memory.old) }
+    ensures begun { IfOk result (λ key. IsBegun (memory_of memory.old) (memory_of memory.new) key kind prime) }
+    ensures same { OnErr result (memory_of memory.new ≡ memory_of memory.old) }
+    ensures whole { IsWholeMemory memory.new.table.size (memory_of memory.new) }
     // Which refusal comes when.
     ensures absent { IsErrOf result (Refused NoDirectory)
-        ↔ (find nat_cmp prime.ppn (core_of core.old).known.master.entries ≡ None) }
-    ensures exists { (d : KnownDirectory) → IsDirectoryOf (core_of core.old) prime.ppn d
+        ↔ (find nat_cmp prime.ppn (memory_of memory.old).known.master.entries ≡ None) }
+    ensures exists { (d : CurrentDirectory) → IsDirectoryOf (memory_of memory.old) prime.ppn d
         → (IsErrOf result (Refused NameExists) ↔ ((is_create kind ≡ true) × (is_absent prime.file d ≡ false))) }
-    ensures not_found { (d : KnownDirectory) → IsDirectoryOf (core_of core.old) prime.ppn d
+    ensures not_found { (d : CurrentDirectory) → IsDirectoryOf (memory_of memory.old) prime.ppn d
         → (IsErrOf result (Refused NotFound) ↔ ((is_create kind ≡ false) × (is_absent prime.file d ≡ true))) }
-    ensures room { (d : KnownDirectory) → IsDirectoryOf (core_of core.old) prime.ppn d → (old : Before)
+    ensures room { (d : CurrentDirectory) → IsDirectoryOf (memory_of memory.old) prime.ppn d → (old : Before)
         → IsNamed d prime.file old → is_create kind ≡ is_none old
         → (IsErrOf result (Refused NoRoom)
-        ↔ (space core.old.table.size < core.old.table.booked + begin_cost kind
-        (entries_with (core_of core.old) d prime.ppn) old)) }
+        ↔ (space memory.old.table.size < memory.old.table.booked + begin_cost kind
+        (entries_with (memory_of memory.old) d prime.ppn) old)) }
     ensures codes { (code : ErrorCode) → IsErrOf result (Refused code) → IsBeginRefusal code }
     ensures plain { (IsErrOf result Device → ⊥) × (IsErrOf result Failed → ⊥) }
 {
-    let _booked = core.table.booked(); // any table is one as it should be
-    let before = find_before(core, prime.ppn, &prime.file)?;
+    let _booked = memory.table.booked(); // every table is valid
+    let before = find_before(memory, prime.ppn, &prime.file)?;
     if let Some(code) = misfit(kind, before) {
         return Err(CallError::Refused(code));
     }
-    let place = directory_place(&core.master, prime.ppn)?;
-    let cost = begin_cost(core, place, prime.ppn, kind, before);
-    if !core.table.can_book(cost) {
+    let place = directory_place(&memory.master, prime.ppn)?;
+    let cost = begin_cost(memory, place, prime.ppn, kind, before);
+    if !memory.table.can_book(cost) {
         return Err(CallError::Refused(ErrorCode::NoRoom));
     }
-    // Memory first, so that a refused growth leaves everything alone.
-    let Ok(version) = begin_version(alloc, &core.versions, kind, prime, before) else {
+    // Memory first: if there is none, nothing has changed yet.
+    let Ok(version) = begin_version(alloc, &memory.versions, kind, prime, before) else {
         return Err(CallError::NoMemory);
     };
-    if core.pending.reserve(1).is_err() {
+    if memory.pending.reserve(1).is_err() {
         return Err(CallError::NoMemory);
     }
-    hold_blocks(&mut core.table, &version.version);
-    core.table.book(cost);
-    Ok(core.pending.insert_reserved(version))
+    hold_blocks(&mut memory.table, &version.version);
+    memory.table.book(cost);
+    Ok(memory.pending.insert_reserved(version))
 }
 
 impl<D: Disk> Volume<D> {
-    /// Begins to write a version of the file of a place (that of `prime`): a new file, or one that will take the place
-    /// of the file with this name. A creation and a superseding version begin with no words, and `prime` is what will
-    /// be said of them; an update and an append begin with the file as it is now, its words, protection, mode and
-    /// moment, of which they share all blocks until words are put. What the version costs is booked, in full where
-    /// blocks are shared. Answers what the caller knows it by until it is published or discarded.
+    /// Begins to write a version of the file at a place (that of `prime`): a new file, or one that will replace the
+    /// file of this name. A creation and a superseding version begin with no words, and `prime` is what will be said of
+    /// them. An update and an append begin with the file as it is now: its words, protection, mode and moment; they
+    /// share all its blocks until words are put. What the version costs is booked, in full even if blocks are shared.
+    /// Returns the handle by which the caller knows it until it is published or discarded.
     ///
     /// # Errors
     ///
-    /// `Failed` where the volume failed before. `Refused` with `NoDirectory` where there is no such directory, with
-    /// `NameExists` where a file is to be created whose name there is, with `NotFound` where any other kind finds no
-    /// file, and with `NoRoom` where the cost exceeds the room: one block, with one more where the directory has to
-    /// grow for a new entry, or as many as the file costs that is updated; `NoMemory` where core can't grow. All is as
-    /// before then.
-    pub fn begin(&mut self, alloc: Global, kind: Kind, prime: Prime) -> Result<Pending, CallError>
+    /// `Failed` if the volume failed before. `Refused` with `NoDirectory` if there is no such directory, with
+    /// `NameExists` if a creation finds a file of its name, with `NotFound` if any other kind finds none, and with
+    /// `NoRoom` if the cost exceeds the room: one block, and one more if the directory has to grow for a new entry, or
+    /// as many as the file costs that is updated; `NoMemory` if there is no memory for it. Nothing changes then.
+    pub fn begin(
+        &mut self,
+        alloc: Global,
+        kind: PendingKind,
+        prime: Prime,
+    ) -> Result<Pending, CallError>
         // The layout has room for its date.
         requires timely { (D.state self.old.disk).honest → self.old.failed ≡ false
             → prime.moment.date < date_limit (pack_of (D.state self.old.disk)).layout }
-        ensures begun { IfOk result (λ pending. IsBegun self.old.core self.new.core pending.key kind prime) }
+        ensures begun { IfOk result (λ pending. IsBegun self.old.map self.new.map pending.key kind prime) }
         // An update and an append begin with the file.
         ensures file { (D.state self.new.disk).honest → self.old.failed ≡ false → (files : Files File)
             → RestsAt (D.state self.old.disk) files → is_update kind ≡ true
             → IfOk result (λ pending. BeginsWithFile (D.state self.old.disk).contents
-            (pending_at self.new.core.pending pending.key) prime.file (get files prime.ppn)) }
-        ensures same { OnErr result (self.new.core ≡ self.old.core) }
+            (pending_at self.new.map.pending pending.key) prime.file (get files prime.ppn)) }
+        ensures same { OnErr result (self.new.map ≡ self.old.map) }
         ensures untouched { (self.new.disk ≡ self.old.disk) × (self.new.failed ≡ self.old.failed) }
         ensures layout { self.new.layout ≡ self.old.layout }
 
         // Which error comes when.
         ensures failed { IsErrOf result Failed ↔ IsTrue self.old.failed }
         ensures absent { self.old.failed ≡ false → (IsErrOf result (Refused NoDirectory)
-            ↔ (find nat_cmp prime.ppn self.old.core.known.master.entries ≡ None)) }
-        ensures exists { self.old.failed ≡ false → (d : KnownDirectory) → IsDirectoryOf self.old.core prime.ppn d
+            ↔ (find nat_cmp prime.ppn self.old.map.known.master.entries ≡ None)) }
+        ensures exists { self.old.failed ≡ false → (d : CurrentDirectory) → IsDirectoryOf self.old.map prime.ppn d
             → (IsErrOf result (Refused NameExists) ↔ ((is_create kind ≡ true) × (is_absent prime.file d ≡ false))) }
-        ensures not_found { self.old.failed ≡ false → (d : KnownDirectory) → IsDirectoryOf self.old.core prime.ppn d
+        ensures not_found { self.old.failed ≡ false → (d : CurrentDirectory) → IsDirectoryOf self.old.map prime.ppn d
             → (IsErrOf result (Refused NotFound) ↔ ((is_create kind ≡ false) × (is_absent prime.file d ≡ true))) }
-        ensures room { self.old.failed ≡ false → (d : KnownDirectory) → IsDirectoryOf self.old.core prime.ppn d
+        ensures room { self.old.failed ≡ false → (d : CurrentDirectory) → IsDirectoryOf self.old.map prime.ppn d
             → (old : Before) → IsNamed d prime.file old → is_create kind ≡ is_none old
             → (IsErrOf result (Refused NoRoom)
-            ↔ (space (D.state self.old.disk).size < self.old.core.known.table.booked
-            + begin_cost kind (entries_with self.old.core d prime.ppn) old)) }
-        // The same of an update and an append, by the file.
+            ↔ (space (D.state self.old.disk).size < self.old.map.known.table.booked
+            + begin_cost kind (entries_with self.old.map d prime.ppn) old)) }
+        // The same for an update and an append, in terms of the file.
         ensures full { (D.state self.new.disk).honest → self.old.failed ≡ false → (files : Files File)
             → RestsAt (D.state self.old.disk) files → is_update kind ≡ true → (directory : Directory File)
             → get files prime.ppn ≡ Some directory → (file : File) → get directory.files prime.file ≡ Some file
             → (IsErrOf result (Refused NoRoom)
-            ↔ (space (D.state self.old.disk).size < self.old.core.known.table.booked
+            ↔ (space (D.state self.old.disk).size < self.old.map.known.table.booked
             + version_cost (length file.body))) }
         ensures codes { (code : ErrorCode) → IsErrOf result (Refused code) → IsBeginRefusal code }
         ensures served { IsErrOf result Device → ⊥ }
@@ -329,7 +334,7 @@ impl<D: Disk> Volume<D> {
         if self.failed {
             return Err(CallError::Failed);
         }
-        let key = begin_in_core(&mut self.map, alloc, kind, prime)?;
+        let key = begin_in_memory(&mut self.map, alloc, kind, prime)?;
         Ok(Pending { key })
     }
 }

@@ -1,3 +1,4 @@
+//! Bits and holds of lists of blocks, and of a version's data blocks.
 ghost use Rattle.std.specs.Prelude.{◌≡◌, ◌+◌, ◌<◌, ◌≤◌, ◌^◌, ℕ};
 ghost use Rattle.spec_image.specs.Common.{times};
 ghost use Rattle.alloctab.specs.Common.{IsTable, bit, holds};
@@ -45,7 +46,7 @@ pub(crate) fn hold_all(table: &mut Table, blocks: &[u32])
     }
 }
 
-/// Sets the bits of blocks that are held, and holds each once less.
+/// Sets the bits of blocks that are held, and releases one hold of each.
 pub(crate) fn bring_all(table: &mut Table, blocks: &[u32])
     requires sound { IsTable table.old }
     requires held { (n : ℕ) → times n blocks.now ≤ holds table.old n }
@@ -54,7 +55,7 @@ pub(crate) fn bring_all(table: &mut Table, blocks: &[u32])
 {
     set_all(table, blocks);
     unhold_all(table, blocks);
-    let _booked = table.booked(); // any table is one as it should be
+    let _booked = table.booked(); // every table is valid
 }
 
 /// Sets the bits of a version's data blocks, each of which is clear.
@@ -95,7 +96,7 @@ pub(crate) fn hold_blocks(table: &mut Table, version: &Version)
     }
 }
 
-/// Sets the bits of a version's data blocks, which are held, and holds each once less.
+/// Sets the bits of a version's data blocks, which are held, and releases one hold of each.
 pub(crate) fn bring_blocks(table: &mut Table, version: &Version)
     requires sound { IsTable table.old }
     requires held { (n : ℕ) → times n version.now.blocks ≤ holds table.old n }
@@ -104,5 +105,5 @@ pub(crate) fn bring_blocks(table: &mut Table, version: &Version)
 {
     set_blocks(table, version);
     unhold_blocks(table, version);
-    let _booked = table.booked(); // any table is one as it should be
+    let _booked = table.booked(); // every table is valid
 }

@@ -1,17 +1,18 @@
+//! Claims: the places for which versions are being written, and what is known of these.
 ghost use Rattle.std.specs.Prelude.{◌≡◌, ◌↔◌, ◌==◌, ◌&&◌, Some, IsSome, IsTrue, option_map};
 ghost use Rattle.spec_image.specs.Common.{place_of};
 ghost use Rattle.volume.specs.Common.{claims_at, claims, pending_at};
 ghost use Rattle.volume.specs.declared.pending.PendingVersion.{PendingVersion};
 
 use crate::handles::Pending;
-use crate::map::Volume;
-use crate::pending::{Kind, PendingVersion};
+use crate::pending::{PendingKind, PendingVersion};
+use crate::volume::Volume;
 use blockdisk::Disk;
 use retrieval::Prime;
 use slab::Slab;
 use words36::{FileName, Ppn};
 
-/// Whether a version is being written for this place.
+/// Returns whether a version is being written for this place.
 fn is_of(version: &PendingVersion, ppn: Ppn, file: &FileName) -> bool
     ensures { result ≡ claims_at (place_of ppn file.now) (Some version.now) }
 {
@@ -19,7 +20,7 @@ fn is_of(version: &PendingVersion, ppn: Ppn, file: &FileName) -> bool
     prime.ppn == ppn && prime.file.name == file.name && prime.file.ext == file.ext
 }
 
-/// Whether one of these versions is being written for a place.
+/// Returns whether one of these versions is being written for a place.
 fn is_claimed(pending: &Slab<PendingVersion>, ppn: Ppn, file: &FileName) -> bool
     ensures { result ≡ claims pending.now.slots (place_of ppn file.now) }
 {
@@ -32,41 +33,41 @@ fn is_claimed(pending: &Slab<PendingVersion>, ppn: Ppn, file: &FileName) -> bool
 }
 
 impl<D: Disk> Volume<D> {
-    /// Whether a version is being written for a place, also where the volume has failed.
+    /// Returns whether a version is being written for a place, even if the volume has failed.
     pub fn is_claimed(&self, ppn: Ppn, file: &FileName) -> bool
-        ensures { result ≡ claims self.now.core.pending (place_of ppn file.now) }
+        ensures { result ≡ claims self.now.map.pending (place_of ppn file.now) }
     {
         is_claimed(&self.map.pending, ppn, file)
     }
 
-    /// Whether a version is being written that the caller knows by this.
+    /// Returns whether this handle is that of a version that is being written.
     pub fn is_pending(&self, pending: Pending) -> bool
-        ensures { IsTrue result ↔ IsSome (pending_at self.now.core.pending pending.key) }
+        ensures { IsTrue result ↔ IsSome (pending_at self.now.map.pending pending.key) }
     {
         self.map.pending.contains(pending.key)
     }
 
-    /// How a version began that is being written; `None` where there is no version that the caller knows by this.
-    pub fn kind(&self, pending: Pending) -> Option<Kind>
-        ensures { result ≡ option_map (λ p. p.kind) (pending_at self.now.core.pending pending.key) }
+    /// Returns how a version that is being written began; `None` if the handle is that of no such version.
+    pub fn kind(&self, pending: Pending) -> Option<PendingKind>
+        ensures { result ≡ option_map (λ p. p.kind) (pending_at self.now.map.pending pending.key) }
     {
         let version = self.map.pending.get(pending.key)?;
         Some(version.kind)
     }
 
-    /// What the prime block will say of a version that is being written: its place, protection, mode and moment. `None`
-    /// where there is no version that the caller knows by this.
+    /// Returns what the prime block of a version that is being written will say: its place, protection, mode and
+    /// moment. `None` if the handle is that of no such version.
     pub fn prime(&self, pending: Pending) -> Option<Prime>
-        ensures { result ≡ option_map (λ p. p.prime) (pending_at self.now.core.pending pending.key) }
+        ensures { result ≡ option_map (λ p. p.prime) (pending_at self.now.map.pending pending.key) }
     {
         let version = self.map.pending.get(pending.key)?;
         Some(version.prime)
     }
 
-    /// How many of its first blocks a version that is being written has to keep: an append all that it began with, any
-    /// other none. `None` where there is no version that the caller knows by this.
+    /// Returns how many of its first blocks a version that is being written must leave unchanged: for an append all
+    /// that it began with, for any other kind 0. `None` if the handle is that of no such version.
     pub fn kept_blocks(&self, pending: Pending) -> Option<u32>
-        ensures { result ≡ option_map (λ p. p.kept_blocks) (pending_at self.now.core.pending pending.key) }
+        ensures { result ≡ option_map (λ p. p.kept_blocks) (pending_at self.now.map.pending pending.key) }
     {
         let version = self.map.pending.get(pending.key)?;
         Some(version.kept_blocks)

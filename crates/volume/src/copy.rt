@@ -1,3 +1,4 @@
+//! The copy of a volume to another disk.
 ghost use Rattle.std.specs.Prelude.{◌≡◌, ◌⊎◌, ◌<◌, ◌≤◌, ℕ, Some, OnOk, IfOk, IfErr, IsErrOf};
 ghost use Rattle.blockdisk.specs.Common.{LeavesOnly, Modifies, Near, NoneOpen, SameDisk, SameOutside, Still};
 ghost use Rattle.blockdisk.specs.Common.{one_more};
@@ -9,8 +10,8 @@ ghost use Rattle.volume.specs.declared.error.CopyError.TheVariants.{Source, Targ
 ghost use Rattle.volume.specs.declared.error.VolumeError.{VolumeError};
 ghost use Rattle.volume.specs.declared.error.VolumeError.TheVariants.{Device};
 
-use crate::map::Volume;
 use crate::start::read_volume;
+use crate::volume::Volume;
 use crate::{CopyError, VolumeError};
 use blockdisk::{Disk, Fault};
 use spec_image::layout::GATE;
@@ -19,16 +20,16 @@ use words36::{BLOCK_WORDS, Block, Word};
 
 impl<D: Disk> Volume<D> {
     /// Copies the volume on a disk to another disk of as many blocks: recovers it and reads all that it reaches, as
-    /// `open` does, then writes every block, zeros for each that is damaged, and waits until all are on the disk. The
-    /// home copies come last, once all else is there: so what is left of a copy that is cut short, on a disk that began
-    /// with zeros, is no volume, or has every block but these as it should be.
+    /// `open` does, then writes every block, with zeros for each damaged one, and waits until all are on the disk. The
+    /// home copies come last, after everything else is on the disk: so an interrupted copy, on a disk that began with
+    /// zeros, is no volume, or every block of it except these is right.
     ///
     /// # Errors
     ///
-    /// `Source` with the refusal of `open`, or with `Device` where the disk fails while it is copied; `Target` where
-    /// the other one fails. Nothing is known of that one then.
+    /// `Source` with the refusal of `open`, or with `Device` if the disk fails while it is copied; `Target` if the
+    /// other one fails. Nothing is known of that one then.
     pub fn copy_image<E: Disk>(alloc: Global, from: &mut D, to: &mut E) -> Result<(), CopyError>
-        // What the caller sees to.
+        // What the caller ensures.
         requires { (D.state from.old).size ≡ (E.state to.old).size }
 
         // The copy stands for the files in their layout, with a closed gate, and no block of it is open.
@@ -47,7 +48,7 @@ impl<D: Disk> Volume<D> {
             → LeavesOnly (E.state to.old) (E.state to.new)
             (HomesComeLast (D.state from.old).size (D.state from.new).contents (E.state to.old)) }
 
-        // What is copied was recovered at most: all that `open` says of its disk.
+        // The disk that is copied is at most recovered: all that `open` states of its disk.
         ensures rests { (D.state from.new).honest → (files : Files File)
             → Stands (D.state from.old).size (D.state from.old).contents files
             → OnOk result (RestsAt (D.state from.new) files) }
@@ -59,7 +60,7 @@ impl<D: Disk> Volume<D> {
             → Still (D.state from.old) (D.state from.new)
             ⊎ IsRecovered (D.state from.old).size (D.state from.old).contents (D.state from.new).contents }
 
-        // Where it is refused. The other disk is then as it was, unless a device failed.
+        // If it is refused. The other disk is unchanged then, unless a device failed.
         ensures refused { (D.state from.new).honest → (error : VolumeError) → IsErrOf result (Source error)
             → Refuses (D.state from.old).size (D.state from.new).contents error }
         ensures named { (error : VolumeError) → IsErrOf result (Source error)
@@ -81,8 +82,8 @@ impl<D: Disk> Volume<D> {
     }
 }
 
-/// Copies each block of a disk to another of as many blocks, the home copies last, which stand before the gate: the
-/// rest is on the disk before, so that what is left of a copy that is cut short looks like no volume.
+/// Copies each block of a disk to another of as many blocks, with the home copies last, which lie before the gate. The
+/// rest is on the disk before them, so that an interrupted copy looks like no volume.
 fn copy_all<D: Disk, E: Disk>(from: &mut D, to: &mut E) -> Result<(), CopyError>
     requires { (D.state from.old).size ≡ (E.state to.old).size }
     ensures copied { (D.state from.new).honest → (E.state to.new).honest
@@ -99,7 +100,7 @@ fn copy_all<D: Disk, E: Disk>(from: &mut D, to: &mut E) -> Result<(), CopyError>
     copy_part(from, to, 0, behind_home)
 }
 
-/// Copies the blocks from one to before another, and waits until they are on the disk.
+/// Copies the blocks from `first` to before `end`, and waits until they are on the disk.
 fn copy_part<D: Disk, E: Disk>(
     from: &mut D,
     to: &mut E,
@@ -125,7 +126,7 @@ fn copy_part<D: Disk, E: Disk>(
     }
 }
 
-/// Writes the blocks of a disk from one to before another to a disk.
+/// Writes the blocks of a disk from `first` to before `end` to another disk.
 fn copy_blocks<D: Disk, E: Disk>(
     from: &mut D,
     to: &mut E,
@@ -149,7 +150,7 @@ fn copy_blocks<D: Disk, E: Disk>(
     Ok(())
 }
 
-/// Writes a block of a disk to another, zeros where it is damaged.
+/// Writes a block of a disk to another, or zeros if it is damaged.
 fn copy_block<D: Disk, E: Disk>(from: &mut D, to: &mut E, n: u32) -> Result<(), CopyError>
     requires here { n < (D.state from.old).size }
     requires there { n < (E.state to.old).size }
@@ -169,11 +170,11 @@ fn copy_block<D: Disk, E: Disk>(from: &mut D, to: &mut E, n: u32) -> Result<(), 
     }
 }
 
-/// The words of a block, zeros where it is damaged.
+/// Returns the words of a block, or zeros if it is damaged.
 ///
 /// # Errors
 ///
-/// `Device` where the device failed.
+/// `Device` if the device failed.
 fn words_or_zeros<D: Disk>(disk: &mut D, n: u32) -> Result<Block, VolumeError>
     requires { n < (D.state disk.old).size }
     ensures words { (D.state disk.new).honest → IfOk result (λ block. block ≡ copied ((D.state disk.old).contents n)) }

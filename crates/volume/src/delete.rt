@@ -1,3 +1,4 @@
+//! The deletion of files.
 ghost use Rattle.std.specs.Prelude.{◌≡◌, ◌↔◌, ◌⊎◌, ◌+◌, ◌<◌, ◌≤◌, ◌++◌, [], ℕ, List, Bool, true, false, length, map};
 ghost use Rattle.std.specs.Prelude.{slice_get, option_to_list, take, drop, suc, Some, None, IsSome, OnOk, OnErr};
 ghost use Rattle.std.specs.Prelude.{IsErrOf};
@@ -10,34 +11,34 @@ ghost use Rattle.spec_image.specs.declared.put.Put.{Put};
 ghost use Rattle.spec_image.specs.Common.{file_words, IsFileEntry, name_cmp, remove, from_entries, times};
 ghost use Rattle.alloctab.specs.Common.{IsTable, bit};
 ghost use Rattle.directory.specs.Common.{IsChain, viewed, StandsAt, PutsChain, removed, last_first};
-ghost use Rattle.volume.specs.Common.{IsDirectoryOf, file_view, ChangesFiles, DeviceAnswer, KnownDirectory, slot};
-ghost use Rattle.volume.specs.Common.{IsWholeCore, core_of, IsKeyOf, prime_at, ClearsBits, files_removed};
+ghost use Rattle.volume.specs.Common.{IsDirectoryOf, file_view, ChangesFiles, DeviceAnswer, CurrentDirectory, slot};
+ghost use Rattle.volume.specs.Common.{IsWholeMemory, memory_of, IsKeyOf, prime_at, ClearsBits, files_removed};
 ghost use Rattle.volume.specs.Common.{RemovesFile};
 ghost use Rattle.volume.specs.declared.error.CallError.TheVariants.{Refused, Device, Failed, NoMemory};
 ghost use Rattle.volume.specs.declared.live.LiveVersion.{LiveVersion};
 
 use crate::CallError;
 use crate::begin::growth_at;
-use crate::current::{place_of, retire};
 use crate::live::{LiveDirectory, LiveMap};
-use crate::map::Volume;
 use crate::pins::find_version;
+use crate::publish_in_memory::{place_of, retire};
 use crate::transaction::commit_edit;
+use crate::volume::Volume;
 use alloctab::Table;
 use blockdisk::Disk;
 use changeset::ChangeSet;
 use words36::{FileName, Ppn};
 
-/// What a directory gives up with an entry.
+/// What a directory loses with an entry.
 #[derive(Clone, Copy)]
 pub(crate) struct GivenUp {
     /// The key of the entry's version.
     pub key: usize,
-    /// The last block of the chain, where it is left empty.
+    /// The last block of the chain, if it is left empty.
     pub block: Option<u32>,
 }
 
-/// Takes the entry of a name out of a directory in core, with the key of its version: the last one moves into its
+/// Removes the entry of a name from a directory in memory, with the key of its version. The last entry moves into its
 /// place.
 pub(crate) fn remove_entry(
     directory: &mut LiveDirectory,
@@ -67,12 +68,12 @@ pub(crate) fn remove_entry(
         unreachable!() // the name is there
     };
     let block = directory.chain.remove(name, set);
-    let _blocks = directory.chain.blocks(); // any chain is one as it should be
+    let _blocks = directory.chain.blocks(); // every chain is valid
     let key = directory.keys.swap_remove(i);
     GivenUp { key, block }
 }
 
-/// Clears the bit of a block that a chain gives back.
+/// Clears the bit of a block that a chain frees, if there is one.
 pub(crate) fn clear_left(table: &mut Table, block: Option<u32>)
     requires sound { IsTable table.old }
     requires set { (n : ℕ) → times n (option_to_list block) ≤ bit table.old n }
@@ -81,64 +82,64 @@ pub(crate) fn clear_left(table: &mut Table, block: Option<u32>)
     if let Some(n) = block {
         table.clear(n);
     }
-    let _booked = table.booked(); // any table is one as it should be
+    let _booked = table.booked(); // every table is valid
 }
 
-/// Deletes a file in core, with the puts that will make it so on the disk.
-fn remove_in_core(core: &mut LiveMap, ppn: Ppn, name: &FileName, set: &mut ChangeSet)
-    requires whole { IsWholeCore core.old.table.size (core_of core.old) }
-    requires there { (key : ℕ) × IsKeyOf (core_of core.old) ppn name.now key }
+/// Deletes a file in memory, and adds to `set` the puts that will delete it on the disk.
+fn remove_in_memory(memory: &mut LiveMap, ppn: Ppn, name: &FileName, set: &mut ChangeSet)
+    requires whole { IsWholeMemory memory.old.table.size (memory_of memory.old) }
+    requires there { (key : ℕ) × IsKeyOf (memory_of memory.old) ppn name.now key }
     requires empty { set.old ≡ [] }
-    ensures removed { (key : ℕ) × (v : LiveVersion) × RemovesFile core.old.table.size (core_of core.old)
-        (core_of core.new) ppn name.now key v set.new }
-    ensures table { IsTable core.old.table }
+    ensures removed { (key : ℕ) × (v : LiveVersion) × RemovesFile memory.old.table.size (memory_of memory.old)
+        (memory_of memory.new) ppn name.now key v set.new }
+    ensures table { IsTable memory.old.table }
 {
-    let place = place_of(&core.master, ppn);
-    let _booked = core.table.booked(); // any table is one as it should be
-    let GivenUp { key, block } = remove_entry(&mut core.directories[place], name, set);
-    let less = growth_at(core, place, ppn);
-    retire(&mut core.versions, &mut core.table, key);
-    clear_left(&mut core.table, block);
-    core.table.unbook(less);
-    core.table.changes(set);
+    let place = place_of(&memory.master, ppn);
+    let _booked = memory.table.booked(); // every table is valid
+    let GivenUp { key, block } = remove_entry(&mut memory.directories[place], name, set);
+    let less = growth_at(memory, place, ppn);
+    retire(&mut memory.versions, &mut memory.table, key);
+    clear_left(&mut memory.table, block);
+    memory.table.unbook(less);
+    memory.table.changes(set);
 }
 
 impl<D: Disk> Volume<D> {
-    /// Deletes a file, by one change of its directory and the allocation table. A crash finds the files from before,
-    /// or those without it. Its version stays for the readers that hold it, and takes its blocks until the last of
-    /// them lets go; versions that are being written stay, those of its place too. It takes no memory.
+    /// Deletes a file, by one change of its directory and the allocation table. A crash finds the files from before, or
+    /// those without it. If its version is pinned, it stays for its readers, and takes its blocks until the last of
+    /// them unpins it. Versions that are being written stay, those of its place too. It takes no memory.
     ///
     /// # Errors
     ///
-    /// `Failed` where the volume failed before. `Refused` with `NoDirectory` where there is no such directory, and
-    /// with `NotFound` where it has no such file. All is as before then. `Device` where the device failed, and the
-    /// volume with it: a later start finds the files without it, or those from before.
+    /// `Failed` if the volume failed before. `Refused` with `NoDirectory` if there is no such directory, and with
+    /// `NotFound` if it has no such file. Nothing changes then. `Device` if the device failed, and the volume with it:
+    /// a later start finds the files without it, or those from before.
     pub fn delete(&mut self, ppn: Ppn, name: &FileName) -> Result<(), CallError>
         // What it does to the files, and what stays meanwhile.
-        ensures files { ChangesFiles (D.state self.old.disk) (D.state self.new.disk) self.old.core
+        ensures files { ChangesFiles (D.state self.old.disk) (D.state self.new.disk) self.old.map
             (λ f. files_removed f ppn name.now) result }
-        // What it does to core.
+        // What it does to memory.
         ensures removed { OnOk result ((key : ℕ) × (v : LiveVersion) × (puts : List Put)
-            × RemovesFile (D.state self.old.disk).size self.old.core self.new.core ppn name.now key v puts) }
-        // All versions in use stay, whatever the answer; and their blocks do, but where the device failed, since they
+            × RemovesFile (D.state self.old.disk).size self.old.map self.new.map ppn name.now key v puts) }
+        // All versions in use stay, whatever the answer. Their blocks stay too, unless the device failed, since they
         // may have been open then.
-        ensures pending { self.new.core.pending ≡ self.old.core.pending }
-        ensures held { (k : ℕ) (v : LiveVersion) → slot self.old.core.live k ≡ Some v → 0 < v.readers
-            → (b : Bool) × (slot self.new.core.live k ≡ Some (record v { is_current = b })) }
-        // Each other place keeps its prime block, and this one has none.
+        ensures pending { self.new.map.pending ≡ self.old.map.pending }
+        ensures held { (k : ℕ) (v : LiveVersion) → slot self.old.map.live k ≡ Some v → 0 < v.readers
+            → (b : Bool) × (slot self.new.map.live k ≡ Some (record v { is_current = b })) }
+        // Each other place keeps its prime block; this one has no prime block.
         ensures primes { OnOk result ((q : ℕ) (n : FileName) → ((q ≡ ppn) × (n ≡ name.now) → ⊥)
-            → prime_at self.new.core q n ≡ prime_at self.old.core q n) }
-        ensures gone { OnOk result (prime_at self.new.core ppn name.now ≡ None) }
+            → prime_at self.new.map q n ≡ prime_at self.old.map q n) }
+        ensures gone { OnOk result (prime_at self.new.map ppn name.now ≡ None) }
 
         // Which error comes when, and what it leaves.
         ensures refused { (IsErrOf result Device → ⊥)
-            → OnErr result ((self.new.disk ≡ self.old.disk) × (self.new.core ≡ self.old.core)) }
+            → OnErr result ((self.new.disk ≡ self.old.disk) × (self.new.map ≡ self.old.map)) }
         ensures failed { self.old.failed ≡ true → IsErrOf result Failed }
         ensures given_up { IsErrOf result Failed → self.old.failed ≡ true }
         ensures no_directory { self.old.failed ≡ false
-            → (IsErrOf result (Refused NoDirectory) ↔ (find nat_cmp ppn self.old.core.known.master.entries ≡ None)) }
+            → (IsErrOf result (Refused NoDirectory) ↔ (find nat_cmp ppn self.old.map.known.master.entries ≡ None)) }
         ensures not_found { self.old.failed ≡ false
-            → (IsErrOf result (Refused NotFound) ↔ ((d : KnownDirectory) × IsDirectoryOf self.old.core ppn d
+            → (IsErrOf result (Refused NotFound) ↔ ((d : CurrentDirectory) × IsDirectoryOf self.old.map ppn d
             × (find name_cmp name.now d.chain.entries ≡ None))) }
         ensures codes { (code : ErrorCode) → IsErrOf result (Refused code)
             → (code ≡ NoDirectory) ⊎ (code ≡ NotFound) }
@@ -154,7 +155,7 @@ impl<D: Disk> Volume<D> {
             return Err(error);
         }
         let mut set = ChangeSet::new();
-        remove_in_core(&mut self.map, ppn, name, &mut set);
+        remove_in_memory(&mut self.map, ppn, name, &mut set);
         commit_edit(&mut self.disk, &mut self.failed, &set)
     }
 }

@@ -1,3 +1,4 @@
+//! Why calls of a volume fail.
 ghost use Rattle.std.specs.Prelude.{◌≡◌};
 
 use blockdisk::NoMemory;
@@ -11,31 +12,31 @@ pub enum VolumeError {
     /// The disk has a number of blocks that no volume has, or neither home copy has the name.
     #[error("not a volume")]
     NotVolume,
-    /// A home copy has the name, and none is valid.
+    /// A home copy has the name, but none is valid.
     #[error("bad home blocks")]
     BadHome,
-    /// The gate is open, and the log isn't good.
+    /// The gate is open, but the log is bad.
     #[error("bad log")]
     BadLog,
-    /// This block of a directory is damaged or not as it should be.
+    /// This block of a directory is damaged or invalid.
     #[error("bad directory block {0}")]
     BadDirectory(u32),
-    /// This prime block or extension is damaged or not as it should be.
+    /// This prime block or extension is damaged or invalid.
     #[error("bad retrieval block {0}")]
     BadRetrieval(u32),
     /// This block is reached twice.
     #[error("block {0} reached twice")]
     BlockTwice(u32),
-    /// This block of the allocation table is damaged, or has a bit that isn't as it should be.
+    /// This block of the allocation table is damaged, or has a wrong bit.
     #[error("wrong block {0} of the allocation table")]
     TableWrong(u32),
     /// The device failed.
     #[error("device fault")]
     Device,
-    /// A growth was refused.
+    /// There was not enough memory.
     #[error("out of memory")]
     NoMemory,
-    /// An earlier call met a fault, and the volume is given up.
+    /// An earlier call met a fault, and the volume has failed.
     #[error("failed before")]
     Failed,
     /// This data block is damaged.
@@ -74,13 +75,13 @@ pub enum CallError {
     /// The call's own answer: nothing was changed.
     #[error("refused")]
     Refused(ErrorCode),
-    /// The device failed. The volume has failed then, and answers nothing more.
+    /// The device failed, and the volume with it: each later call that reads or changes files is answered `Failed`.
     #[error("device fault")]
     Device,
-    /// A growth was refused: nothing was changed.
+    /// There was not enough memory: nothing was changed.
     #[error("out of memory")]
     NoMemory,
-    /// The volume failed before, or an earlier promise of the disk doesn't hold.
+    /// The volume failed before, or the disk broke an earlier promise.
     #[error("failed before")]
     Failed,
 }
@@ -88,10 +89,10 @@ pub enum CallError {
 /// Why an image wasn't copied.
 #[derive(Clone, Copy, Debug, PartialEq, Eq, Error)]
 pub enum CopyError {
-    /// What was to be copied is refused, or its device failed.
+    /// The source is refused, or its device failed.
     #[error("source: {0}")]
     Source(VolumeError),
-    /// The device failed that the copy was written to.
+    /// The device of the copy failed.
     #[error("device fault of the copy")]
     Target,
 }

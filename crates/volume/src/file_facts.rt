@@ -1,7 +1,8 @@
+//! The facts of a file.
 use retrieval::Mode;
 use words36::Moment;
 
-/// What is known of a file beside its words.
+/// What is known of a file besides its words.
 #[derive(Clone, Copy, Debug, PartialEq, Eq)]
 pub struct FileFacts {
     /// Three octal digits: owner, project, others.
@@ -12,6 +13,6 @@ pub struct FileFacts {
     pub moment: Moment,
     /// Its length in words.
     pub words: u32,
-    /// How many blocks its words take.
+    /// The number of blocks that its words take.
     pub blocks: u32,
 }

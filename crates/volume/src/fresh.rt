@@ -1,3 +1,4 @@
+//! The making of a new volume.
 ghost use Rattle.std.specs.Prelude.{◌≡◌, ◌⊎◌, ◌<◌, ◌≤◌, ◌+◌, ◌↔◌, ◌^◌, ℕ, Some, OnOk, IsErrOf};
 ghost use Rattle.blockdisk.specs.Common.{LeavesOnly, Near, Modifies, NoneOpen};
 ghost use Rattle.blockdisk.specs.declared.fault.Fault.TheVariants.{Device as Failed, Damaged};
@@ -17,16 +18,14 @@ use spec_image::layout::{
 };
 use words36::{BLOCK_WORDS, Block, Word};
 
-/// Makes a volume with no directory, in a layout, of a disk of 64 to 131072 blocks. The blocks behind the
-/// master directory's first, and the log's images, stay as they are. A disk whose making was stopped by a
-/// crash may be anything.
+/// Makes a volume with no directory, in a layout, of a disk of 64 to 131072 blocks. The blocks after the first of the
+/// master directory, and the images of the log, stay as they are. If a crash interrupts it, the disk may be anything.
 ///
 /// # Errors
 ///
-/// `NotVolume` where the disk has another number of blocks, with nothing written; `Device` where the
-/// device failed.
+/// `NotVolume` if the disk has another number of blocks, with nothing written; `Device` if the device failed.
 pub fn init_layout<D: Disk>(disk: &mut D, layout: Layout) -> Result<(), VolumeError>
-    // The disk is a volume of that layout then, and stands for no files: whatever a crash leaves.
+    // The disk is a volume of that layout then, and whatever a crash leaves stands for no files.
     ensures stands { (D.state disk.new).honest
         → OnOk result (AtRest (D.state disk.new)
         (λ c. StandsOn (pack_in (layout_number layout) (D.state disk.old).size) c empty)) }
@@ -61,7 +60,7 @@ pub fn init_layout<D: Disk>(disk: &mut D, layout: Layout) -> Result<(), VolumeEr
     }
 }
 
-/// Writes the blocks of a volume of a layout with no directory, and waits until they are on the disk.
+/// Writes the blocks of a volume with no directory, in a layout, and waits until they are on the disk.
 fn write_volume<D: Disk>(disk: &mut D, layout: Layout) -> Result<(), Fault>
     requires { IsVolumeSize (D.state disk.old).size }
     ensures bare { (D.state disk.new).honest
@@ -81,7 +80,7 @@ fn write_volume<D: Disk>(disk: &mut D, layout: Layout) -> Result<(), Fault>
     disk.sync()
 }
 
-/// Writes the blocks from `from` to before `end` as a volume of a layout with no directory has them.
+/// Writes the blocks from `from` to before `end` as a volume with no directory has them in a layout.
 fn write_fresh<D: Disk>(disk: &mut D, layout: Layout, from: u32, end: u32) -> Result<(), Fault>
     requires volume { IsVolumeSize (D.state disk.old).size }
     requires inside { end ≤ (D.state disk.old).size }
@@ -99,7 +98,7 @@ fn write_fresh<D: Disk>(disk: &mut D, layout: Layout, from: u32, end: u32) -> Re
     Ok(())
 }
 
-/// The words that a block gets when a volume of a layout is made.
+/// Returns the words that a block gets when a volume of a layout is made.
 fn fresh_block(layout: Layout, size: u32, n: u32) -> Block
     requires volume { IsVolumeSize size }
     requires inside { n < size }
@@ -119,7 +118,7 @@ fn fresh_block(layout: Layout, size: u32, n: u32) -> Block
     }
 }
 
-/// The words of table block `i`, counted from 0, where the bits of the blocks below `limit` are set.
+/// Returns the words of table block `i`, counted from 0, with the bits of the blocks below `limit` set.
 fn table_block(i: u32, limit: u32) -> Block
     requires { i < 32 }
     ensures { result ≡ table_words (bit_below limit) i }
@@ -134,8 +133,8 @@ fn table_block(i: u32, limit: u32) -> Block
     words
 }
 
-/// The word of the table whose first bit is that of block `from`, where the bits of the blocks below
-/// `limit` are set.
+/// Returns the word of the table whose first bit is that of block `from`, with the bits of the blocks below `limit`
+/// set.
 fn table_word(from: u32, limit: u32) -> Word
     requires { from + 36 < 2 ^ 32 }
     ensures { result ≡ number_of (bit_below limit) from 36 }

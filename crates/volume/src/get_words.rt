@@ -1,3 +1,4 @@
+//! The reading of words of a version.
 ghost use Rattle.std.specs.Prelude.{◌≡◌, ◌↔◌, ◌⊎◌, ◌+◌, ◌-◌, ◌*◌, ◌<◌, ℕ, List, true, false, Some, None, IfOk};
 ghost use Rattle.std.specs.Prelude.{IsErrOf, length, min, slice_index, take};
 ghost use Rattle.std.specs.List.{AllByRecursion};
@@ -6,22 +7,22 @@ ghost use Rattle.spec_image.specs.declared.code.ErrorCode.{ErrorCode};
 ghost use Rattle.spec_image.specs.Common.{blocks_of, InSpace, File, Files, HasBody, block_start, words_from};
 ghost use Rattle.alloctab.specs.Common.{IsTable};
 ghost use Rattle.retrieval.specs.Common.{VersionState};
-ghost use Rattle.volume.specs.Common.{DeviceAnswer, IsWholeCore, core_of, version_under, IsReadable, RestsAt};
+ghost use Rattle.volume.specs.Common.{DeviceAnswer, IsWholeMemory, memory_of, version_under, IsReadable, RestsAt};
 ghost use Rattle.volume.specs.declared.error.CallError.TheVariants.{Refused, Device, NoMemory, Failed};
 
 use crate::CallError;
 use crate::handles::VersionHandle;
 use crate::live::LiveMap;
-use crate::map::Volume;
+use crate::volume::Volume;
 use blockdisk::Disk;
 use retrieval::{BodyError, Version, get_words};
 use std::alloc::Global;
 use words36::Word;
 
-/// The version that is read.
+/// Returns the version that a handle is of.
 fn version_under(map: &LiveMap, handle: VersionHandle) -> &Version
-    requires { IsReadable (core_of map.now) handle }
-    ensures { version_under (core_of map.now) handle ≡ Some result.now }
+    requires { IsReadable (memory_of map.now) handle }
+    ensures { version_under (memory_of map.now) handle ≡ Some result.now }
 {
     match handle {
         VersionHandle::Pinned(pin) => match map.versions.get(pin.key) {
@@ -36,14 +37,14 @@ fn version_under(map: &LiveMap, handle: VersionHandle) -> &Version
 }
 
 impl<D: Disk> Volume<D> {
-    /// The words of a version's body from block `block` on, counted from 1, at most `count` of them; fewer where
-    /// the body ends before. They are those of the version that was pinned, whatever stands under its name now.
+    /// Returns the words of a version's body from block `block`, counted from 1: at most `count` of them, and fewer if
+    /// the body ends before. They are those of the version that was pinned, whatever its name has now.
     ///
     /// # Errors
     ///
-    /// `NoMemory` where the words find no room, with nothing read; `Device` where the device failed, and the
-    /// volume with it; `Failed` where the volume failed before, or where a block is damaged, which no honest
-    /// disk shows: the volume has failed then.
+    /// `NoMemory` if there is no memory for the words, with nothing read; `Device` if the device failed, and the volume
+    /// with it; `Failed` if the volume failed before, or if a block is damaged, which no honest disk shows: the volume
+    /// has failed then.
     pub fn get_words(
         &mut self,
         alloc: Global,
@@ -51,33 +52,33 @@ impl<D: Disk> Volume<D> {
         block: u32,
         count: u32,
     ) -> Result<Vec<Word>, CallError>
-        requires live { IsReadable self.old.core handle }
+        requires live { IsReadable self.old.map handle }
         requires first { 0 < block }
         ensures words { (D.state self.new.disk).honest → (v : VersionState)
-            → version_under self.old.core handle ≡ Some v → (body : List ℕ) → length body ≡ v.words
+            → version_under self.old.map handle ≡ Some v → (body : List ℕ) → length body ≡ v.words
             → HasBody (D.state self.old.disk).contents v.blocks body
             → IfOk result (λ words. words.items ≡ take count (words_from body block)) }
-        // A damaged block is never answered as words.
+        // A damaged block is never returned as words.
         ensures whole { (D.state self.new.disk).honest → (v : VersionState)
-            → version_under self.old.core handle ≡ Some v
+            → version_under self.old.map handle ≡ Some v
             → IfOk result (λ words. (i : ℕ) → i * 128 < length words.items
             → (D.state self.old.disk).contents (slice_index v.blocks (block - 1 + i)) ≡ None → ⊥) }
-        ensures few { (v : VersionState) → version_under self.old.core handle ≡ Some v
+        ensures few { (v : VersionState) → version_under self.old.map handle ≡ Some v
             → IfOk result (λ words. length words.items ≡ min count (v.words - block_start block)) }
 
-        // Nothing is written, and core stays.
+        // Nothing is written, and memory stays as it was.
         ensures reads { (D.state self.new.disk).honest → OnlyReads (D.state self.old.disk) (D.state self.new.disk) }
         ensures rests { (D.state self.new.disk).honest → (files : Files File) → RestsAt (D.state self.old.disk) files
             → RestsAt (D.state self.new.disk) files }
-        ensures core { self.new.core ≡ self.old.core }
+        ensures map { self.new.map ≡ self.old.map }
 
         // Which error comes when, and what it leaves.
         ensures plain { (code : ErrorCode) → IsErrOf result (Refused code) → ⊥ }
         ensures memory { IsErrOf result NoMemory → self.new.disk ≡ self.old.disk }
-        // Where there are no words the disk isn't asked.
+        // If there are no words, the disk isn't called.
         ensures none { IfOk result (λ words. length words.items ≡ 0 → self.new.disk ≡ self.old.disk) }
         ensures failed { self.old.failed ≡ true → IsErrOf result Failed }
-        ensures broken { self.old.failed ≡ true → (self.new.disk ≡ self.old.disk) × (self.new.core ≡ self.old.core) }
+        ensures broken { self.old.failed ≡ true → (self.new.disk ≡ self.old.disk) × (self.new.map ≡ self.old.map) }
         ensures given_up { IsErrOf result Failed → (self.old.failed ≡ true) ⊎ ((D.state self.new.disk).honest → ⊥) }
         ensures answer { DeviceAnswer (D.state self.old.disk) (D.state self.new.disk) self.old.failed self.new.failed
             result }
@@ -86,7 +87,7 @@ impl<D: Disk> Volume<D> {
         if self.failed {
             return Err(CallError::Failed);
         }
-        let _booked = self.map.table.booked(); // any table is one as it should be
+        let _booked = self.map.table.booked(); // every table is valid
         let version = version_under(&self.map, handle);
         match get_words(alloc, &mut self.disk, version, block, count) {
             Ok(words) => Ok(words),

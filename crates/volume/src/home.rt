@@ -1,3 +1,4 @@
+//! The home copies: their words, and what these say.
 ghost use Rattle.std.specs.Prelude.{◌≡◌, ◌⊎◌, ◌<◌, ◌≤◌, ℕ, IfOk, IfSome, IfNone, IsErrOf, slice_index};
 ghost use Rattle.spec_image.specs.Common.{IsVolumeSize, home_block, IsHome, InSpace, IsNotVolume, IsBadHome};
 ghost use Rattle.spec_image.specs.Common.{IsLayout, layout_number};
@@ -15,10 +16,10 @@ use words36::{BLOCK_WORDS, Block, Word};
 /// FILSER in SIXBIT, the first word of a home copy.
 const HOME_WORD: u64 = 0o465154634562;
 
-/// The place of the word in a home copy that names the layout.
+/// The place in a home copy of the word that names the layout.
 const LAYOUT_PLACE: usize = 1;
 
-/// The place of the word in a home copy that names the first block of the master directory.
+/// The place in a home copy of the word that names the first block of the master directory.
 const MASTER_PLACE: usize = 5;
 
 /// What a valid home copy says.
@@ -35,13 +36,13 @@ pub struct Home {
 pub enum HomeCopy {
     /// Every word of it is right, and it says this.
     Valid(Home),
-    /// It has the name, and isn't valid.
+    /// It has the name, but isn't valid.
     Named,
     /// It is damaged, or doesn't have the name.
     Unnamed,
 }
 
-/// The words of the home copies of a disk of so many blocks that say this.
+/// Returns the words of a home copy that says this, on a disk of `size` blocks.
 pub fn home_block(size: u32, home: Home) -> Block
     requires { IsVolumeSize size }
     ensures { result ≡ home_block size (home_in (layout_number home.layout) home.master) }
@@ -56,7 +57,7 @@ pub fn home_block(size: u32, home: Home) -> Block
     words
 }
 
-/// The layout that a word of a home copy names; `None` if an image may not have it.
+/// Returns the layout that a word of a home copy names; `None` if an image may not have it.
 fn layout_at(word: Word) -> Option<Layout>
     ensures some { IfSome result (λ layout. (layout_number layout ≡ word) × IsLayout word) }
     ensures none { IfNone result (IsLayout word → ⊥) }
@@ -64,8 +65,8 @@ fn layout_at(word: Word) -> Option<Layout>
     Layout::from_number(word.bits())
 }
 
-/// What the words of a home copy name on a disk of so many blocks; `None` if the layout is none that an image may have,
-/// or the first block of the master directory lies outside the free space.
+/// Returns what the words of a home copy name on a disk of `size` blocks; `None` if no image may have the layout, or if
+/// the first block of the master directory lies outside the free space.
 fn home_at(size: u32, words: &Block) -> Option<Home>
     requires { IsVolumeSize size }
     ensures layout { IfSome result (λ home. layout_number home.layout ≡ slice_index words.now 1) }
@@ -85,7 +86,7 @@ fn home_at(size: u32, words: &Block) -> Option<Home>
     })
 }
 
-/// What a home copy with these words is, on a disk of so many blocks.
+/// Returns what a home copy with these words is, on a disk of `size` blocks.
 fn copy_of(size: u32, words: &Block) -> HomeCopy
     requires { IsVolumeSize size }
     ensures found { (n : ℕ) → IsFound size (holds_words words.now) n result }
@@ -100,11 +101,11 @@ fn copy_of(size: u32, words: &Block) -> HomeCopy
     }
 }
 
-/// What the home copy in block `n` is.
+/// Returns what the home copy in block `n` is.
 ///
 /// # Errors
 ///
-/// `Device` where the device failed.
+/// `Device` if the device failed.
 fn read_copy<D: Disk>(disk: &mut D, n: u32) -> Result<HomeCopy, VolumeError>
     requires volume { IsVolumeSize (D.state disk.old).size }
     requires first { n ≤ 2 }
@@ -122,12 +123,12 @@ fn read_copy<D: Disk>(disk: &mut D, n: u32) -> Result<HomeCopy, VolumeError>
     }
 }
 
-/// What the first valid home copy says. The second copy is read only if the first isn't valid.
+/// Returns what the first valid home copy says. The second copy is read only if the first isn't valid.
 ///
 /// # Errors
 ///
-/// `NotVolume` where the disk has a number of blocks that no volume has, or neither copy has the name;
-/// `BadHome` where a copy has the name and none is valid; `Device` where the device failed.
+/// `NotVolume` if the disk has a number of blocks that no volume has, or neither copy has the name; `BadHome` if a copy
+/// has the name but none is valid; `Device` if the device failed.
 pub fn read_home<D: Disk>(disk: &mut D) -> Result<Home, VolumeError>
     ensures ok { (D.state disk.new).honest
         → IfOk result (λ home. IsHome (D.state disk.old).size (D.state disk.old).contents

@@ -1,3 +1,4 @@
+//! Lists of the files of a directory, and of all directories.
 ghost use Rattle.std.specs.Prelude.{◌≡◌, ◌↔◌, ◌⊎◌, true, false, length, map, None, Some, IfOk, OnOk, IfErr, IsErrOf};
 ghost use Rattle.std.specs.Prelude.{IsTrue};
 ghost use Rattle.std.specs.FinMap.Entries.{find};
@@ -11,8 +12,8 @@ ghost use Rattle.volume.specs.declared.error.CallError.TheVariants.{Refused, NoM
 
 use crate::CallError;
 use crate::live::{LiveDirectory, LiveVersion};
-use crate::map::Volume;
 use crate::query::{directory_place, named_facts};
+use crate::volume::Volume;
 use blockdisk::Disk;
 use directory::{Chain, FileEntry, MasterEntry};
 use slab::Slab;
@@ -20,11 +21,11 @@ use spec_image::Entry;
 use std::alloc::Global;
 use words36::Ppn;
 
-/// Puts the line of an entry of this directory behind the others.
+/// Adds the line of an entry of this directory after the others.
 ///
 /// # Errors
 ///
-/// `NoMemory` where it finds no room.
+/// `NoMemory` if there is no memory for it.
 fn push_line(
     versions: &Slab<LiveVersion>,
     directory: &LiveDirectory,
@@ -55,11 +56,11 @@ fn push_line(
     Ok(())
 }
 
-/// The lines of the files of a directory, by name and then by extension, as numbers.
+/// Returns the lines of the files of a directory, sorted by name and then by extension, as numbers.
 ///
 /// # Errors
 ///
-/// `NoMemory` where they find no room.
+/// `NoMemory` if there is no memory for them.
 fn directory_lines(
     alloc: Global,
     versions: &Slab<LiveVersion>,
@@ -84,11 +85,11 @@ fn directory_lines(
     Ok(lines)
 }
 
-/// The owners of the directories that the master directory names, by their numbers.
+/// Returns the owners of the directories that the master directory names, sorted by their numbers.
 ///
 /// # Errors
 ///
-/// `NoMemory` where they find no room.
+/// `NoMemory` if there is no memory for them.
 fn master_owners(alloc: Global, master: &Chain<MasterEntry>) -> Result<Vec<Ppn>, CallError>
     ensures value { IfOk result (λ owners. owners.items
         ≡ keys (from_entries {R = nat_cmp} (map master_view master.now.entries))) }
@@ -107,12 +108,12 @@ fn master_owners(alloc: Global, master: &Chain<MasterEntry>) -> Result<Vec<Ppn>,
 }
 
 impl<D: Disk> Volume<D> {
-    /// The files of a directory, by name and then by extension, as numbers.
+    /// Returns the files of a directory, sorted by name and then by extension, as numbers.
     ///
     /// # Errors
     ///
-    /// `Refused(NoDirectory)` where there is no such directory, `NoMemory` where the list finds no room,
-    /// `Failed` where the volume failed before.
+    /// `Refused(NoDirectory)` if there is no such directory, `NoMemory` if there is no memory for the list, `Failed` if
+    /// the volume failed before.
     pub fn list(&self, alloc: Global, ppn: Ppn) -> Result<Vec<Entry>, CallError>
         ensures listed { (D.state self.now.disk).honest → self.now.failed ≡ false → (files : Files File)
             → RestsAt (D.state self.now.disk) files
@@ -132,11 +133,11 @@ impl<D: Disk> Volume<D> {
         directory_lines(alloc, &self.map.versions, directory)
     }
 
-    /// The owners of all directories, by their numbers.
+    /// Returns the owners of all directories, sorted by their numbers.
     ///
     /// # Errors
     ///
-    /// `NoMemory` where they find no room, `Failed` where the volume failed before.
+    /// `NoMemory` if there is no memory for them, `Failed` if the volume failed before.
     pub fn owners(&self, alloc: Global) -> Result<Vec<Ppn>, CallError>
         ensures value { (D.state self.now.disk).honest → self.now.failed ≡ false → (files : Files File)
             → RestsAt (D.state self.now.disk) files

@@ -1,3 +1,4 @@
+//! The map of a volume in memory: directories with their chains, and versions by their keys.
 ghost use Rattle.std.specs.Prelude.{◌≡◌, ◌<◌, ◌≤◌, ◌+◌, ◌-◌, ◌^◌, ◌↔◌, ◌⊎◌, [], ℕ, None, Some, true, false, map};
 ghost use Rattle.std.specs.Prelude.{filter_map, length, IfOk, OnOk, IfSome, IsSome, IsTrue};
 ghost use Rattle.std.specs.List.{AllByRecursion, AllZip};
@@ -6,14 +7,14 @@ ghost use Rattle.alloctab.specs.Common.{holds};
 ghost use Rattle.slab.specs.Slab.{Updates};
 ghost use Rattle.volume.specs.Common.{file_view, known_of, known_version, known_directory, blocks_reached};
 ghost use Rattle.volume.specs.Common.{reaches_in_entries, IsWholeVersion, IsWholeMap, IsCurrent, IsKeyed};
-ghost use Rattle.volume.specs.Common.{IsFirstRead, IsWholeCore, slot, current_reaches, entry_reaches, core_of};
+ghost use Rattle.volume.specs.Common.{IsFirstRead, IsWholeMemory, slot, current_reaches, entry_reaches, memory_of};
 ghost use Rattle.volume.specs.Common.{known_at, live_directory};
 ghost use Rattle.volume.specs.declared.live.LiveVersion.{LiveVersion};
 
 use crate::cost::version_cost;
-use crate::files::StoredVersion;
-use crate::map::{DiskMap, StoredDirectory};
 use crate::pending::PendingVersion;
+use crate::read_file::LoadedVersion;
+use crate::volume::{LoadedDirectory, LoadedMap};
 use alloctab::Table;
 use blockdisk::NoMemory;
 use directory::{Chain, FileEntry, Keys, MasterEntry};
@@ -21,22 +22,22 @@ use retrieval::{Prime, Version};
 use slab::Slab;
 use std::alloc::Global;
 
-/// A version that stands on the disk, and is in use: a file of the disk has it, or readers hold it.
+/// A version that is stored on the disk and in use: a file of the disk has it, or it is pinned.
 #[derive(Drop)]
 pub struct LiveVersion {
-    /// What its prime block says of it, beside the length.
+    /// What its prime block says of it, besides the length.
     pub prime: Prime,
     /// Its length, and where it lies.
     pub version: Version,
     /// Its prime block.
     pub at: u32,
-    /// How many readers hold it.
+    /// The number of its readers.
     pub readers: u32,
     /// Whether a file of the disk has it.
     pub is_current: bool,
 }
 
-/// A directory in core: its chain, and for each entry, in their order, the key of the version of its file.
+/// A directory in memory: its chain, and for each entry, in their order, the key of the version of its file.
 #[derive(Drop)]
 pub struct LiveDirectory {
     /// The chain with its entries.
@@ -45,7 +46,7 @@ pub struct LiveDirectory {
     pub keys: Keys,
 }
 
-/// What a volume keeps in core.
+/// What a volume has in memory.
 #[derive(Drop)]
 pub struct LiveMap {
     /// The chain of the master directory with its entries.
@@ -61,9 +62,9 @@ pub struct LiveMap {
 }
 
 /// Gives a version that was read a key. Its prime block is the one that its entry names.
-fn keep_version(
+fn into_live_version(
     entry: &FileEntry,
-    version: StoredVersion,
+    version: LoadedVersion,
     versions: &mut Slab<LiveVersion>,
 ) -> Result<usize, NoMemory>
     ensures vacant { IfOk result (λ key. slot versions.old.slots key ≡ None) }
@@ -76,7 +77,7 @@ fn keep_version(
           is_current = true;
         }))) }
 {
-    let StoredVersion { prime, version } = version;
+    let LoadedVersion { prime, version } = version;
     let live = LiveVersion {
         prime,
         version,
@@ -91,10 +92,10 @@ fn keep_version(
 }
 
 /// Gives the version of each of these entries of a directory a key.
-fn keep_versions(
+fn into_live_versions(
     alloc: Global,
     entries: &[FileEntry],
-    stored: Vec<StoredVersion>,
+    stored: Vec<LoadedVersion>,
     versions: &mut Slab<LiveVersion>,
 ) -> Result<Keys, NoMemory>
     requires aligned { length stored.items ≡ length entries.now }
@@ -113,16 +114,16 @@ fn keep_versions(
 {
     let mut keys = Keys::new(alloc);
     for (entry, version) in entries.iter().zip(stored) {
-        let key = keep_version(entry, version, versions)?;
+        let key = into_live_version(entry, version, versions)?;
         keys.push(key)?;
     }
     Ok(keys)
 }
 
 /// Gives each version of a directory a key.
-fn keep_directory(
+fn into_live_directory(
     alloc: Global,
-    directory: StoredDirectory,
+    directory: LoadedDirectory,
     versions: &mut Slab<LiveVersion>,
 ) -> Result<LiveDirectory, NoMemory>
     requires aligned { length directory.versions.items ≡ length directory.chain.entries }
@@ -137,30 +138,30 @@ fn keep_directory(
         ≡ total (current_reaches n) versions.old.slots + reaches_in_entries n (map file_view directory.chain.entries)
         (map known_version directory.versions.items)) }
 {
-    let StoredDirectory {
+    let LoadedDirectory {
         chain,
         versions: stored,
     } = directory;
-    let keys = keep_versions(alloc, chain.entries(), stored, versions)?;
+    let keys = into_live_versions(alloc, chain.entries(), stored, versions)?;
     Ok(LiveDirectory { chain, keys })
 }
 
-/// Gives each version of a map that was read a key. Nobody holds any yet.
+/// Gives each version of a map that was read a key. None is pinned yet.
 ///
 /// # Errors
 ///
-/// `NoMemory` where the keys or the versions find no room.
-pub fn keep(alloc: Global, map: DiskMap) -> Result<LiveMap, NoMemory>
+/// `NoMemory` if there is no memory for the keys or the versions.
+pub fn keep(alloc: Global, map: LoadedMap) -> Result<LiveMap, NoMemory>
     requires whole { (size : ℕ) × IsWholeMap size (known_of map) }
-    ensures known { IfOk result (λ live. (core_of live).known ≡ known_of map) }
-    ensures keyed { IfOk result (λ live. AllZip (IsKeyed (core_of live).live) (core_of live).known.directories
-        (core_of live).keys) }
-    ensures read { IfOk result (λ live. AllByRecursion (λ o. IfSome o IsFirstRead) (core_of live).live) }
-    ensures none { IfOk result (λ live. (core_of live).pending ≡ []) }
-    ensures current { IfOk result (λ live. (n : ℕ) → total (current_reaches n) (core_of live).live
-        ≡ entry_reaches n (core_of live).known.directories) }
+    ensures known { IfOk result (λ live. (memory_of live).known ≡ known_of map) }
+    ensures keyed { IfOk result (λ live. AllZip (IsKeyed (memory_of live).live) (memory_of live).known.directories
+        (memory_of live).keys) }
+    ensures read { IfOk result (λ live. AllByRecursion (λ o. IfSome o IsFirstRead) (memory_of live).live) }
+    ensures none { IfOk result (λ live. (memory_of live).pending ≡ []) }
+    ensures current { IfOk result (λ live. (n : ℕ) → total (current_reaches n) (memory_of live).live
+        ≡ entry_reaches n (memory_of live).known.directories) }
 {
-    let DiskMap {
+    let LoadedMap {
         layout: _,
         master,
         directories: stored,
@@ -169,7 +170,7 @@ pub fn keep(alloc: Global, map: DiskMap) -> Result<LiveMap, NoMemory>
     let mut versions = Slab::new(alloc);
     let mut directories = Vec::new(alloc);
     for directory in stored {
-        let live = keep_directory(alloc, directory, &mut versions)?;
+        let live = into_live_directory(alloc, directory, &mut versions)?;
         if directories.push(live).is_err() {
             return Err(NoMemory);
         }
@@ -183,7 +184,7 @@ pub fn keep(alloc: Global, map: DiskMap) -> Result<LiveMap, NoMemory>
     })
 }
 
-/// One reader more of the version under a key.
+/// Counts one reader more of the version under a key.
 fn add_reader(versions: &mut Slab<LiveVersion>, key: usize)
     requires few { IfSome (slot versions.old.slots key) (λ v. v.readers + 1 < 2 ^ 32) }
     ensures counted { IfSome (slot versions.old.slots key) (λ v. slot versions.new.slots key
@@ -195,7 +196,7 @@ fn add_reader(versions: &mut Slab<LiveVersion>, key: usize)
     }
 }
 
-/// One reader less of the version under a key.
+/// Counts one reader fewer of the version under a key.
 fn remove_reader(versions: &mut Slab<LiveVersion>, key: usize)
     requires held { IfSome (slot versions.old.slots key) (λ v. 0 < v.readers) }
     ensures counted { IfSome (slot versions.old.slots key) (λ v. slot versions.new.slots key
@@ -207,7 +208,7 @@ fn remove_reader(versions: &mut Slab<LiveVersion>, key: usize)
     }
 }
 
-/// Whether the version under a key goes with a reader: it isn't current, and this is its last one.
+/// Returns whether the version under a key is removed with a reader: it isn't current, and this is its last one.
 fn goes_with_reader(versions: &Slab<LiveVersion>, key: usize) -> bool
     ensures { IfSome (slot versions.now.slots key) (λ v. IsTrue result ↔ ((v.is_current ≡ false) × (v.readers ≡ 1))) }
 {
@@ -217,7 +218,7 @@ fn goes_with_reader(versions: &Slab<LiveVersion>, key: usize) -> bool
     }
 }
 
-/// Holds each of these blocks once less.
+/// Releases one hold of each of these blocks.
 pub(crate) fn unhold_all(table: &mut Table, blocks: &[u32])
     requires held { (n : ℕ) → times n blocks.now ≤ holds table.old n }
     requires inside { (n : ℕ) → 0 < holds table.old n → n < table.old.size }
@@ -229,7 +230,7 @@ pub(crate) fn unhold_all(table: &mut Table, blocks: &[u32])
     }
 }
 
-/// Holds each of a version's data blocks once less.
+/// Releases one hold of each of a version's data blocks.
 pub(crate) fn unhold_blocks(table: &mut Table, version: &Version)
     requires held { (n : ℕ) → times n version.now.blocks ≤ holds table.old n }
     requires inside { (n : ℕ) → 0 < holds table.old n → n < table.old.size }
@@ -241,7 +242,7 @@ pub(crate) fn unhold_blocks(table: &mut Table, version: &Version)
     }
 }
 
-/// Lets the blocks of a version that was held go, and takes back the booking of what it cost.
+/// Releases one hold of each block of a version, and unbooks what the version cost.
 fn release_version(table: &mut Table, version: &LiveVersion)
     requires held { (n : ℕ) → times n (blocks_reached version.now.at version.now.version) ≤ holds table.old n }
     requires inside { (n : ℕ) → 0 < holds table.old n → n < table.old.size }
@@ -258,45 +259,45 @@ fn release_version(table: &mut Table, version: &LiveVersion)
     table.unbook(version_cost(&version.version));
 }
 
-/// One reader more of a version.
+/// Counts one reader more of a version.
 pub fn pin_version(map: &mut LiveMap, key: usize)
-    requires there { IsSome (slot (core_of map.old).live key) }
-    requires few { IfSome (slot (core_of map.old).live key) (λ v. v.readers + 1 < 2 ^ 32) }
-    ensures core { (core_of map.new) ≡ record (core_of map.old) { live = (core_of map.new).live } }
-    ensures pinned { (v : LiveVersion) → slot (core_of map.old).live key ≡ Some v
-        → slot (core_of map.new).live key ≡ Some (record v { readers = v.readers + 1 }) }
-    ensures others { (k : ℕ) → (k ≡ key → ⊥) → slot (core_of map.new).live k ≡ slot (core_of map.old).live k }
-    ensures whole { (size : ℕ) → IsWholeCore size (core_of map.old) → IsWholeCore size (core_of map.new) }
+    requires there { IsSome (slot (memory_of map.old).live key) }
+    requires few { IfSome (slot (memory_of map.old).live key) (λ v. v.readers + 1 < 2 ^ 32) }
+    ensures map { (memory_of map.new) ≡ record (memory_of map.old) { live = (memory_of map.new).live } }
+    ensures pinned { (v : LiveVersion) → slot (memory_of map.old).live key ≡ Some v
+        → slot (memory_of map.new).live key ≡ Some (record v { readers = v.readers + 1 }) }
+    ensures others { (k : ℕ) → (k ≡ key → ⊥) → slot (memory_of map.new).live k ≡ slot (memory_of map.old).live k }
+    ensures whole { (size : ℕ) → IsWholeMemory size (memory_of map.old) → IsWholeMemory size (memory_of map.new) }
 {
     add_reader(&mut map.versions, key);
 }
 
-/// One reader less of a version. One that isn't current goes with its last reader: its blocks are held no
-/// longer, and what it cost is not booked any more.
+/// Counts one reader fewer of a version. One that isn't current is removed with its last reader: one hold of each of
+/// its blocks is released, and what it cost is unbooked.
 pub fn unpin_version(map: &mut LiveMap, key: usize)
-    requires whole { (size : ℕ) × IsWholeCore size (core_of map.old) }
-    requires there { IsSome (slot (core_of map.old).live key) }
-    requires held { IfSome (slot (core_of map.old).live key) (λ v. 0 < v.readers) }
-    ensures known { (core_of map.new).known ≡ record (core_of map.old).known { table = (core_of map.new).known.table } }
-    ensures keys { (core_of map.new).keys ≡ (core_of map.old).keys }
-    ensures pending { (core_of map.new).pending ≡ (core_of map.old).pending }
-    ensures table { (core_of map.new).known.table
-        ≡ record (core_of map.old).known.table {
-          held = (core_of map.new).known.table.held;
-          booked = (core_of map.new).known.table.booked;
+    requires whole { (size : ℕ) × IsWholeMemory size (memory_of map.old) }
+    requires there { IsSome (slot (memory_of map.old).live key) }
+    requires held { IfSome (slot (memory_of map.old).live key) (λ v. 0 < v.readers) }
+    ensures known { (memory_of map.new).known ≡ record (memory_of map.old).known { table = (memory_of map.new).known.table } }
+    ensures keys { (memory_of map.new).keys ≡ (memory_of map.old).keys }
+    ensures pending { (memory_of map.new).pending ≡ (memory_of map.old).pending }
+    ensures table { (memory_of map.new).known.table
+        ≡ record (memory_of map.old).known.table {
+          held = (memory_of map.new).known.table.held;
+          booked = (memory_of map.new).known.table.booked;
         } }
-    ensures stays { (v : LiveVersion) → slot (core_of map.old).live key ≡ Some v → (v.is_current ≡ true)
+    ensures stays { (v : LiveVersion) → slot (memory_of map.old).live key ≡ Some v → (v.is_current ≡ true)
         ⊎ (1 < v.readers)
-        → (slot (core_of map.new).live key ≡ Some (record v { readers = v.readers - 1 }))
-        × ((core_of map.new).known.table ≡ (core_of map.old).known.table) }
-    ensures gone { (v : LiveVersion) → slot (core_of map.old).live key ≡ Some v → v.is_current ≡ false → v.readers ≡ 1
-        → (slot (core_of map.new).live key ≡ None)
-        × ((n : ℕ) → holds (core_of map.new).known.table n + times n (blocks_reached v.at v.version)
-        ≡ holds (core_of map.old).known.table n)
-        × ((core_of map.new).known.table.booked + cost_of_blocks (length v.version.blocks)
-        ≡ (core_of map.old).known.table.booked) }
-    ensures others { (k : ℕ) → (k ≡ key → ⊥) → slot (core_of map.new).live k ≡ slot (core_of map.old).live k }
-    ensures whole { (size : ℕ) → IsWholeCore size (core_of map.old) → IsWholeCore size (core_of map.new) }
+        → (slot (memory_of map.new).live key ≡ Some (record v { readers = v.readers - 1 }))
+        × ((memory_of map.new).known.table ≡ (memory_of map.old).known.table) }
+    ensures gone { (v : LiveVersion) → slot (memory_of map.old).live key ≡ Some v → v.is_current ≡ false → v.readers ≡ 1
+        → (slot (memory_of map.new).live key ≡ None)
+        × ((n : ℕ) → holds (memory_of map.new).known.table n + times n (blocks_reached v.at v.version)
+        ≡ holds (memory_of map.old).known.table n)
+        × ((memory_of map.new).known.table.booked + cost_of_blocks (length v.version.blocks)
+        ≡ (memory_of map.old).known.table.booked) }
+    ensures others { (k : ℕ) → (k ≡ key → ⊥) → slot (memory_of map.new).live k ≡ slot (memory_of map.old).live k }
+    ensures whole { (size : ℕ) → IsWholeMemory size (memory_of map.old) → IsWholeMemory size (memory_of map.new) }
 {
     if goes_with_reader(&map.versions, key) {
         if let Some(version) = map.versions.try_remove(key) {

@@ -1,3 +1,4 @@
+//! Marks of the blocks that a version reaches.
 ghost use Rattle.std.specs.Prelude.{◌≡◌, ◌+◌, ◌<◌, ◌≤◌, ◌∷◌, ◌++◌, ℕ, OnOk, OnErr, IsErrOf, length};
 ghost use Rattle.std.specs.List.{AllByRecursion};
 ghost use Rattle.spec_image.specs.Common.{times};

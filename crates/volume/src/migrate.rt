@@ -1,3 +1,4 @@
+//! The migration of a volume to layout 2.
 ghost use Rattle.std.specs.Prelude.{◌≡◌, ◌⊎◌, ◌≤◌, ℕ, length, OnOk, IfOk, IfErr, IsErrOf};
 ghost use Rattle.blockdisk.specs.Common.{LeavesOnly, Modifies, NoneOpen, Still};
 ghost use Rattle.changeset.specs.Common.{AllOrNone, IsGateOrLog, IsRecovered, IsShut, SyncsFirst, replaced, AtRest};
@@ -11,8 +12,8 @@ ghost use Rattle.volume.specs.declared.migrate.Migrated.TheVariants.{Done, Alrea
 
 use crate::VolumeError;
 use crate::home::{Home, home_block};
-use crate::map::Volume;
 use crate::start::read_volume;
+use crate::volume::Volume;
 use blockdisk::Disk;
 use changeset::{ChangeSet, LogError, commit};
 use spec_image::layout::{HOME_COPIES, Layout};
@@ -24,11 +25,11 @@ use words36::Block;
 pub enum Migrated {
     /// Both home copies were written again, and name layout 2 now.
     Done,
-    /// The disk had layout 2, and was recovered alone.
+    /// The disk had layout 2, and was only recovered.
     Already,
 }
 
-/// The change that gives both home copies these words.
+/// Returns the change that gives both home copies these words.
 fn home_puts(words: &Block) -> ChangeSet
     ensures { result ≡ home_puts words.now }
 {
@@ -54,7 +55,7 @@ fn put_home(set: &mut ChangeSet, block: u32, words: &Block)
 ///
 /// # Errors
 ///
-/// `Device` where the device failed: recovery then finds both copies as they were, or both written.
+/// `Device` if the device failed: recovery then finds both copies as they were, or both written.
 fn raise<D: Disk>(disk: &mut D, master: u32) -> Result<(), VolumeError>
     requires { IsVolumeSize (D.state disk.old).size }
 
@@ -97,25 +98,25 @@ fn raise<D: Disk>(disk: &mut D, master: u32) -> Result<(), VolumeError>
 }
 
 impl<D: Disk> Volume<D> {
-    /// Gives the volume on a disk layout 2: recovers it first, and then checks all that it reaches, as `open`
-    /// does. Both home copies change as one, and no other block but those of gate and log; its files stay as
-    /// they are.
+    /// Gives the volume on a disk layout 2: recovers it first, and then checks all that it reaches, as `open` does.
+    /// Both home copies change as one, and no other block changes except those of gate and log; its files stay as they
+    /// are.
     ///
     /// # Errors
     ///
-    /// Those of `open`. But for `Device` the disk has at most been recovered then; after `Device` recovery
-    /// finds the files in the layout that they had, or in layout 2.
+    /// Those of `open`. Except after `Device` the disk has at most been recovered then; after `Device` recovery finds
+    /// the files in the layout that they had, or in layout 2.
     pub fn migrate(alloc: Global, disk: &mut D) -> Result<Migrated, VolumeError>
-        // A crash at any moment leaves what stands for whatever something stood for that a crash could leave
-        // before, in the same layout or in layout 2; from the end of the first sync on, for whatever the
-        // contents stood for. Where that sync failed nothing else was done.
+        // A crash at any moment leaves what stands for whatever some contents stood for that a crash could leave
+        // before, in the same layout or in layout 2; after the first sync, for whatever the contents before the call
+        // stood for. If that sync failed, nothing else was done.
         ensures crash { (D.state disk.new).honest
             → LeavesOnly (D.state disk.old) (D.state disk.new) (RaisedLikeBefore (D.state disk.old)) }
         ensures synced { (D.state disk.new).honest
             → SyncsFirst D.state disk.old disk.new (IsErrOf result Device) (RaisedLike (D.state disk.old)) }
 
-        // At Ok it stood for some files; whatever it stood for, all that a crash leaves stands for in layout 2. `Done`
-        // tells that the layout was 1, `Already` that it was 2.
+        // At Ok the disk stood for some files; whatever it stood for, all that a crash leaves stands for in layout 2.
+        // `Done` means that the layout was 1, `Already` that it was 2.
         ensures stood { (D.state disk.new).honest → IfOk result (λ migrated. (layout : ℕ) × (files : Files File)
             × StandsOn (pack_in layout (D.state disk.old).size) (D.state disk.old).contents files) }
         ensures files { (D.state disk.new).honest → (layout : ℕ) (files : Files File)
@@ -123,13 +124,14 @@ impl<D: Disk> Volume<D> {
             → IfOk result (λ migrated. IsTold layout migrated × AtRest (D.state disk.new)
             (λ c. SettledStandsOn (pack_in 2 (D.state disk.old).size) c files)) }
         ensures settled { (D.state disk.new).honest → IfOk result (λ migrated. NoneOpen (D.state disk.new)) }
-        // At `Done` it was recovered, and both copies were written; at `Already` it was recovered and nothing else.
+        // At `Done` it was recovered, and both copies were written; at `Already` it was only recovered.
         ensures done { (D.state disk.new).honest → IfOk result (λ migrated. migrated ≡ Done
             → IsMigrated (D.state disk.old).size (D.state disk.old).contents (D.state disk.new).contents) }
         ensures already { (D.state disk.new).honest → IfOk result (λ migrated. migrated ≡ Already
             → IsRecovered (D.state disk.old).size (D.state disk.old).contents (D.state disk.new).contents) }
 
-        // A refusal names a fault that stands; but for `Device` the disk was recovered, or nothing was written.
+        // A refusal names a fault that the disk has; unless it is `Device`, the disk was recovered, or nothing was
+        // written.
         ensures refused { (D.state disk.new).honest
             → IfErr result (Refuses (D.state disk.old).size (D.state disk.new).contents) }
         ensures kept { (D.state disk.new).honest → IfErr result (λ error. (error ≡ Device → ⊥)

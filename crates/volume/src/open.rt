@@ -1,3 +1,4 @@
+//! The reading of all that a disk reaches, and of its allocation table.
 ghost use Rattle.std.specs.Prelude.{◌≡◌, ◌+◌, ◌<◌, ℕ, false, map, length, replicate, IfOk, IfErr, IsErrOf};
 ghost use Rattle.std.specs.List.{AllByRecursion};
 ghost use Rattle.std.specs.Ordering.{nat_cmp};
@@ -7,16 +8,16 @@ ghost use Rattle.spec_image.specs.Common.{IsMasterEntryOf};
 ghost use Rattle.alloctab.specs.Common.{InTable, digit_at, wanted_bit, bit};
 ghost use Rattle.directory.specs.Common.{nodes_of, IsChain, IsOn, viewed};
 ghost use Rattle.volume.specs.Common.{master_view, known_directory, known_of, ReadsDisk, home_in, known_reaches};
-ghost use Rattle.volume.specs.Common.{IsWholeDirectory, IsWholeMap, IsBooked, IsHeld, IsOnlySpace, IsMapFound};
+ghost use Rattle.volume.specs.Common.{IsWholeDirectory, IsWholeMap, IsBooked, MatchesMap, IsOnlySpace, IsMapFound};
 ghost use Rattle.volume.specs.Common.{IsRightFor, IsWrongFor, NamesInSpace, SettledRefuses, IsTableRefusal};
 ghost use Rattle.volume.specs.declared.error.VolumeError.TheVariants.{Device, TableWrong};
 
 use crate::VolumeError;
 use crate::cost::book_map;
 use crate::home::read_home;
-use crate::map::{DiskMap, StoredDirectory};
 use crate::quota::refuse_quotas;
 use crate::read::read_directories;
+use crate::volume::{LoadedDirectory, LoadedMap};
 use alloctab::{Reached, Table, TableError};
 use blockdisk::Disk;
 use directory::{Chain, MasterEntry};
@@ -31,7 +32,7 @@ fn load_master<D: Disk>(
     layout: Layout,
     reached: &mut Reached,
 ) -> Result<Chain<MasterEntry>, VolumeError>
-    // What the caller sees to.
+    // What the caller ensures.
     requires volume { IsVolumeSize (D.state disk.old).size }
     requires inside { InSpace (D.state disk.old).size first }
     requires marks { length reached.old ≡ (D.state disk.old).size }
@@ -68,20 +69,20 @@ fn load_master<D: Disk>(
     }
 }
 
-/// Reads the master directory, that begins in block `first`, and all that it names, in a layout.
+/// Reads the master directory, which begins in block `first`, and all that it names, in a layout.
 fn read_tree<D: Disk>(
     alloc: Global,
     disk: &mut D,
     first: u32,
     layout: Layout,
     reached: &mut Reached,
-) -> Result<(Chain<MasterEntry>, Vec<StoredDirectory>), VolumeError>
-    // What the caller sees to.
+) -> Result<(Chain<MasterEntry>, Vec<LoadedDirectory>), VolumeError>
+    // What the caller ensures.
     requires volume { IsVolumeSize (D.state disk.old).size }
     requires inside { InSpace (D.state disk.old).size first }
     requires marks { length reached.old ≡ (D.state disk.old).size }
     requires fresh { (n : ℕ) → digit_at reached.old n ≡ 0 }
-    // What was read, or met where it is refused.
+    // What was read, or the fault that was met.
     ensures read { (D.state disk.new).honest
         → IsHome (D.state disk.old).size (D.state disk.old).contents (home_in (layout_number layout) first)
         → IfOk result (λ tree. IsMapFound (D.state disk.old).size (D.state disk.old).contents (layout_number layout)
@@ -90,7 +91,7 @@ fn read_tree<D: Disk>(
         → IsHome (D.state disk.old).size (D.state disk.old).contents (home_in (layout_number layout) first)
         → IfErr result (SettledRefuses (D.state disk.old).size (D.state disk.old).contents) }
     ensures named { IfErr result (NamesInSpace (D.state disk.old).size) }
-    // It is as a map has to be, with its blocks marked.
+    // It is valid as a map, and its blocks are marked.
     ensures marked { IfOk result (λ tree. (n : ℕ)
         → digit_at reached.new n ≡ known_reaches n (viewed master_view tree.0) (map known_directory tree.1.items)) }
     ensures space { IfOk result (λ tree. IsOnlySpace (D.state disk.old).size reached.new) }
@@ -109,21 +110,21 @@ fn read_tree<D: Disk>(
     Ok((master, directories))
 }
 
-/// Reads the allocation table of a disk of which these blocks are reached.
+/// Reads the allocation table of a disk on which these blocks are reached.
 fn load_table<D: Disk>(alloc: Global, disk: &mut D, reached: &Reached) -> Result<Table, VolumeError>
-    // What the caller sees to.
+    // What the caller ensures.
     requires volume { IsVolumeSize (D.state disk.old).size }
     requires marks { length reached.now ≡ (D.state disk.old).size }
-    // The table is right, or the refusal names a block that is not.
+    // The table is right, or the refusal names a block that isn't.
     ensures right { (D.state disk.new).honest
         → IfOk result (IsRightFor (D.state disk.old).size (D.state disk.old).contents reached.now) }
     ensures wrong { (D.state disk.new).honest → (n : ℕ) → IsErrOf result (TableWrong n)
         → IsWrongFor (D.state disk.old).size (D.state disk.old).contents reached.now n }
-    // On every disk it is a block of the table.
+    // On every disk that block is one of the table.
     ensures named { (n : ℕ) → IsErrOf result (TableWrong n) → InTable (D.state disk.old).size n }
     ensures wanted { IfOk result (λ table. (n : ℕ) → bit table n ≡ wanted_bit (D.state disk.old).size reached.now n) }
     ensures only { IfErr result IsTableRefusal }
-    // It is as a table is at first.
+    // Nothing in it is held, booked or changed yet.
     ensures size { IfOk result (λ table. table.size ≡ (D.state disk.old).size) }
     ensures unheld { IfOk result (λ table. table.held ≡ replicate (D.state disk.old).size 0) }
     ensures unbooked { IfOk result (λ table. table.booked ≡ 0) }
@@ -147,12 +148,12 @@ fn load_table<D: Disk>(alloc: Global, disk: &mut D, reached: &Reached) -> Result
 ///
 /// # Errors
 ///
-/// The refusal of a fault that stands in the contents as they are, whatever their gate; `Device` if the device failed;
-/// `NoMemory` if a growth was refused.
-pub fn read_map<D: Disk>(alloc: Global, disk: &mut D) -> Result<DiskMap, VolumeError>
+/// The refusal for a fault in the contents as they are, whatever their gate; `Device` if the device failed; `NoMemory`
+/// if there was not enough memory.
+pub fn read_map<D: Disk>(alloc: Global, disk: &mut D) -> Result<LoadedMap, VolumeError>
     ensures held { (D.state disk.new).honest
         → IfOk result (λ read. (m : MapValue)
-        × IsHeld (D.state disk.old).size (known_of read) m (D.state disk.old).contents
+        × MatchesMap (D.state disk.old).size (known_of read) m (D.state disk.old).contents
         × (m.layout ≡ layout_number read.layout)) }
     ensures fault { (D.state disk.new).honest
         → IfErr result (SettledRefuses (D.state disk.old).size (D.state disk.old).contents) }
@@ -166,7 +167,7 @@ pub fn read_map<D: Disk>(alloc: Global, disk: &mut D) -> Result<DiskMap, VolumeE
     let (master, directories) = read_tree(alloc, disk, home.master, home.layout, &mut reached)?;
     let mut table = load_table(alloc, disk, &reached)?;
     book_map(&mut table, &master, &directories);
-    Ok(DiskMap {
+    Ok(LoadedMap {
         layout: home.layout,
         master,
         directories,

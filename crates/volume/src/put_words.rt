@@ -1,3 +1,4 @@
+//! The writing of words into a version.
 ghost use Rattle.std.specs.Prelude.{◌≡◌, ◌↔◌, ◌⊎◌, ◌+◌, ◌-◌, ◌*◌, ◌<◌, ◌≤◌, ℕ, List, true, false, length, None, Some};
 ghost use Rattle.std.specs.Prelude.{IfNone, IfSome, IsSome, OnOk, IsErrOf};
 ghost use Rattle.std.specs.List.{AllByRecursion};
@@ -8,8 +9,8 @@ ghost use Rattle.spec_image.specs.declared.code.ErrorCode.{ErrorCode};
 ghost use Rattle.spec_image.specs.declared.code.ErrorCode.TheVariants.{NoRoom};
 ghost use Rattle.alloctab.specs.Common.{holds, space, uses};
 ghost use Rattle.retrieval.specs.Common.{IsOwn, IsEdgeBlock, VersionState, IsFixed};
-ghost use Rattle.volume.specs.Common.{DiskAnswer, DeviceAnswer, HasHomesFrom, KeepsHomes, IsWholeCore, pending_at};
-ghost use Rattle.volume.specs.Common.{core_of, HasNoPlace, IsReady, Regrows, Regrown, IsSoundCore, RestsAt};
+ghost use Rattle.volume.specs.Common.{DiskAnswer, DeviceAnswer, HasHomesFrom, KeepsHomes, IsWholeMemory, pending_at};
+ghost use Rattle.volume.specs.Common.{memory_of, HasNoPlace, IsReady, Regrows, Regrown, IsSoundMemory, RestsAt};
 ghost use Rattle.volume.specs.Common.{KeepsRead, KeepsWritten};
 ghost use Rattle.volume.specs.declared.error.CallError.TheVariants.{Refused, Device, Failed, NoMemory};
 ghost use Rattle.volume.specs.declared.pending.PendingVersion.{PendingVersion};
@@ -19,8 +20,8 @@ use crate::CallError;
 use crate::cost::{cost_of_blocks, version_cost};
 use crate::handles::Pending;
 use crate::live::LiveMap;
-use crate::map::Volume;
 use crate::pending::PendingVersion;
+use crate::volume::Volume;
 use alloctab::Table;
 use blockdisk::Disk;
 use retrieval::{BodyError, Version, put_words};
@@ -29,8 +30,8 @@ use spec_image::ErrorCode;
 use spec_image::layout::MOST_WORDS;
 use words36::{BLOCK_WORDS, Word};
 
-/// How many words a body of `words` has once `count` are put at block `block`, counted from 1; `None` where
-/// that is more than a file may have.
+/// Returns how many words a body of `words` has after `count` are put at block `block`, counted from 1; `None` if that
+/// is more than a file may have.
 pub(crate) fn length_with(words: u32, block: u32, count: usize) -> Option<u32>
     requires first { 0 < block }
     requires some { 0 < count }
@@ -48,7 +49,7 @@ pub(crate) fn length_with(words: u32, block: u32, count: usize) -> Option<u32>
     Some(words.max((start + count) as u32))
 }
 
-/// By how many blocks a version costs more once so many words are put; `None` where no file may have as many
+/// Returns by how many blocks a version costs more after `count` words are put; `None` if no file may have as many
 /// words as it has then.
 pub(crate) fn growth(version: &Version, block: u32, count: usize) -> Option<u32>
     requires counted { length version.now.blocks ≡ blocks_of version.now.words }
@@ -65,12 +66,12 @@ pub(crate) fn growth(version: &Version, block: u32, count: usize) -> Option<u32>
     Some(cost_of_blocks(blocks) - version_cost(version))
 }
 
-/// Puts words into a version, once so many blocks more are booked as it costs more then. Where they can't be
-/// put, as many stay booked as the version costs.
+/// Books what a version costs more, and puts words into it. If they can't be put, as many blocks stay booked as the
+/// version costs.
 ///
 /// # Errors
 ///
-/// As of `retrieval::put_words`. After `Device` the version is as long as its blocks.
+/// As for `retrieval::put_words`. After `Device` the version is as long as its blocks.
 fn put_booked<D: Disk>(
     disk: &mut D,
     table: &mut Table,
@@ -140,9 +141,9 @@ fn put_booked<D: Disk>(
 ///
 /// # Errors
 ///
-/// `Refused` with `NoRoom` where it would be longer than a file may be, or cost more than there is room for;
-/// `NoMemory` where the list of its blocks finds no room. All is as before then. `Failed` where a block of it
-/// is damaged; `Device` where the device failed.
+/// `Refused` with `NoRoom` if it would be longer than a file may be, or cost more than there is room for; `NoMemory` if
+/// there is no memory for the list of its blocks. Nothing changes then. `Failed` if one of its blocks is damaged;
+/// `Device` if the device failed.
 fn put_pending<D: Disk>(
     disk: &mut D,
     table: &mut Table,
@@ -209,9 +210,9 @@ fn put_pending<D: Disk>(
     }
 }
 
-/// Puts words at block `block` of the version under a key, counted from 1, as `Volume::put_words` says. Whether the
-/// volume has failed is set where the disk does.
-pub(crate) fn put_in_core<D: Disk>(
+/// Puts words at block `block` of the version under a key, counted from 1, as `Volume::put_words` does. Sets `failed`
+/// if the disk fails or a block is damaged.
+pub(crate) fn put_in_memory<D: Disk>(
     disk: &mut D,
     map: &mut LiveMap,
     failed: &mut bool,
@@ -219,11 +220,11 @@ pub(crate) fn put_in_core<D: Disk>(
     block: u32,
     words: &[Word],
 ) -> Result<(), CallError>
-    requires sound { IsSoundCore (D.state disk.old) (core_of map.old) failed.old }
-    requires live { IsSome (pending_at (core_of map.old).pending key) }
+    requires sound { IsSoundMemory (D.state disk.old) (memory_of map.old) failed.old }
+    requires live { IsSome (pending_at (memory_of map.old).pending key) }
     requires first { 0 < block }
 
-    ensures sound { IsSoundCore (D.state disk.new) (core_of map.new) failed.new }
+    ensures sound { IsSoundMemory (D.state disk.new) (memory_of map.new) failed.new }
 
     // Its writes are quiet: whatever a crash leaves at any moment stands for the files from before.
     ensures quiet { (D.state disk.new).honest → (f : Files File) → RestsAt (D.state disk.old) f
@@ -231,53 +232,53 @@ pub(crate) fn put_in_core<D: Disk>(
     ensures rests { (D.state disk.new).honest → (f : Files File) → RestsAt (D.state disk.old) f
         → RestsAt (D.state disk.new) f }
     // At Ok the version has the words put.
-    ensures put { OnOk result ((p : PendingVersion) → pending_at (core_of map.old).pending key ≡ Some p
-        → (v : VersionState) × (pending_at (core_of map.new).pending key ≡ Some (record p { version = v }))
+    ensures put { OnOk result ((p : PendingVersion) → pending_at (memory_of map.old).pending key ≡ Some p
+        → (v : VersionState) × (pending_at (memory_of map.new).pending key ≡ Some (record p { version = v }))
         × (v.words ≡ length_after p.version.words block (length words.now))
         × ((D.state disk.new).honest → (body : List ℕ) → length body ≡ p.version.words
         → HasBody (D.state disk.old).contents p.version.blocks body
         → HasBody (D.state disk.new).contents v.blocks (splice body block words.now))) }
-    // No words change nothing.
-    ensures nothing { length words.now ≡ 0 → (disk.new ≡ disk.old) × (core_of map.new ≡ core_of map.old) }
-    // It is there still, whatever the answer.
-    ensures stays { IsSome (pending_at (core_of map.new).pending key) }
-    // All other versions stay, and their blocks do.
-    ensures others { (k : ℕ) → (k ≡ key → ⊥) → pending_at (core_of map.new).pending k
-        ≡ pending_at (core_of map.old).pending k }
-    ensures live { (core_of map.new).live ≡ (core_of map.old).live }
+    // Putting no words changes nothing.
+    ensures nothing { length words.now ≡ 0 → (disk.new ≡ disk.old) × (memory_of map.new ≡ memory_of map.old) }
+    // The version is still there, whatever the answer.
+    ensures stays { IsSome (pending_at (memory_of map.new).pending key) }
+    // All other versions stay, and so do their blocks.
+    ensures others { (k : ℕ) → (k ≡ key → ⊥) → pending_at (memory_of map.new).pending k
+        ≡ pending_at (memory_of map.old).pending k }
+    ensures live { (memory_of map.new).live ≡ (memory_of map.old).live }
     ensures versions { map.new.versions ≡ map.old.versions }
-    ensures keys { (core_of map.new).keys ≡ (core_of map.old).keys }
-    ensures known { (core_of map.new).known ≡ record (core_of map.old).known { table = (core_of map.new).known.table } }
-    ensures kept { (D.state disk.new).honest → (p : PendingVersion) → pending_at (core_of map.old).pending key ≡ Some p
-        → (n : ℕ) → (IsOwn (core_of map.old).known.table p.version.blocks n → ⊥)
+    ensures keys { (memory_of map.new).keys ≡ (memory_of map.old).keys }
+    ensures known { (memory_of map.new).known ≡ record (memory_of map.old).known { table = (memory_of map.new).known.table } }
+    ensures kept { (D.state disk.new).honest → (p : PendingVersion) → pending_at (memory_of map.old).pending key ≡ Some p
+        → (n : ℕ) → (IsOwn (memory_of map.old).known.table p.version.blocks n → ⊥)
         → (D.state disk.new).contents n ≡ (D.state disk.old).contents n }
-    // So no reader and no other writer sees that a block of theirs changes.
+    // So no reader and no other writer sees a block of theirs change.
     ensures readers { (D.state disk.new).honest
-        → KeepsRead (D.state disk.old).contents (D.state disk.new).contents (core_of map.old) }
+        → KeepsRead (D.state disk.old).contents (D.state disk.new).contents (memory_of map.old) }
     ensures writers { (D.state disk.new).honest
-        → KeepsWritten (D.state disk.old).contents (D.state disk.new).contents (core_of map.old) key }
+        → KeepsWritten (D.state disk.old).contents (D.state disk.new).contents (memory_of map.old) key }
     ensures homes { (D.state disk.new).honest
         → LeavesOnly (D.state disk.old) (D.state disk.new) (HasHomesFrom (D.state disk.old)) }
     ensures home_blocks { (D.state disk.new).honest
         → KeepsHomes (D.state disk.old).contents (D.state disk.new).contents }
     // A damaged block is never taken for words that stay.
     ensures whole { (D.state disk.new).honest → 0 < length words.now → (p : PendingVersion)
-        → pending_at (core_of map.old).pending key ≡ Some p
+        → pending_at (memory_of map.old).pending key ≡ Some p
         → OnOk result ((n : ℕ) → IsEdgeBlock p.version.blocks p.version.words (block - 1) (length words.now) n
         → (D.state disk.old).contents n ≡ None → ⊥) }
 
     // Which error comes when, and what it leaves.
     ensures failed { failed.old ≡ true → IsErrOf result Failed }
-    ensures broken { failed.old ≡ true → (disk.new ≡ disk.old) × (core_of map.new ≡ core_of map.old) }
+    ensures broken { failed.old ≡ true → (disk.new ≡ disk.old) × (memory_of map.new ≡ memory_of map.old) }
     ensures given_up { IsErrOf result Failed → (failed.old ≡ true) ⊎ ((D.state disk.new).honest → ⊥) }
-    ensures room { failed.old ≡ false → (p : PendingVersion) → pending_at (core_of map.old).pending key ≡ Some p
+    ensures room { failed.old ≡ false → (p : PendingVersion) → pending_at (memory_of map.old).pending key ≡ Some p
         → (IsErrOf result (Refused NoRoom)
-        ↔ ((0 < length words.now) × HasNoPlace (D.state disk.old).size (core_of map.old).known.table.booked
+        ↔ ((0 < length words.now) × HasNoPlace (D.state disk.old).size (memory_of map.old).known.table.booked
         p.version.words block (length words.now))) }
     ensures codes { (code : ErrorCode) → IsErrOf result (Refused code) → code ≡ NoRoom }
     ensures refused { (code : ErrorCode) → IsErrOf result (Refused code) → (disk.new ≡ disk.old)
-        × (core_of map.new ≡ core_of map.old) }
-    ensures memory { IsErrOf result NoMemory → (disk.new ≡ disk.old) × (core_of map.new ≡ core_of map.old) }
+        × (memory_of map.new ≡ memory_of map.old) }
+    ensures memory { IsErrOf result NoMemory → (disk.new ≡ disk.old) × (memory_of map.new ≡ memory_of map.old) }
     ensures answer { DeviceAnswer (D.state disk.old) (D.state disk.new) failed.old failed.new result }
 {
     if *failed {
@@ -289,7 +290,7 @@ pub(crate) fn put_in_core<D: Disk>(
     match put_pending(disk, &mut map.table, &mut map.pending, key, block, words) {
         Ok(()) => Ok(()),
         Err(error @ (CallError::Device | CallError::Failed)) => {
-            *failed = true; // nothing of core is used any more
+            *failed = true; // nothing of memory is used any more
             Err(error)
         }
         Err(error) => Err(error),
@@ -297,23 +298,23 @@ pub(crate) fn put_in_core<D: Disk>(
 }
 
 impl<D: Disk> Volume<D> {
-    /// Puts words at block `block` of a version that is being written, counted from 1: over what stands there,
-    /// and behind zeros where the version ends before. No words change nothing. A crash finds the files as
-    /// they were, since only blocks are written that no file and no reader has.
+    /// Puts words at block `block` of a version that is being written, counted from 1: over what is there, and after
+    /// zeros if the version ends before. Putting no words changes nothing. A crash finds the files as they were, since
+    /// only blocks are written that no file and no reader has.
     ///
     /// # Errors
     ///
-    /// `Failed` where the volume failed before. `Refused` with `NoRoom` where the version would have more than
-    /// 16384 blocks, or where what it costs more exceeds the room; `NoMemory` where core can't grow. All is as
-    /// before then. `Device` where the device failed, and the volume with it; `Failed`, and the volume with
-    /// it, where a block of the version that was written is damaged.
+    /// `Failed` if the volume failed before. `Refused` with `NoRoom` if the version would have more than 16384 blocks,
+    /// or if what it costs more exceeds the room; `NoMemory` if there is no memory for it. Nothing changes then.
+    /// `Device` if the device failed, and the volume with it; `Failed`, and the volume with it, if a block of the
+    /// version that was written is damaged.
     pub fn put_words(
         &mut self,
         pending: Pending,
         block: u32,
         words: &[Word],
     ) -> Result<(), CallError>
-        requires live { IsSome (pending_at self.old.core.pending pending.key) }
+        requires live { IsSome (pending_at self.old.map.pending pending.key) }
         requires first { 0 < block }
 
         // Its writes are quiet: whatever a crash leaves at any moment stands for the files from before.
@@ -323,60 +324,61 @@ impl<D: Disk> Volume<D> {
         ensures rests { (D.state self.new.disk).honest → (f : Files File) → RestsAt (D.state self.old.disk) f
             → RestsAt (D.state self.new.disk) f }
         // At Ok the version has the words put.
-        ensures put { OnOk result ((p : PendingVersion) → pending_at self.old.core.pending pending.key ≡ Some p
-            → (v : VersionState) × (pending_at self.new.core.pending pending.key ≡ Some (record p { version = v }))
+        ensures put { OnOk result ((p : PendingVersion) → pending_at self.old.map.pending pending.key ≡ Some p
+            → (v : VersionState) × (pending_at self.new.map.pending pending.key ≡ Some (record p { version = v }))
             × (v.words ≡ length_after p.version.words block (length words.now))
             × ((D.state self.new.disk).honest → (body : List ℕ) → length body ≡ p.version.words
             → HasBody (D.state self.old.disk).contents p.version.blocks body
             → HasBody (D.state self.new.disk).contents v.blocks (splice body block words.now))) }
-        // No words change nothing.
-        ensures nothing { length words.now ≡ 0 → (self.new.disk ≡ self.old.disk) × (self.new.core ≡ self.old.core) }
-        // It is there still, whatever the answer.
-        ensures stays { IsSome (pending_at self.new.core.pending pending.key) }
-        // All other versions stay, and their blocks do.
-        ensures others { (k : ℕ) → (k ≡ pending.key → ⊥) → pending_at self.new.core.pending k
-            ≡ pending_at self.old.core.pending k }
-        ensures live { self.new.core.live ≡ self.old.core.live }
-        ensures keys { self.new.core.keys ≡ self.old.core.keys }
-        ensures known { self.new.core.known ≡ record self.old.core.known { table = self.new.core.known.table } }
+        // Putting no words changes nothing.
+        ensures nothing { length words.now ≡ 0 → (self.new.disk ≡ self.old.disk) × (self.new.map ≡ self.old.map) }
+        // The version is still there, whatever the answer.
+        ensures stays { IsSome (pending_at self.new.map.pending pending.key) }
+        // All other versions stay, and so do their blocks.
+        ensures others { (k : ℕ) → (k ≡ pending.key → ⊥) → pending_at self.new.map.pending k
+            ≡ pending_at self.old.map.pending k }
+        ensures live { self.new.map.live ≡ self.old.map.live }
+        ensures keys { self.new.map.keys ≡ self.old.map.keys }
+        ensures known { self.new.map.known ≡ record self.old.map.known { table = self.new.map.known.table } }
         ensures kept { (D.state self.new.disk).honest → (p : PendingVersion)
-            → pending_at self.old.core.pending pending.key ≡ Some p → (n : ℕ)
-            → (IsOwn self.old.core.known.table p.version.blocks n → ⊥)
+            → pending_at self.old.map.pending pending.key ≡ Some p → (n : ℕ)
+            → (IsOwn self.old.map.known.table p.version.blocks n → ⊥)
             → (D.state self.new.disk).contents n ≡ (D.state self.old.disk).contents n }
-        // So no reader and no other writer sees that a block of theirs changes.
+        // So no reader and no other writer sees a block of theirs change.
         ensures readers { (D.state self.new.disk).honest
-            → KeepsRead (D.state self.old.disk).contents (D.state self.new.disk).contents self.old.core }
+            → KeepsRead (D.state self.old.disk).contents (D.state self.new.disk).contents self.old.map }
         ensures writers { (D.state self.new.disk).honest
-            → KeepsWritten (D.state self.old.disk).contents (D.state self.new.disk).contents self.old.core pending.key }
-        // The home copies stay, also where the device failed; a crash at any moment leaves there what one could before.
+            → KeepsWritten (D.state self.old.disk).contents (D.state self.new.disk).contents self.old.map pending.key }
+        // The home copies stay, even if the device failed; a crash at any moment leaves there what one could leave
+        // before.
         ensures homes { (D.state self.new.disk).honest
             → LeavesOnly (D.state self.old.disk) (D.state self.new.disk) (HasHomesFrom (D.state self.old.disk)) }
         ensures home_blocks { (D.state self.new.disk).honest
             → KeepsHomes (D.state self.old.disk).contents (D.state self.new.disk).contents }
         // A damaged block is never taken for words that stay.
         ensures whole { (D.state self.new.disk).honest → 0 < length words.now → (p : PendingVersion)
-            → pending_at self.old.core.pending pending.key ≡ Some p
+            → pending_at self.old.map.pending pending.key ≡ Some p
             → OnOk result ((n : ℕ) → IsEdgeBlock p.version.blocks p.version.words (block - 1) (length words.now) n
             → (D.state self.old.disk).contents n ≡ None → ⊥) }
 
         // Which error comes when, and what it leaves.
         ensures failed { self.old.failed ≡ true → IsErrOf result Failed }
-        ensures broken { self.old.failed ≡ true → (self.new.disk ≡ self.old.disk) × (self.new.core ≡ self.old.core) }
+        ensures broken { self.old.failed ≡ true → (self.new.disk ≡ self.old.disk) × (self.new.map ≡ self.old.map) }
         ensures given_up { IsErrOf result Failed → (self.old.failed ≡ true) ⊎ ((D.state self.new.disk).honest → ⊥) }
-        ensures room { self.old.failed ≡ false → (p : PendingVersion) → pending_at self.old.core.pending pending.key
+        ensures room { self.old.failed ≡ false → (p : PendingVersion) → pending_at self.old.map.pending pending.key
             ≡ Some p
             → (IsErrOf result (Refused NoRoom)
-            ↔ ((0 < length words.now) × HasNoPlace (D.state self.old.disk).size self.old.core.known.table.booked
+            ↔ ((0 < length words.now) × HasNoPlace (D.state self.old.disk).size self.old.map.known.table.booked
             p.version.words block (length words.now))) }
         ensures codes { (code : ErrorCode) → IsErrOf result (Refused code) → code ≡ NoRoom }
         ensures refused { (code : ErrorCode) → IsErrOf result (Refused code) → (self.new.disk ≡ self.old.disk)
-            × (self.new.core ≡ self.old.core) }
-        ensures memory { IsErrOf result NoMemory → (self.new.disk ≡ self.old.disk) × (self.new.core ≡ self.old.core) }
+            × (self.new.map ≡ self.old.map) }
+        ensures memory { IsErrOf result NoMemory → (self.new.disk ≡ self.old.disk) × (self.new.map ≡ self.old.map) }
         ensures answer { DeviceAnswer (D.state self.old.disk) (D.state self.new.disk) self.old.failed self.new.failed
             result }
         ensures layout { self.new.layout ≡ self.old.layout }
     {
-        put_in_core(
+        put_in_memory(
             &mut self.disk,
             &mut self.map,
             &mut self.failed,

@@ -1,3 +1,4 @@
+//! The refusal of quotas in a layout without quotas.
 ghost use Rattle.std.specs.Prelude.{◌≡◌, ◌<◌, ℕ, map, OnOk, IfErr, IfSome, IfNone, IsErrOf};
 ghost use Rattle.std.specs.List.{AllByRecursion};
 ghost use Rattle.std.specs.Ordering.{nat_cmp};
@@ -11,7 +12,7 @@ use crate::VolumeError;
 use directory::{Chain, MasterEntry};
 use spec_image::layout::{BLOCK_ENTRIES, Layout};
 
-/// The place of the first entry with a quota, counted from 0.
+/// Returns the place of the first entry with a quota, counted from 0.
 fn first_quota(entries: &[MasterEntry]) -> Option<usize>
     ensures some { IfSome result (IsFirstQuota entries.now) }
     ensures none { IfNone result (AllByRecursion HasNoQuota entries.now) }
@@ -24,7 +25,7 @@ fn first_quota(entries: &[MasterEntry]) -> Option<usize>
     None
 }
 
-/// Refuses quotas in the master directory in a layout that has none.
+/// Refuses quotas in the master directory if the layout has no quotas.
 ///
 /// # Errors
 ///
@@ -35,7 +36,7 @@ pub fn refuse_quotas(chain: &Chain<MasterEntry>, layout: Layout) -> Result<(), V
     ensures only { IfErr result (λ error. (n : ℕ) × (error ≡ BadDirectory n)) }
     ensures named { (n : ℕ) → IsErrOf result (BadDirectory n) → 0 < times n chain.now.blocks }
     ensures first { (n : ℕ) → IsErrOf result (BadDirectory n) → IsFirstQuotaBlock chain.now n }
-    // If the contents of a disk spell the chain, that block is not as it should be.
+    // If the contents of a disk spell the chain, that block is invalid.
     ensures bad { (n : ℕ) → IsErrOf result (BadDirectory n) → (size : ℕ) (contents : Contents) (first : ℕ)
         → LeadsAlong master_words contents first (nodes_of chain.now.blocks (map master_view chain.now.entries)) 0
         → InSpace size n

@@ -1,3 +1,4 @@
+//! The reading of directories with their files.
 ghost use Rattle.std.specs.Prelude.{◌≡◌, ◌+◌, ◌∷◌, ◌++◌, [], ℕ, map, length, IfOk, OnOk, IfErr, IsErrOf};
 ghost use Rattle.std.specs.List.{AllByRecursion};
 ghost use Rattle.spec_image.specs.Common.{head_or_zero, file_words, IsFileEntry, name_cmp, EachOnce, times, total};
@@ -15,9 +16,9 @@ ghost use Rattle.volume.specs.Common.{placed_known};
 ghost use Rattle.volume.specs.declared.error.VolumeError.TheVariants.{Device};
 
 use crate::VolumeError;
-use crate::files::{StoredVersion, read_file};
-use crate::map::StoredDirectory;
+use crate::read_file::{LoadedVersion, read_file};
 use crate::turns::{PlacedVersion, Turn, by_place, rising_turns};
+use crate::volume::LoadedDirectory;
 use alloctab::Reached;
 use blockdisk::Disk;
 use directory::{Chain, FileEntry, MasterEntry};
@@ -32,7 +33,7 @@ fn load_files<D: Disk>(
     first: u32,
     reached: &mut Reached,
 ) -> Result<Chain<FileEntry>, VolumeError>
-    // What the caller sees to.
+    // What the caller ensures.
     requires volume { IsVolumeSize (D.state disk.old).size }
     requires inside { InSpace (D.state disk.old).size first }
     requires marks { length reached.old ≡ (D.state disk.old).size }
@@ -64,7 +65,7 @@ fn load_files<D: Disk>(
     }
 }
 
-/// Reads the file whose turn it is in a layout, and puts its version behind the others.
+/// Reads the file whose turn it is, in a layout, and adds its version after the others.
 fn add_file<D: Disk>(
     alloc: Global,
     disk: &mut D,
@@ -74,11 +75,11 @@ fn add_file<D: Disk>(
     reached: &mut Reached,
     read: &mut Vec<PlacedVersion>,
 ) -> Result<(), VolumeError>
-    // What the caller sees to.
+    // What the caller ensures.
     requires volume { IsVolumeSize (D.state disk.old).size }
     requires inside { InSpace (D.state disk.old).size turn.now.entry.prime }
     requires marks { length reached.old ≡ (D.state disk.old).size }
-    // What was read, or met where it is refused.
+    // What was read, or the fault that was met.
     ensures read { (D.state disk.new).honest
         → OnOk result (IsAdded placed_known read.old.items read.new.items
         (IsMarkedFile (layout_number layout) (D.state disk.old).contents ppn (turn_view turn.now)
@@ -89,7 +90,7 @@ fn add_file<D: Disk>(
         → IfErr result (IsFaultOfFile (D.state disk.old).size (layout_number layout) (D.state disk.old).contents
         reached.old (place_of ppn turn.now.entry.name) turn.now.entry.prime) }
     ensures named { IfErr result (NamesInSpace (D.state disk.old).size) }
-    // It is as a map has to be.
+    // What was read is valid as part of a map.
     ensures whole { OnOk result (IsAdded placed_known read.old.items read.new.items IsWholeVersion) }
     ensures aligned { OnOk result (length read.new.items ≡ length read.old.items + 1) }
     ensures placed { OnOk result (map (λ p. p.place) read.new.items
@@ -118,12 +119,12 @@ fn read_turns<D: Disk>(
     turns: &[Turn],
     reached: &mut Reached,
 ) -> Result<Vec<PlacedVersion>, VolumeError>
-    // What the caller sees to.
+    // What the caller ensures.
     requires volume { IsVolumeSize (D.state disk.old).size }
     requires inside { AllByRecursion (λ e. InSpace (D.state disk.old).size e.1) (map turn_view turns.now) }
     requires once { EachOnce name_cmp (map turn_view turns.now) }
     requires marks { length reached.old ≡ (D.state disk.old).size }
-    // What was read, or met where it is refused.
+    // What was read, or the fault that was met.
     ensures read { (D.state disk.new).honest
         → IfOk result (λ read. AreFilesRead (layout_number layout) (D.state disk.old).contents ppn (map turn_view
         turns.now) (map placed_known read.items) (digit_at reached.old) (digit_at reached.new)) }
@@ -133,7 +134,7 @@ fn read_turns<D: Disk>(
         → IfErr result (IsFaultOfFiles (D.state disk.old).size (layout_number layout) (D.state disk.old).contents
         (digit_at reached.old) ppn (map turn_view turns.now)) }
     ensures named { IfErr result (NamesInSpace (D.state disk.old).size) }
-    // It is as a map has to be.
+    // What was read is valid as part of a map.
     ensures whole { IfOk result (λ read. AllByRecursion IsWholeVersion (map placed_known read.items)) }
     ensures placed { IfOk result (λ read. map (λ p. p.place) read.items ≡ map (λ t. t.place) turns.now) }
     ensures space { IsOnlySpace (D.state disk.old).size reached.old
@@ -149,8 +150,8 @@ fn read_turns<D: Disk>(
     Ok(read)
 }
 
-/// Reads the files of these entries of a directory in a layout. They are read by rising prime blocks, and their versions
-/// stand in the order of the entries.
+/// Reads the files of these entries of a directory in a layout. They are read by rising prime blocks, and their
+/// versions are returned in the order of the entries.
 fn read_files<D: Disk>(
     alloc: Global,
     disk: &mut D,
@@ -158,13 +159,13 @@ fn read_files<D: Disk>(
     ppn: Ppn,
     entries: &[FileEntry],
     reached: &mut Reached,
-) -> Result<Vec<StoredVersion>, VolumeError>
-    // What the caller sees to.
+) -> Result<Vec<LoadedVersion>, VolumeError>
+    // What the caller ensures.
     requires volume { IsVolumeSize (D.state disk.old).size }
     requires inside { AllByRecursion (λ e. InSpace (D.state disk.old).size e.1) (map file_view entries.now) }
     requires once { EachOnce name_cmp (map file_view entries.now) }
     requires marks { length reached.old ≡ (D.state disk.old).size }
-    // What was read, or met where it is refused.
+    // What was read, or the fault that was met.
     ensures read { (D.state disk.new).honest
         → IfOk result (λ versions. AreFilesRead (layout_number layout) (D.state disk.old).contents ppn (map file_view
         entries.now) (map known_version versions.items) (digit_at reached.old) (digit_at reached.new)) }
@@ -174,7 +175,7 @@ fn read_files<D: Disk>(
         → IfErr result (IsFaultOfFiles (D.state disk.old).size (layout_number layout) (D.state disk.old).contents
         (digit_at reached.old) ppn (map file_view entries.now)) }
     ensures named { IfErr result (NamesInSpace (D.state disk.old).size) }
-    // It is as a map has to be.
+    // What was read is valid as part of a map.
     ensures whole { IfOk result (λ versions. AllByRecursion IsWholeVersion (map known_version versions.items)) }
     ensures aligned { IfOk result (λ versions. length versions.items ≡ length entries.now) }
     ensures space { IsOnlySpace (D.state disk.old).size reached.old
@@ -196,13 +197,13 @@ fn read_directory<D: Disk>(
     layout: Layout,
     entry: &MasterEntry,
     reached: &mut Reached,
-) -> Result<StoredDirectory, VolumeError>
-    // What the caller sees to.
+) -> Result<LoadedDirectory, VolumeError>
+    // What the caller ensures.
     requires volume { IsVolumeSize (D.state disk.old).size }
     requires entry { IsMasterEntryOf (layout_number layout) (master_view entry.now) }
     requires inside { InSpace (D.state disk.old).size entry.now.first }
     requires marks { length reached.old ≡ (D.state disk.old).size }
-    // What was read, or met where it is refused.
+    // What was read, or the fault that was met.
     ensures read { (D.state disk.new).honest
         → IfOk result (λ directory. IsDirectoryFound (layout_number layout) (D.state disk.old).contents
         (master_view entry.now) (known_directory directory) (digit_at reached.old) (digit_at reached.new)) }
@@ -212,7 +213,7 @@ fn read_directory<D: Disk>(
         → IfErr result (IsFaultOfDirectory (D.state disk.old).size (layout_number layout) (D.state disk.old).contents
         (digit_at reached.old) entry.now.ppn entry.now.first) }
     ensures named { IfErr result (NamesInSpace (D.state disk.old).size) }
-    // It is as a map has to be.
+    // What was read is valid as part of a map.
     ensures whole { IfOk result (λ directory. IsWholeDirectory (D.state disk.old).size (known_directory directory)) }
     ensures space { IsOnlySpace (D.state disk.old).size reached.old
         → IfOk result (λ directory. IsOnlySpace (D.state disk.old).size reached.new) }
@@ -222,24 +223,24 @@ fn read_directory<D: Disk>(
 {
     let chain = load_files(alloc, disk, entry.first, reached)?;
     let versions = read_files(alloc, disk, layout, entry.ppn, chain.entries(), reached)?;
-    Ok(StoredDirectory { chain, versions })
+    Ok(LoadedDirectory { chain, versions })
 }
 
-/// Reads the directory of an entry in a layout, and puts it behind the others.
+/// Reads the directory of an entry in a layout, and adds it after the others.
 fn add_directory<D: Disk>(
     alloc: Global,
     disk: &mut D,
     layout: Layout,
     entry: &MasterEntry,
     reached: &mut Reached,
-    directories: &mut Vec<StoredDirectory>,
+    directories: &mut Vec<LoadedDirectory>,
 ) -> Result<(), VolumeError>
-    // What the caller sees to.
+    // What the caller ensures.
     requires volume { IsVolumeSize (D.state disk.old).size }
     requires entry { IsMasterEntryOf (layout_number layout) (master_view entry.now) }
     requires inside { InSpace (D.state disk.old).size entry.now.first }
     requires marks { length reached.old ≡ (D.state disk.old).size }
-    // What was read, or met where it is refused.
+    // What was read, or the fault that was met.
     ensures read { (D.state disk.new).honest
         → OnOk result (IsAdded known_directory directories.old.items directories.new.items
         (λ d. IsDirectoryFound (layout_number layout) (D.state disk.old).contents (master_view entry.now) d
@@ -250,7 +251,7 @@ fn add_directory<D: Disk>(
         → IfErr result (IsFaultOfDirectory (D.state disk.old).size (layout_number layout) (D.state disk.old).contents
         (digit_at reached.old) entry.now.ppn entry.now.first) }
     ensures named { IfErr result (NamesInSpace (D.state disk.old).size) }
-    // It is as a map has to be.
+    // What was read is valid as part of a map.
     ensures whole { OnOk result (IsAdded known_directory directories.old.items directories.new.items
         (IsWholeDirectory (D.state disk.old).size)) }
     ensures aligned { OnOk result (length directories.new.items ≡ length directories.old.items + 1) }
@@ -274,14 +275,14 @@ pub fn read_directories<D: Disk>(
     layout: Layout,
     entries: &[MasterEntry],
     reached: &mut Reached,
-) -> Result<Vec<StoredDirectory>, VolumeError>
-    // What the caller sees to.
+) -> Result<Vec<LoadedDirectory>, VolumeError>
+    // What the caller ensures.
     requires volume { IsVolumeSize (D.state disk.old).size }
     requires inside { AllByRecursion (λ e. InSpace (D.state disk.old).size e.1.1) (map master_view entries.now) }
     requires entries { AllByRecursion (IsMasterEntryOf (layout_number layout)) (map master_view entries.now) }
     requires once { EachOnce nat_cmp (map master_view entries.now) }
     requires marks { length reached.old ≡ (D.state disk.old).size }
-    // What was read, or met where it is refused.
+    // What was read, or the fault that was met.
     ensures read { (D.state disk.new).honest
         → IfOk result (λ directories. AreDirectoriesRead (layout_number layout) (D.state disk.old).contents
         (map master_view entries.now)
@@ -292,7 +293,7 @@ pub fn read_directories<D: Disk>(
         → IfErr result (IsFaultOfDirectories (D.state disk.old).size (layout_number layout) (D.state disk.old).contents
         (digit_at reached.old) (map master_view entries.now)) }
     ensures named { IfErr result (NamesInSpace (D.state disk.old).size) }
-    // It is as a map has to be.
+    // What was read is valid as part of a map.
     ensures whole { IfOk result (λ directories. AllByRecursion (IsWholeDirectory (D.state disk.old).size)
         (map known_directory directories.items)) }
     ensures aligned { IfOk result (λ directories. length directories.items ≡ length entries.now) }

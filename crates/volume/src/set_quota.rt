@@ -1,3 +1,4 @@
+//! The change of a quota.
 ghost use Rattle.std.specs.Prelude.{◌≡◌, ◌↔◌, ◌<◌, ◌≤◌, [], ℕ, false, true, None, OnOk, OnErr, IsErrOf};
 ghost use Rattle.std.specs.Ordering.{nat_cmp};
 ghost use Rattle.std.specs.FinMap.Entries.{find};
@@ -8,77 +9,78 @@ ghost use Rattle.spec_image.specs.Common.{File, Files, layout_number, pack_of, f
 ghost use Rattle.spec_image.specs.Common.{quota_limit};
 ghost use Rattle.directory.specs.Common.{StandsAt};
 ghost use Rattle.volume.specs.Common.{IsDirectoryOf, IsLimited, LimitsDirectory, ChangesFiles, DeviceAnswer};
-ghost use Rattle.volume.specs.Common.{KnownDirectory, core_of, prime_at};
+ghost use Rattle.volume.specs.Common.{CurrentDirectory, memory_of, prime_at};
 ghost use Rattle.volume.specs.declared.error.CallError.TheVariants.{Refused, Device, Failed, NoMemory};
 
 use crate::CallError;
 use crate::live::LiveMap;
-use crate::map::Volume;
 use crate::query::directory_place;
 use crate::transaction::commit_edit;
+use crate::volume::Volume;
 use blockdisk::Disk;
 use changeset::ChangeSet;
 use directory::MasterEntry;
 use words36::Ppn;
 
-/// Gives the directory at a place in core another quota, with the puts that will make it so on the disk.
-fn limit_directory(core: &mut LiveMap, ppn: Ppn, quota: u32, place: usize, set: &mut ChangeSet)
+/// Gives the directory at a place in memory another quota, and adds to `set` the puts that will do the same on the
+/// disk.
+fn limit_directory(memory: &mut LiveMap, ppn: Ppn, quota: u32, place: usize, set: &mut ChangeSet)
     requires fits { quota < 262144 }
-    requires there { (word : ℕ × ℕ) × StandsAt nat_cmp (core_of core.old).known.master.entries ppn word place }
+    requires there { (word : ℕ × ℕ) × StandsAt nat_cmp (memory_of memory.old).known.master.entries ppn word place }
     requires empty { set.old ≡ [] }
-    ensures { LimitsDirectory (core_of core.old) (core_of core.new) ppn quota set.new }
+    ensures { LimitsDirectory (memory_of memory.old) (memory_of memory.new) ppn quota set.new }
 {
-    let entry = core.master.entries()[place];
+    let entry = memory.master.entries()[place];
     let limited = MasterEntry {
         ppn: entry.ppn,
         protection: entry.protection,
         quota,
         first: entry.first,
     };
-    match core.master.insert(limited, None, set) {
+    match memory.master.insert(limited, None, set) {
         Ok(()) => {}
         Err(_) => unreachable!(), // the entry is there, and takes no memory
     }
 }
 
 impl<D: Disk> Volume<D> {
-    /// Gives a directory another quota, in blocks, or with 0 none, by one change of the master directory. It may be
+    /// Gives a directory another quota, in blocks, or 0 for no limit, by one change of the master directory. It may be
     /// below what the directory is charged for. A crash finds the files from before, or those with the quota. Neither
-    /// the versions in use nor the other directories change. It takes no memory and reads nothing. The layout has to
-    /// have quotas: layout 1 has none but 0.
+    /// the versions in use nor the other directories change. It takes no memory and reads nothing. The layout must have
+    /// quotas: layout 1 has only 0.
     ///
     /// # Errors
     ///
-    /// `Failed` where the volume failed before, `Refused(NoDirectory)` where there is no such directory. All is as
-    /// before then. `Device` where the device failed, and the volume with it: a later start finds the files with the
-    /// quota, or all as before.
+    /// `Failed` if the volume failed before, `Refused(NoDirectory)` if there is no such directory. Nothing changes
+    /// then. `Device` if the device failed, and the volume with it: a later start finds the files with the quota, or
+    /// all as before.
     pub fn set_quota(&mut self, ppn: Ppn, quota: u32) -> Result<(), CallError>
         requires fits { quota < quota_limit (layout_number self.old.layout) }
-        // What it does to the files, and to core at Ok.
-        ensures files { ChangesFiles (D.state self.old.disk) (D.state self.new.disk) self.old.core
+        // What it does to the files, and to memory at Ok.
+        ensures files { ChangesFiles (D.state self.old.disk) (D.state self.new.disk) self.old.map
             (λ f. files_limited f ppn quota) result }
-        ensures limited { OnOk result (IsLimited self.old.core self.new.core ppn quota) }
-        // The versions in use stay, and no block of the free space changes, but those of the master directory; where
-        // the device failed, no closed one does.
-        ensures live { self.new.core.live ≡ self.old.core.live }
-        ensures pending { self.new.core.pending ≡ self.old.core.pending }
+        ensures limited { OnOk result (IsLimited self.old.map self.new.map ppn quota) }
+        // The versions in use stay, and no block of the free space changes, except those of the master directory; if
+        // the device failed, this holds for closed blocks.
+        ensures live { self.new.map.live ≡ self.old.map.live }
+        ensures pending { self.new.map.pending ≡ self.old.map.pending }
         ensures kept { (D.state self.new.disk).honest → (n : ℕ) → space_start (D.state self.old.disk).size ≤ n
-            → times n self.old.core.known.master.blocks ≡ 0
+            → times n self.old.map.known.master.blocks ≡ 0
             → (IsErrOf result Device → (D.state self.old.disk).is_open n ≡ false)
             → (D.state self.new.disk).contents n ≡ (D.state self.old.disk).contents n }
-        // Each directory is there with what it has, and each name has the prime block that it had.
-        ensures directories { (owner : ℕ) (d : KnownDirectory) → IsDirectoryOf self.old.core owner d
-            → IsDirectoryOf self.new.core owner d }
+        // Each directory is there with what it has, and each name keeps its prime block.
+        ensures directories { (owner : ℕ) (d : CurrentDirectory) → IsDirectoryOf self.old.map owner d
+            → IsDirectoryOf self.new.map owner d }
         ensures primes { (owner : ℕ) (name : FileName)
-            → prime_at self.new.core owner name ≡ prime_at self.old.core owner name }
+            → prime_at self.new.map owner name ≡ prime_at self.old.map owner name }
 
         // Which error comes when, and what it leaves.
         ensures refused { (IsErrOf result Device → ⊥)
-            → OnErr result ((self.new.disk ≡ self.old.disk) × (self.new.core ≡ self.old.core)) }
+            → OnErr result ((self.new.disk ≡ self.old.disk) × (self.new.map ≡ self.old.map)) }
         ensures failed { self.old.failed ≡ true → IsErrOf result Failed }
         ensures given_up { IsErrOf result Failed → self.old.failed ≡ true }
         ensures no_directory { self.old.failed ≡ false
-            → (IsErrOf result (Refused NoDirectory) ↔ (find nat_cmp ppn self.old.core.known.master.entries ≡ None)) }
+            → (IsErrOf result (Refused NoDirectory) ↔ (find nat_cmp ppn self.old.map.known.master.entries ≡ None)) }
         ensures codes { (code : ErrorCode) → IsErrOf result (Refused code) → code ≡ NoDirectory }
         ensures memory { IsErrOf result NoMemory → ⊥ }
         ensures answer { DeviceAnswer (D.state self.old.disk) (D.state self.new.disk) self.old.failed self.new.failed

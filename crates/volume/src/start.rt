@@ -1,3 +1,4 @@
+//! The start of a volume: its making, its recovery and its opening.
 ghost use Rattle.std.specs.Prelude.{◌≡◌, ◌⊎◌, ◌↔◌, ℕ, [], false, OnOk, IfOk, IfErr, IfSome, IsErrOf};
 ghost use Rattle.std.specs.List.{AllByRecursion};
 ghost use Rattle.blockdisk.specs.Common.{Near, NoneOpen, Still, Modifies, LeavesOnly};
@@ -11,8 +12,8 @@ ghost use Rattle.volume.specs.declared.error.VolumeError.TheVariants.{NotVolume,
 use crate::VolumeError;
 use crate::fresh::init_layout;
 use crate::live::keep;
-use crate::map::{DiskMap, Volume};
 use crate::open::read_map;
+use crate::volume::{LoadedMap, Volume};
 use blockdisk::{Disk, NoMemory};
 use changeset::{LogError, recover};
 use spec_image::layout::Layout;
@@ -22,20 +23,20 @@ use std::alloc::Global;
 ///
 /// # Errors
 ///
-/// `BadLog` where the gate is open and the log isn't good, before anything of the homes; else the refusal
-/// of a fault that stands, `Device` where the device failed, `NoMemory` where a growth was refused. A disk
-/// that is refused has at most been recovered.
-pub fn read_volume<D: Disk>(alloc: Global, disk: &mut D) -> Result<DiskMap, VolumeError>
-    // A crash at any moment leaves what stands for whatever something stood for that a crash could leave
-    // before; from the end of the first sync on, for whatever the contents stood for. Where that sync failed
-    // nothing else was done.
+/// `BadLog` if the gate is open and the log is bad, before anything of the homes is checked; otherwise the refusal for
+/// a fault that the disk has, `Device` if the device failed, `NoMemory` if there was not enough memory. A disk that is
+/// refused has at most been recovered.
+pub fn read_volume<D: Disk>(alloc: Global, disk: &mut D) -> Result<LoadedMap, VolumeError>
+    // A crash at any moment leaves what stands for whatever some contents stood for that a crash could leave before;
+    // after the first sync, for whatever the contents before the call stood for. If that sync failed, nothing else was
+    // done.
     ensures crash { (D.state disk.new).honest
         → LeavesOnly (D.state disk.old) (D.state disk.new) (StandsLikeBefore (D.state disk.old)) }
     ensures synced { (D.state disk.new).honest
         → SyncsFirst D.state disk.old disk.new (IsErrOf result Device) (StandsLike (D.state disk.old)) }
 
-    // At Ok the disk was recovered and nothing else, it stood for some files, and these it stands for, in the layout in
-    // which it stood for them; and the map is the disk's.
+    // At Ok the disk was only recovered, it stood for some files, and it stands for the same files in the same layout;
+    // and the map is the disk's.
     ensures recovered { (D.state disk.new).honest
         → IfOk result (λ map. IsRecovered (D.state disk.old).size (D.state disk.old).contents
         (D.state disk.new).contents) }
@@ -52,7 +53,7 @@ pub fn read_volume<D: Disk>(alloc: Global, disk: &mut D) -> Result<DiskMap, Volu
     ensures whole { IfOk result (λ map. IsWholeMap (D.state disk.old).size (known_of map)) }
     ensures booked { IfOk result (λ map. IsBooked (D.state disk.old).size (known_of map)) }
 
-    // A refusal names a fault that stands; but for Device the disk was recovered, or nothing was written.
+    // A refusal names a fault that the disk has; unless it is `Device`, the disk was recovered, or nothing was written.
     ensures refused { (D.state disk.new).honest
         → IfErr result (Refuses (D.state disk.old).size (D.state disk.new).contents) }
     ensures kept { (D.state disk.new).honest → (IsErrOf result Device → ⊥)
@@ -67,7 +68,7 @@ pub fn read_volume<D: Disk>(alloc: Global, disk: &mut D) -> Result<DiskMap, Volu
         Ok(()) => read_map(alloc, disk),
         Err(LogError::BadLog) => Err(VolumeError::BadLog),
         Err(LogError::Device) => Err(VolumeError::Device),
-        Err(LogError::TooMany) => unreachable!(), // a recovery never answers it
+        Err(LogError::TooMany) => unreachable!(), // a recovery never returns it
     }
 }
 
@@ -98,12 +99,12 @@ impl<D: Disk> Volume<D> {
         init_layout(disk, Layout::One)
     }
 
-    /// Makes an empty volume on a disk, in a layout: the fixed regions and the first block of the master
-    /// directory are written, and nothing else. It isn't safe against a stop.
+    /// Makes an empty volume on a disk, in a layout: writes the fixed regions and the first block of the master
+    /// directory, and nothing else. It isn't safe if it is interrupted.
     ///
     /// # Errors
     ///
-    /// `NotVolume` where the disk has not from 64 to 131072 blocks, with nothing written; `Device`.
+    /// `NotVolume` if the disk doesn't have 64 to 131072 blocks, with nothing written; `Device` if the device failed.
     pub fn init_layout(disk: &mut D, layout: Layout) -> Result<(), VolumeError>
         ensures stands { (D.state disk.new).honest
             → OnOk result (AtRest (D.state disk.new)
@@ -126,19 +127,19 @@ impl<D: Disk> Volume<D> {
         init_layout(disk, layout)
     }
 
-    /// Opens the volume on a disk: recovers it first, and then reads every block that it reaches. It is opened only
-    /// where the disk stands for some files, and nothing but the recovery is written.
+    /// Opens the volume on a disk: recovers it first, and then reads every block that it reaches. It opens only if the
+    /// disk stands for some files, and writes nothing except for the recovery.
     ///
     /// # Errors
     ///
-    /// The refusal, with the disk handed back: `NotVolume`, `BadHome`, `BadLog`, `BadDirectory`,
-    /// `BadRetrieval`, `BlockTwice`, `BadData` and `TableWrong` only where that fault stands, the last only
-    /// where no other does; `Device` where the device failed, `NoMemory` where a growth was refused.
+    /// The refusal, with the disk handed back: `NotVolume`, `BadHome`, `BadLog`, `BadDirectory`, `BadRetrieval`,
+    /// `BlockTwice`, `BadData` and `TableWrong` only if the disk has that fault, the last only if it has no other;
+    /// `Device` if the device failed, `NoMemory` if there was not enough memory.
     pub fn open(alloc: Global, disk: D) -> Result<Volume<D>, (VolumeError, D)>
         ensures serves { IfOk result (λ volume. volume.failed ≡ false) }
         // Nobody reads or writes a version yet.
-        ensures unread { IfOk result (λ volume. AllByRecursion (λ o. IfSome o IsFirstRead) volume.core.live) }
-        ensures unwritten { IfOk result (λ volume. volume.core.pending ≡ []) }
+        ensures unread { IfOk result (λ volume. AllByRecursion (λ o. IfSome o IsFirstRead) volume.map.live) }
+        ensures unwritten { IfOk result (λ volume. volume.map.pending ≡ []) }
         ensures recovered { IfOk result (λ volume. (D.state volume.disk).honest
             → IsRecovered (D.state disk).size (D.state disk).contents (D.state volume.disk).contents) }
         ensures stood { IfOk result (λ volume. (D.state volume.disk).honest → (files : Files File)
@@ -152,7 +153,7 @@ impl<D: Disk> Volume<D> {
         ensures synced { IfOk result (λ volume. (D.state volume.disk).honest
             → SyncsFirst D.state disk volume.disk ⊥ (StandsLike (D.state disk))) }
 
-        // Where it refuses.
+        // If it refuses.
         ensures refused { IfErr result (λ refused. (D.state refused.1).honest
             → Refuses (D.state disk).size (D.state refused.1).contents refused.0) }
         // On every disk a block that it names lies in the free space, or is one of the table.

@@ -1,9 +1,10 @@
+//! The order in which the files of a directory are read.
 ghost use Rattle.std.specs.Prelude.{◌≡◌, ℕ, map, length, IfOk};
 ghost use Rattle.std.specs.List.{enumerate_from, range_with_len};
 ghost use Rattle.std.specs.List.Sorted.{IsPermutation, IsNonDecreasingBy};
 ghost use Rattle.volume.specs.Common.{numbered_entry, numbered_version};
 
-use crate::files::StoredVersion;
+use crate::read_file::LoadedVersion;
 use blockdisk::NoMemory;
 use directory::FileEntry;
 use std::alloc::Global;
@@ -17,21 +18,21 @@ pub(crate) struct Turn {
     pub(crate) entry: FileEntry,
 }
 
-/// The version of a file, and which entry of its directory it is of.
+/// The version of a file, and the entry of its directory that names the file.
 #[derive(Drop)]
 pub(crate) struct PlacedVersion {
     /// The place of the entry in the directory, counted from 0.
     pub(crate) place: usize,
-    /// What is kept of it.
-    pub(crate) stored: StoredVersion,
+    /// The version.
+    pub(crate) stored: LoadedVersion,
 }
 
-/// The order in which the files of these entries are read: by rising prime blocks. So blocks that are neighbours on the
-/// disk are read one after the other, whatever the order of the names.
+/// Returns these entries in the order in which their files are read: by rising prime blocks. So blocks that are
+/// neighbours on the disk are read one after the other, whatever the order of the names.
 ///
 /// # Errors
 ///
-/// `NoMemory` if the turns find no room.
+/// `NoMemory` if there is no memory for the turns.
 pub(crate) fn rising_turns(alloc: Global, entries: &[FileEntry]) -> Result<Vec<Turn>, NoMemory>
     ensures all { IfOk result (λ turns. IsPermutation (enumerate_from 0 entries.now) (map numbered_entry turns.items)) }
     ensures rising { IfOk result (λ turns. IsNonDecreasingBy (λ t. t.entry.prime) turns.items) }
@@ -47,15 +48,16 @@ pub(crate) fn rising_turns(alloc: Global, entries: &[FileEntry]) -> Result<Vec<T
     Ok(turns)
 }
 
-/// The versions by the places of their entries. Each place of a list as long as theirs is that of one of them.
+/// Returns the versions in the order of the places of their entries. Each place of a list as long as theirs is that of
+/// one of them.
 ///
 /// # Errors
 ///
-/// `NoMemory` if the versions find no room.
+/// `NoMemory` if there is no memory for the versions.
 pub(crate) fn by_place(
     alloc: Global,
     mut placed: Vec<PlacedVersion>,
-) -> Result<Vec<StoredVersion>, NoMemory>
+) -> Result<Vec<LoadedVersion>, NoMemory>
     requires { IsPermutation (range_with_len 0 (length placed.items)) (map (λ p. p.place) placed.items) }
     ensures { IfOk result (λ versions. IsPermutation (map numbered_version placed.items)
         (enumerate_from 0 versions.items)) }

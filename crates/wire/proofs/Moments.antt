@@ -25,7 +25,7 @@ pub parts_of : (date minute n : ℕ) → minute ≤ 1439 → date * 2 ^ 16 + min
     → (date ≡ n / 65536) × (minute ≡ n % 65536)
 parts_of date minute n few is = (omega arith, omega arith)
 
--- where a moment is made of a number that is one's, it is that one
+-- if a moment is made of a number that is a moment's, it is that moment
 pub moment_made : {E : Type 0} (r : Result Moment E) (date minute : ℕ) → IfOk r (λ m. m.date ≡ date)
     → IfOk r (λ m. m.minute ≡ minute) → (IsOk r ↔ ((date ≤ 32767) × (minute ≤ 1439))) → (m : Moment)
     → m.date ≡ date → m.minute ≡ minute → result_ok r ≡ Some m

@@ -1,4 +1,4 @@
--- What a record says of the order that it spells.
+-- What a record states about the order that it spells.
 use Rattle.std.proofs.Common.{◌≡◌, ◌+◌, ◌≤◌, ◌*◌, ◌/◌, ◌<◌, ℕ, List, [], ◌∷◌, length, All, sym, ap, refl, ◌∙◌, subst}
 use Rattle.std.proofs.Common.{zero, suc, ⊎_elim, get_or, arith}
 use Rattle.words36.specs.Common.{IsWord, IsPpn, number_at, block_bytes, IsFirstBadWord}

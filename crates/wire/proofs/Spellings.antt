@@ -58,7 +58,7 @@ call_reads (MakeDir n) = refl
 call_reads (DeleteDir n) = refl
 call_reads (Quota n) = refl
 
--- two calls of one spelling are one
+-- two calls with the same spelling are one
 one_call : (a b : Call) → opcode a ≡ opcode b → channel_named a ≡ channel_named b → number_named a ≡ number_named b
     → a ≡ b
 one_call a b codes channels numbers = some_same a b
@@ -69,7 +69,7 @@ one_call a b codes channels numbers = some_same a b
     some_same : (a b : Call) → Some a ≡ Some b → a ≡ b
     some_same a b is = cc
 
--- two moments of one number are one
+-- two moments with the same number are one
 one_time : (a b : Moment) → moment_number a ≡ moment_number b → a ≡ b
 one_time a b is =
     let first = parts_of a.date a.minute (moment_number b) a.minute_in_range is in
@@ -123,7 +123,7 @@ examine_one : (job other x x' y y' : ℕ) → record_of (Examine job x y) ≡ re
     → Examine job x y ≡ Examine other x' y'
 examine_one job other x x' y y' same = ap (λ (h : Header). Examine h.job h.number h.detail) same
 
--- two orders of one record and the same words are one
+-- two orders with the same record and the same words are one
 one_order : (a b : Order) (words : List ℕ) → record_of a ≡ record_of b → HasWords a words → HasWords b words → a ≡ b
 one_order (Login job x y) (Login other x' y') words same fit fit' = login_one job other x x' y y' same
     (one_head x x' (sym fit.1 ∙ fit'.1))

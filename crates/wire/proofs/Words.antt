@@ -8,7 +8,7 @@ use Rattle.std.specs.List.{range_with_len}
 use Rattle.words36.specs.Common.{IsWord, number_at, block_bytes, IsFirstBadWord}
 use Rattle.words36.proofs.BlockLaws.{block_bytes-read, number_at-block_bytes, length-block_bytes}
 
--- so many numbers in bytes
+-- the first n numbers in bytes
 unfoldable pub words_in : List ℕ → ℕ → List ℕ
 words_in bytes n = map (number_at bytes) (range_with_len 0 n)
 
@@ -34,7 +34,7 @@ words_read bytes n small long fit =
       });
     }
 
--- all numbers are words, or there is a first one that is none
+-- all numbers are words, or there is a first one that isn't
 pub good_or_bad : (bytes : List ℕ) (n : ℕ)
     → ((k : ℕ) → k < n → IsWord (number_at bytes k)) ⊎ ((place : ℕ) × IsFirstBadWord n bytes place)
 good_or_bad bytes zero = inl (λ k h. omega (arith, h))
@@ -63,7 +63,7 @@ good_or_bad bytes (suc n) = elim (good_or_bad bytes n) [
         same : (k : ℕ) → k < suc n → n ≤ k → n ≡ k
         same k h q = omega (arith, h, q)
 
--- bytes that are words have as many numbers, each a word
+-- the numbers in these bytes are these words
 pub record AreNumbers (bytes words : List ℕ) : Type 0 where
   pub long : length bytes ≡ 8 * length words
   pub at : (k : ℕ) → k < length words → number_at bytes k ≡ get_or words k 0

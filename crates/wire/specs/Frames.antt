@@ -16,13 +16,13 @@ frame_bytes f = record_bytes f.header ++ f.body
 abbrev pub frames_bytes : List Framed → List ℕ
 frames_bytes frames = flat_map frame_bytes frames
 
--- It is followed by the words that it announces, and they are no more than 18 bits can address.
+-- The words that a record announces follow it, and they are no more than 18 bits can address.
 pub record IsFrame (f : Framed) : Type 0 where
   pub fits : FitsRecord f.header
   pub long : length f.body ≡ 8 * f.header.count
   pub few : f.header.count ≤ most_words
 
--- bytes that begin with no whole record
+-- bytes that don't begin with a whole record
 abbrev pub IsPart : List ℕ → Type 0
 IsPart bytes = (f : Framed) (more : List ℕ) → IsFrame f → bytes ≡ frame_bytes f ++ more → ⊥
 

@@ -69,7 +69,7 @@ channel_named (MakeDir address) = 0
 channel_named (DeleteDir address) = 0
 channel_named (Quota address) = 0
 
--- the address or the other number that it names, 0 if it names none
+-- the address or the other number that a call names, 0 if it names none
 abbrev pub number_named : Call → ℕ
 number_named (Open channel address) = address
 number_named (Inbuf channel n) = n
@@ -116,7 +116,7 @@ record_of Room = record { kind = 5; code = 0; job = 0; channel = 0; number = 0; 
 abbrev pub most_words : ℕ
 most_words = 2 ^ 18
 
--- The words that follow it. Words that are deposited or examined lie below address 2^18.
+-- The words that follow an order's record. Words that are deposited or examined are below address 2^18.
 abbrev pub HasWords : Order → List ℕ → Type 0
 HasWords (Login job ppn core) words = IsPpn ppn × (words ≡ ppn ∷ [])
 HasWords (Deposit job address count) words = All IsWord words × (length words ≡ count) × (address + count ≤ most_words)
@@ -147,7 +147,7 @@ answer_kind (Replies Failed) = 10
 answer_kind (Replies DateRange) = 11
 answer_kind (HasRoom blocks) = 12
 
--- the number in it, 0 if it has none
+-- the number in an answer, 0 if it has none
 abbrev pub answer_value : Answer → ℕ
 answer_value Wrong = 0
 answer_value (Replies Done) = 0

@@ -1,3 +1,4 @@
+//! The answers to a program, and their bytes.
 ghost use Rattle.std.specs.Prelude.{◌≡◌, ◌+◌, ◌*◌, ◌^◌, ◌<◌, ◌≤◌, ◌++◌, IsOk, OnOk, length, vec_len, vec_capacity};
 ghost use Rattle.words36.specs.Common.{block_bytes};
 ghost use Rattle.wire.specs.Records.{answer_record, answer_kind, answer_value, record_bytes};
@@ -6,18 +7,18 @@ use crate::Header;
 use spec_machine::Reply;
 use std::alloc::AllocError;
 
-/// What a program is answered.
+/// An answer to a program.
 #[derive(Clone, Copy, Debug, PartialEq, Eq)]
 pub enum Answer {
     /// The reply to an order.
     Reply(Reply),
     /// The number of blocks that there is room for.
     Room(u64),
-    /// The record and the bytes after it are no order, and nothing was done.
+    /// The record and the bytes after it spell no order, and nothing was done.
     Wrong,
 }
 
-/// Gives the kind of an answer.
+/// Returns the kind of an answer.
 fn kind_of(answer: &Answer) -> u8
     ensures { result ≡ answer_kind answer.now }
 {
@@ -38,7 +39,7 @@ fn kind_of(answer: &Answer) -> u8
     }
 }
 
-/// Gives the number in an answer, 0 if it has none.
+/// Returns the number in an answer, or 0 if it has none.
 fn value_of(answer: &Answer) -> u64
     ensures { result ≡ answer_value answer.now }
 {
@@ -51,7 +52,7 @@ fn value_of(answer: &Answer) -> u64
     }
 }
 
-/// Gives the record of an answer that `count` groups of eight bytes follow.
+/// Returns the record of an answer that `count` groups of eight bytes follow.
 fn answer_header(answer: &Answer, count: u32) -> Header
     ensures { result ≡ answer_record answer.now count }
 {
@@ -71,11 +72,12 @@ fn answer_header(answer: &Answer, count: u32) -> Header
 ///
 /// # Errors
 ///
-/// `AllocError` if they find no room, or are more than a record can count. A beginning of them may be appended then.
+/// `AllocError` if there is no room for them, or if there are more than a record can count. The first of them may be
+/// appended then.
 pub fn push_answer(bytes: &mut Vec<u8>, answer: &Answer, groups: &[u64]) -> Result<(), AllocError>
     ensures ok { OnOk result (bytes.new.items ≡ bytes.old.items
         ++ record_bytes (answer_record answer.now (length groups.now)) ++ block_bytes groups.now) }
-    // With room for all of them it doesn't fail.
+    // It doesn't fail if there is room for all of them.
     ensures succeeds { length groups.now < 2 ^ 32
         → vec_len bytes.old + (16 + 8 * length groups.now) ≤ vec_capacity bytes.old → IsOk result }
 {

@@ -1,10 +1,11 @@
+//! The monitor calls by their operation codes.
 ghost use Rattle.std.specs.Prelude.{◌≡◌, ◌<◌, Some, IfSome};
 ghost use Rattle.wire.specs.Records.{opcode, channel_named, number_named};
 ghost use Rattle.spec_machine.specs.declared.call.Call as calls;
 
 use spec_machine::Call;
 
-/// Gives the call on a channel with this operation code.
+/// Returns the call on a channel with this operation code, channel and number, if there is one.
 fn channel_call(code: u8, channel: u32, number: u32) -> Option<Call>
     ensures is { IfSome result (λ call. (opcode call ≡ code) × (channel_named call ≡ channel)
         × (number_named call ≡ number)) }
@@ -29,7 +30,8 @@ fn channel_call(code: u8, channel: u32, number: u32) -> Option<Call>
     }
 }
 
-/// Gives the call with this operation code, channel and number. A part that a call doesn't have is 0.
+/// Returns the call with this operation code, channel and number, if there is one. A part that a call doesn't have is
+/// 0.
 pub fn call_of(code: u8, channel: u8, number: u32) -> Option<Call>
     ensures is { IfSome result (λ call. (opcode call ≡ code) × (channel_named call ≡ channel)
         × (number_named call ≡ number)) }

@@ -1,9 +1,10 @@
+//! The record that bytes begin with, and the words that follow it.
 ghost use Rattle.std.specs.Prelude.{◌≡◌};
 ghost use Rattle.wire.specs.Frames.{BeginsWith};
 
 use crate::header::{HEADER_BYTES, Header};
 
-/// The most words that may follow a record: as many as the largest address has.
+/// The most words that may follow a record: as many as the largest core has.
 const MOST_WORDS: u32 = 1 << 18;
 
 /// What bytes begin with.

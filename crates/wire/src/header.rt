@@ -1,15 +1,16 @@
+//! The parts of a record, and its bytes.
 ghost use Rattle.std.specs.Prelude.{◌≡◌};
 ghost use Rattle.wire.specs.Records.{record_bytes, FitsRecord};
 
 /// The number of bytes of a record.
 pub const HEADER_BYTES: usize = 16;
 
-/// The parts of a record. Its numbers have their highest byte first, as words of an image have.
+/// The parts of a record. Its numbers have their highest byte first, as the words of an image do.
 #[derive(Clone, Copy, Debug, PartialEq, Eq)]
 pub struct Header {
-    /// Byte 0: what it is.
+    /// Byte 0: the kind.
     pub kind: u8,
-    /// Byte 1: of a call, which one.
+    /// Byte 1: for a call, its operation code.
     pub code: u8,
     /// Byte 2: the number of a job.
     pub job: u8,
@@ -40,7 +41,7 @@ impl Header {
         }
     }
 
-    /// Gives the bytes of the record.
+    /// Returns the bytes of the record.
     pub fn to_bytes(self) -> [u8; HEADER_BYTES]
         ensures { result ≡ record_bytes self }
     {

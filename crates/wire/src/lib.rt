@@ -1,15 +1,15 @@
 //! Orders and answers as programs send and get them: records of 16 bytes, which words of eight bytes follow. What the
-//! layer keeps:
+//! layer guarantees:
 //!
 //! 1. Every 16 bytes are one record, and every record is 16 bytes: what is written is read back. (`record_bytes`)
-//! 2. `parse_order` gives an order exactly if a record and the bytes after it spell one. (`IsOrder`)
-//! 3. `split_record` gives the record that bytes begin with, and the bytes that follow it, if all are there.
+//! 2. `parse_order` returns an order exactly if a record and the bytes after it spell one. (`IsOrder`)
+//! 3. `split_record` returns the record that bytes begin with, and the bytes that follow it, if all are there.
 //!    (`BeginsWith`)
 //! 4. The record of an answer has its kind, its number, and the number of groups of eight bytes that follow.
 //!    (`answer_record`)
 //! 5. Nothing that is written has two readings. (`records_have_one_reading`)
 //!
-//! Memory is taken for the bytes of an answer alone.
+//! Only the bytes of an answer take memory.
 #![tactic(auto)]
 
 mod answer;

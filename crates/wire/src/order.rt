@@ -1,3 +1,4 @@
+//! The orders of a program, and their parsing.
 ghost use Rattle.std.specs.Prelude.{◌≡◌, ◌+◌, ◌*◌, ◌<◌, ◌≤◌, ◌^◌, ◌↔◌, ℕ, List, IfSome, IsSome, Some, Bool, IsTrue};
 ghost use Rattle.std.specs.Prelude.{length, All, []};
 ghost use Rattle.words36.specs.Common.{IsWord, number_at, block_bytes};
@@ -24,7 +25,8 @@ pub enum Order {
     Room,
 }
 
-/// Gives the word at a place, counted from 0 in words of eight bytes. None if the number there has more than 36 bits.
+/// Returns the word at a place, counted from 0 in words of eight bytes, or `None` if the number there has more than
+/// 36 bits.
 pub fn word_at(bytes: &[u8], place: usize) -> Option<Word>
     requires { 8 * place + 8 ≤ length bytes.now }
     ensures value { IfSome result (λ word. word ≡ number_at bytes.now place) }
@@ -35,7 +37,7 @@ pub fn word_at(bytes: &[u8], place: usize) -> Option<Word>
     Word::new(u64::from_be_bytes(group))
 }
 
-/// Gives the moment of a date in the left 16 bits and a minute in the right ones.
+/// Returns the moment of a date in the left 16 bits and a minute in the right ones, if there is one.
 fn moment_of(detail: u32) -> Option<Moment>
     ensures is { IfSome result (λ moment. moment_number moment ≡ detail) }
     ensures all { (moment : Moment) → moment_number moment ≡ detail → result ≡ Some moment }
@@ -43,7 +45,7 @@ fn moment_of(detail: u32) -> Option<Moment>
     Moment::new(detail / 65_536, detail % 65_536).ok()
 }
 
-/// Tells whether `count` words from an address lie below address 2^18.
+/// Returns whether `count` words from an address are all below address 2^18.
 fn lies_in_core(address: u32, count: u32) -> bool
     ensures { IsTrue result ↔ (address + count ≤ most_words) }
 {
@@ -137,7 +139,7 @@ fn parse_plain(header: &Header) -> Option<Order>
     }
 }
 
-/// Parses an order from its record and the bytes after it. None if they spell no order.
+/// Parses an order from its record and the bytes after it. Returns `None` if they spell no order.
 pub fn parse_order(header: &Header, body: &[u8]) -> Option<Order>
     ensures is { IfSome result (λ order. (words : List ℕ) × IsOrder header.now body.now order words) }
     ensures all { (order : orders.Order) (words : List ℕ) → IsOrder header.now body.now order words

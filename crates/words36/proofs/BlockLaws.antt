@@ -14,7 +14,7 @@ group_at : (bytes group : List ℕ) (at i : ℕ) → i < 8 → group ≡ between
     → get_or group i 0 ≡ get_or bytes (at + i) 0
 group_at bytes group at i h e = grind (arith, common_steps)
 
--- eight bytes that are copied out are read as the number that stands at their place
+-- eight bytes that are copied out are read as the number at their place
 pub number_at-group : (bytes group : List ℕ) (place : ℕ) → group ≡ between (8 * place) (8 * place + 8) bytes
     → from_be_bytes w64 group ≡ number_at bytes place
 unfolding number_at
@@ -58,7 +58,7 @@ pub put-all : (bytes words : List ℕ) (i : ℕ) → length bytes ≤ 8 * i → 
 put-all bytes words i all_bytes all_words so_far = sym (take_all (8 * i) bytes all_bytes) ∙ so_far
     ∙ ap block_bytes (take_all i words all_words)
 
--- the eight bytes from a place on
+-- the eight bytes from a place
 abbrev eight : List ℕ → ℕ → List ℕ
 eight bytes at =
     get_or bytes at 0 ∷ get_or bytes (at + 1) 0 ∷ get_or bytes (at + 2) 0 ∷ get_or bytes (at + 3) 0
@@ -179,7 +179,7 @@ read_alone bytes words other long h block same =
     h.value i (omega arith) ∙ ap (λ l. number_at l i) (sym same)
     ∙ number_at-block_bytes other i inside (block.each i 0 inside))
 
--- where a place's bytes are no word, no block has the bytes
+-- if a place's bytes are no word, no block has the bytes
 pub not_block : (bytes words : List ℕ) (i : ℕ) → i < 128 → 2 ^ 36 ≤ number_at bytes i → IsBlock words
     → block_bytes words ≡ bytes → ⊥
 not_block bytes words i inside bad block same =

@@ -20,7 +20,7 @@ small_after bytes at small j = omega (arith, get_or-drop at bytes j 0, small (at
 pub number-lt : (bytes : List ℕ) (at : ℕ) → AreBytes bytes → big_number 9 (drop at bytes) < 2 ^ 72
 number-lt bytes at small = big_from-lt 0 9 (drop at bytes) (small_after bytes at small)
 
--- nine bytes taken out are the number that stands at their place
+-- nine bytes taken out are the number at their place
 pub number_there : (bytes : List ℕ) (at : ℕ) → at + 9 ≤ length bytes
     → big_number 9 (between at (at + 9) bytes) ≡ big_number 9 (drop at bytes)
 number_there bytes at fits =

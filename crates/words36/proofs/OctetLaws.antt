@@ -195,7 +195,7 @@ are_octets [] = λ i d h. absurd (omega arith)
 are_octets (w ∷ words) = All-append IsOctet (take (count_in w (is_end words)) (four_octets w)) (octets words)
     (All-take IsOctet (count_in w (is_end words)) (four_octets w) (four-fit w)) (are_octets words)
 
--- what a walk through the words comes to
+-- the result of a walk through the words
 
 end-is : (words : List ℕ) → is_end words ≡ nat_eq (length words) 0
 end-is [] = refl

@@ -1,6 +1,6 @@
--- ASCII packs five characters of seven bits into a word, the first leftmost. Bit 35, the last, is
--- zero when packed and is not looked at when unpacked. A last word with fewer than five characters
--- is filled with nulls. (TOPS-10 Monitor Calls Manual.)
+-- ASCII packs five characters of seven bits into a word, the first leftmost. Bit 35, the last, is zero when packed
+-- and is ignored when unpacked. A last word with fewer than five characters is filled with nulls. (TOPS-10 Monitor
+-- Calls Manual.)
 use Rattle.std.specs.Prelude.{ℕ, ◌+◌, ◌-◌, ◌*◌, ◌/◌, ◌%◌, ◌^◌, List, [], ◌∷◌, ◌++◌, length, replicate, slice_index}
 use Rattle.std.specs.Prelude.{flat_map}
 

@@ -26,7 +26,7 @@ number_at bytes place =
     + slice_index bytes (8 * place + 4) * 256 ^ 3 + slice_index bytes (8 * place + 5) * 256 ^ 2
     + slice_index bytes (8 * place + 6) * 256 + slice_index bytes (8 * place + 7)
 
--- the first of so many places whose eight bytes are no word
+-- the first of `count` places whose eight bytes are no word
 pub record IsFirstBadWord (count : ℕ) (bytes : List ℕ) (place : ℕ) : Type 0 where
   pub inside : place < count
   pub bad : 2 ^ 36 ≤ number_at bytes place

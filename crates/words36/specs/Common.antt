@@ -5,7 +5,7 @@ unfoldable pub use Rattle.words36.specs.Blocks.{number_at}
 pub use Rattle.words36.specs.Dates.{IsDate, IsDayOf, date_number}
 pub use Rattle.words36.specs.Nines.{nine_bytes, nine_words}
 unfoldable pub use Rattle.words36.specs.Nines.{pairs_in}
-pub use Rattle.words36.specs.OctetReading.{HasRead, are_full, last_word, words_before_last}
+pub use Rattle.words36.specs.OctetsRead.{HasRead, are_full, last_word, words_before_last}
 pub use Rattle.words36.specs.Octets.{AreOctets, CountsOctets, FoundOctetsAreRight, IsOctet, OctetsAreFound}
 pub use Rattle.words36.specs.Octets.{OctetsAreOne, four_octets, full_word_mark, octet_word, octets_in, octets_packed}
 pub use Rattle.words36.specs.Octets.{octets_unpacked}

@@ -2,7 +2,7 @@ pub mod Ascii
 pub mod Blocks
 pub mod Dates
 pub mod Nines
-pub mod OctetReading
+pub mod OctetsRead
 pub mod Octets
 pub mod Sixbit
 pub mod Words

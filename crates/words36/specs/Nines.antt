@@ -1,10 +1,10 @@
--- The packed form of an image: two words are 72 bits in nine bytes, the first word's bits first and of each the most
--- significant first. So nine bytes are the digits to the base 256 of the number that has the two words as its digits
--- to the base 2^36, and there are no nine bytes that aren't two words.
+-- The packed form of an image: two words are 72 bits in nine bytes, the first word's bits first and, in each word,
+-- the most significant first. So nine bytes are the digits to the base 256 of the number that has the two words as
+-- its digits to the base 2^36, and any nine bytes are two words.
 use Rattle.std.specs.Prelude.{ℕ, zero, suc, ◌+◌, ◌*◌, ◌/◌, ◌%◌, ◌^◌, List, [], ◌∷◌, ◌++◌, drop}
 use Rattle.byteorder.specs.Endian.{big_bytes, big_number}
 
--- the bytes of pairs of words; a last word with no second one has none
+-- the bytes of pairs of words; a last word without a second one has none
 abbrev pub nine_bytes : List ℕ → List ℕ
 nine_bytes [] = []
 nine_bytes (a ∷ []) = []

@@ -1,6 +1,6 @@
 -- Bytes of eight bits, four in a word from the left, which is the industry's own form. Bits 0 to 31 of a word are its
 -- bytes. Bits 32 to 35, the low four bits, are 0 in each word except the last. In the last word they hold how many of
--- its bytes count, 1 to 4, and the bytes that don't count are 0. No bytes are no words.
+-- its bytes count, 1 to 4, and the bytes that don't count are 0. No bytes make no words.
 use Rattle.std.specs.Prelude.{ℕ, ◌+◌, ◌-◌, ◌*◌, ◌/◌, ◌%◌, ◌^◌, ◌<◌, ◌≤◌, ◌≡◌, List, [], ◌∷◌, All, ◌++◌, take, Option}
 use Rattle.std.specs.Prelude.{Some, None, if◌then◌else◌}
 use Rattle.std.specs.Str.{bytes_eq}
@@ -9,7 +9,7 @@ use Rattle.std.specs.Str.{bytes_eq}
 abbrev pub octet_word : ℕ → ℕ → ℕ → ℕ → ℕ → ℕ
 octet_word a b c d low = (a * 256 ^ 3 + b * 256 ^ 2 + c * 256 + d) * 16 + low
 
--- the low four bits of a full word that these bytes follow
+-- the low four bits of a full word, given the bytes that follow it
 abbrev pub full_word_mark : List ℕ → ℕ
 full_word_mark [] = 4
 full_word_mark (byte ∷ bytes) = 0
@@ -34,7 +34,7 @@ pub record AreOctets (words bytes : List ℕ) : Type 0 where
 abbrev pub four_octets : ℕ → List ℕ
 four_octets w = (w / 2 ^ 28 % 256) ∷ (w / 2 ^ 20 % 256) ∷ (w / 2 ^ 12 % 256) ∷ (w / 2 ^ 4 % 256) ∷ []
 
--- how many bytes of a word count that these words follow
+-- how many bytes of a word count, given the words that follow it
 abbrev pub octet_count : ℕ → List ℕ → ℕ
 octet_count w [] = w % 16
 octet_count w (v ∷ words) = 4
@@ -44,11 +44,11 @@ abbrev pub octets_in : List ℕ → List ℕ
 octets_in [] = []
 octets_in (w ∷ words) = take (octet_count w words) (four_octets w) ++ octets_in words
 
--- the bytes whose words these are, if there are some
+-- the bytes whose words these are, if there are any
 abbrev pub octets_unpacked : List ℕ → Option (List ℕ)
 octets_unpacked words = if bytes_eq (octets_packed (octets_in words)) words then Some (octets_in words) else None
 
--- how many bytes of the last word count, if its low four bits say so and its other bytes are 0
+-- how many bytes of the last word count, if its low four bits hold that number and its other bytes are 0
 abbrev pub CountsOctets : ℕ → ℕ → Type 0
 CountsOctets w count = (w % 16 ≡ count) × (1 ≤ count) × (count ≤ 4) × (w / 16 % 256 ^ (4 - count) ≡ 0)
 

@@ -23,6 +23,6 @@ pub record IsPpn (w : ℕ) : Type 0 where
   pub project : 0 < left w
   pub programmer : 0 < right w
 
--- what a PPN is shown as: the project and the programmer in octal, as `[10,20]`
+-- the text of a PPN: the project and the programmer in octal, as `[10,20]`
 abbrev pub ppn_text : ℕ → List ℕ
 ppn_text w = 91 ∷ digits 8 false (left w) ++ (44 ∷ digits 8 false (right w) ++ 93 ∷ [])

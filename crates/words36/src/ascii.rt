@@ -1,3 +1,4 @@
+//! Texts of ASCII characters in words: five characters to a word.
 ghost use Rattle.std.specs.Prelude.{◌≡◌, ◌%◌, ◌≤◌, ◌<◌, ◌^◌, ◌⊎◌, ◌↔◌, IfOk, IfErr, OnOk, IsErrOf, All, Any, length};
 ghost use Rattle.std.specs.Prelude.{map};
 ghost use Rattle.words36.specs.Common.{ascii_word_of, five_characters, packed, unpacked, null_padded};
@@ -6,11 +7,11 @@ ghost use Rattle.words36.specs.Common.{without_last_bit};
 use crate::{Word, WordError};
 use std::alloc::Global;
 
-/// The words of a text, five characters to a word, the last one filled with nulls.
+/// Packs a text into words, five characters to a word, the last one filled with nulls.
 ///
 /// # Errors
 ///
-/// `NotAscii` where a byte is above 127, `NoMemory` where the words find no room.
+/// `NotAscii` if a byte is above 127, `NoMemory` if there is no room for the words.
 pub fn pack_ascii(alloc: Global, text: &[u8]) -> Result<Vec<Word>, WordError>
     ensures value { IfOk result (λ words. words.items ≡ packed text.now) }
     ensures reads_back { IfOk result (λ words. unpacked words.items ≡ null_padded text.now) }
@@ -35,11 +36,11 @@ pub fn pack_ascii(alloc: Global, text: &[u8]) -> Result<Vec<Word>, WordError>
     Ok(words)
 }
 
-/// The characters of words, five from each, nulls included.
+/// Returns the characters of words, five from each, nulls included.
 ///
 /// # Errors
 ///
-/// `NoMemory` where the text finds no room.
+/// `NoMemory` if there is no room for the text.
 pub fn unpack_ascii(alloc: Global, words: &[Word]) -> Result<Vec<u8>, WordError>
     ensures value { IfOk result (λ text. text.items ≡ unpacked words.now) }
     ensures packs_back { IfOk result (λ text. packed text.items ≡ map without_last_bit words.now) }
@@ -54,7 +55,7 @@ pub fn unpack_ascii(alloc: Global, words: &[Word]) -> Result<Vec<u8>, WordError>
     Ok(text)
 }
 
-/// The word of up to five characters.
+/// Returns the word of up to five characters.
 fn word_of(group: &[u8]) -> Word
     requires short { length group.now ≤ 5 }
     requires ascii { All (λ c. c ≤ 127) group.now }
@@ -68,10 +69,10 @@ fn word_of(group: &[u8]) -> Word
     Word::from_bits(bits << 1)
 }
 
-/// The five characters of a word.
+/// Returns the five characters of a word.
 fn characters_of(word: Word) -> [u8; 5]
     ensures value { result ≡ five_characters word }
-    // A slice of words does not say by itself that each has 36 bits.
+    // A slice of words doesn't by itself imply that each has 36 bits.
     ensures fits { word < 2 ^ 36 }
 {
     let bits = word.bits();
@@ -84,7 +85,7 @@ fn characters_of(word: Word) -> [u8; 5]
     ]
 }
 
-/// The character that stands in the last seven bits.
+/// Returns the character in the last seven bits.
 fn character_of(bits: u64) -> u8
     ensures { result ≡ bits % 128 }
 {

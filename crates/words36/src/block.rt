@@ -1,3 +1,4 @@
+//! The bytes of a block in an image: eight to a word.
 ghost use Rattle.std.specs.Prelude.{◌≡◌, ◌+◌, ◌*◌, ◌/◌, ◌<◌, ◌≤◌, ◌^◌, ◌↔◌, ◌++◌, ℕ, List, Ok, IfOk, IfErr, IfSome};
 ghost use Rattle.std.specs.Prelude.{Some, IsSome, IsErrOf, length, take, drop};
 ghost use Rattle.words36.specs.Common.{IsWord, IsBlock, IsFirstBadWord, block_bytes, word_bytes, number_at};
@@ -5,10 +6,10 @@ ghost use Rattle.words36.specs.Common.{IsWord, IsBlock, IsFirstBadWord, block_by
 use crate::{BLOCK_WORDS, Block, Word, WordError};
 use byteorder::{BigEndian, ByteOrder};
 
-/// How many bytes of an image a block takes.
+/// The number of bytes that a block takes in an image.
 pub const BLOCK_BYTES: usize = 8 * BLOCK_WORDS;
 
-/// The bytes of a block: eight to a word, the most significant first.
+/// Returns the bytes of a block: eight to a word, the most significant first.
 pub fn block_to_bytes(block: &Block) -> [u8; BLOCK_BYTES]
     ensures bytes { result ≡ block_bytes block.now }
     ensures words { IsBlock block.now }
@@ -20,7 +21,7 @@ pub fn block_to_bytes(block: &Block) -> [u8; BLOCK_BYTES]
     bytes
 }
 
-/// The block that has these bytes.
+/// Returns the block that has these bytes.
 ///
 /// # Errors
 ///
@@ -39,8 +40,8 @@ pub fn block_from_bytes(bytes: &[u8; BLOCK_BYTES]) -> Result<Block, WordError>
     Ok(block)
 }
 
-/// The place, counted from 0, of the first word in an image's bytes whose top 28 bits aren't zero; none where the bytes
-/// are those of blocks. A last word of fewer than eight bytes isn't looked at.
+/// Returns the place, counted from 0, of the first word in an image's bytes whose top 28 bits aren't zero, or `None`
+/// if there is no such word. Ignores a last word of fewer than eight bytes.
 pub fn first_bad_word(bytes: &[u8]) -> Option<usize>
     ensures { (place : ℕ) → (result ≡ Some place ↔ IsFirstBadWord (length bytes.now / 8) bytes.now place) }
 {
@@ -52,7 +53,7 @@ pub fn first_bad_word(bytes: &[u8]) -> Option<usize>
     None
 }
 
-/// Puts the eight bytes of a word at a place of an image's bytes.
+/// Puts the eight bytes of a word at an offset in an image's bytes.
 fn put_word(bytes: &mut [u8], at: usize, word: Word)
     requires { at + 8 ≤ length bytes.old }
     ensures put { bytes.new ≡ take at bytes.old ++ (word_bytes word ++ drop (at + 8) bytes.old) }
@@ -61,7 +62,7 @@ fn put_word(bytes: &mut [u8], at: usize, word: Word)
     BigEndian::write_u64(&mut bytes[at..at + 8], word.bits());
 }
 
-/// The word at a place, counted from 0 in words.
+/// Returns the word at a place, counted from 0 in words, or `None` if the number there has more than 36 bits.
 fn word_at(bytes: &[u8], place: usize) -> Option<Word>
     requires { 8 * place + 8 ≤ length bytes.now }
     ensures value { IfSome result (λ word. word ≡ number_at bytes.now place) }

@@ -1,3 +1,4 @@
+//! The machine's dates: days as numbers.
 ghost use Rattle.std.specs.Prelude.{◌≡◌, ◌≤◌, ◌↔◌, IfOk, IfErr, IsOk};
 ghost use Rattle.words36.specs.Common.{date_number, IsDate, IsDayOf};
 
@@ -14,7 +15,7 @@ pub struct Day {
     pub day: u32,
 }
 
-/// The number of a day.
+/// Returns the number of a day.
 ///
 /// # Errors
 ///
@@ -36,7 +37,7 @@ pub fn date_of(year: u32, month: u32, day: u32) -> Result<u32, WordError>
     Ok(date)
 }
 
-/// The day that has this number.
+/// Returns the day that has this number.
 ///
 /// # Errors
 ///

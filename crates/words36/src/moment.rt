@@ -1,3 +1,4 @@
+//! Moments of the machine: a date and a minute.
 ghost use Rattle.std.specs.Prelude.{◌≡◌, ◌<◌, ◌≤◌, ◌^◌, ◌↔◌, IfOk, IfErr, IsOk};
 ghost use Rattle.words36.specs.declared.error.WordError.TheVariants.{DateRange};
 
@@ -15,7 +16,7 @@ pub struct Moment {
 }
 
 impl Moment {
-    /// The moment of this date and minute.
+    /// Returns the moment of this date and minute.
     ///
     /// # Errors
     ///

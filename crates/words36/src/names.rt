@@ -1,3 +1,4 @@
+//! Project-programmer numbers, and the names of files.
 ghost use Rattle.std.specs.Prelude.{◌≡◌, ◌<◌, ◌^◌, ◌↔◌, Some, IsSome, IfSome};
 ghost use Rattle.words36.specs.Common.{left, right, join, IsPpn, ppn_text};
 
@@ -5,8 +6,8 @@ use crate::{Half, Word};
 use std::fmt;
 use std::marker::Model;
 
-/// A project-programmer number: the word with the project left and the programmer right, both
-/// from 1 to 777777 (octal). Shown as `[10,20]`, in octal.
+/// A project-programmer number (PPN): a word with the project in its left half and the programmer in its right half,
+/// both from 1 to 777777 (octal). Printed as `[10,20]`, in octal.
 #[derive(Clone, Copy, Debug, PartialEq, Eq, PartialOrd, Ord, Hash)]
 pub struct Ppn {
     word: Word,
@@ -26,8 +27,7 @@ impl Model for Ppn {
 }
 
 impl Ppn {
-    /// The PPN of a project and a programmer, or `None` where one of them is zero or has more than
-    /// 18 bits.
+    /// Returns the PPN of a project and a programmer, or `None` if one of them is zero or has more than 18 bits.
     pub fn new(project: u32, programmer: u32) -> Option<Ppn>
         ensures value { IfSome result (λ p. p ≡ join project programmer) }
         ensures project_is { IfSome result (λ p. left p ≡ project) }
@@ -37,7 +37,7 @@ impl Ppn {
         Ppn::from_word(Word::from_halves(Half::new(project)?, Half::new(programmer)?))
     }
 
-    /// The PPN that this word is, or `None` where one of its halves is zero.
+    /// Returns the PPN that this word is, or `None` if one of its halves is zero.
     pub fn from_word(word: Word) -> Option<Ppn>
         ensures value { IfSome result (λ p. p ≡ word) }
         ensures fits { IsSome result ↔ IsPpn word }
@@ -49,7 +49,7 @@ impl Ppn {
         }
     }
 
-    /// The word with the project left and the programmer right.
+    /// Returns the word with the project in its left half and the programmer in its right half.
     pub fn word(self) -> Word
         ensures value { result ≡ self }
         ensures ppn { IsPpn result }
@@ -57,14 +57,14 @@ impl Ppn {
         self.word
     }
 
-    /// The project.
+    /// Returns the project.
     pub fn project(self) -> Half
         ensures { result ≡ left self }
     {
         self.word.left()
     }
 
-    /// The programmer.
+    /// Returns the programmer.
     pub fn programmer(self) -> Half
         ensures { result ≡ right self }
     {

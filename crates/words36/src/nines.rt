@@ -1,3 +1,4 @@
+//! The bytes of a block in a packed image: nine to two words.
 ghost use Rattle.std.specs.Prelude.{◌≡◌, ◌+◌, ◌*◌, ◌/◌, ◌%◌, ◌<◌, ◌≤◌, ◌^◌, ◌++◌, length, take, drop};
 ghost use Rattle.byteorder.specs.Endian.{big_bytes, big_number};
 ghost use Rattle.words36.specs.Common.{IsWord, IsBlock, nine_bytes, nine_words};
@@ -5,10 +6,11 @@ ghost use Rattle.words36.specs.Common.{IsWord, IsBlock, nine_bytes, nine_words};
 use crate::{BLOCK_WORDS, Block, Word};
 use byteorder::{BigEndian, ByteOrder};
 
-/// How many bytes of a packed image a block takes: nine to two words.
+/// The number of bytes that a block takes in a packed image: nine to two words.
 pub const PACKED_BYTES: usize = 9 * BLOCK_WORDS / 2;
 
-/// The packed bytes of a block: nine to two words, the first word's bits first and the most significant bit first.
+/// Returns the packed bytes of a block: nine to two words, the first word's bits first, the most significant bit
+/// first.
 pub fn block_to_nine(block: &Block) -> [u8; PACKED_BYTES]
     ensures bytes { result ≡ nine_bytes block.now }
     ensures words { IsBlock block.now }
@@ -21,7 +23,7 @@ pub fn block_to_nine(block: &Block) -> [u8; PACKED_BYTES]
     bytes
 }
 
-/// The block that has these packed bytes. There are none that aren't a block's.
+/// Returns the block that has these packed bytes. Any bytes of this length are a block's.
 pub fn block_from_nine(bytes: &[u8; PACKED_BYTES]) -> Block
     ensures value { result ≡ nine_words bytes.now }
     ensures words { IsBlock result }
@@ -36,7 +38,7 @@ pub fn block_from_nine(bytes: &[u8; PACKED_BYTES]) -> Block
     block
 }
 
-/// Puts the nine bytes of two words at a place of a packed image's bytes.
+/// Puts the nine bytes of two words at an offset in a packed image's bytes.
 fn put_pair(bytes: &mut [u8], at: usize, first: Word, second: Word)
     requires { at + 9 ≤ length bytes.old }
     ensures put { bytes.new
@@ -47,7 +49,7 @@ fn put_pair(bytes: &mut [u8], at: usize, first: Word, second: Word)
     BigEndian::write_uint128(&mut bytes[at..at + 9], number, 9);
 }
 
-/// The two words at the place of a pair, counted from 0 in pairs.
+/// Returns the two words at the place of a pair, counted from 0 in pairs.
 fn pair_at(bytes: &[u8; PACKED_BYTES], pair: usize) -> (Word, Word)
     requires { pair < 64 }
     ensures first { result.0 ≡ big_number 9 (drop (9 * pair) bytes.now) / 2 ^ 36 }

@@ -1,3 +1,4 @@
+//! Bytes of eight bits (octets) in words: four to a word, with a count in the last one.
 ghost use Rattle.std.specs.Prelude.{◌%◌, ◌==◌, ◌&&◌, ◌∷◌, ◌++◌, [], OnErr, ◌≡◌, ◌<◌, ◌≤◌, ◌^◌, ℕ, List, true, false};
 ghost use Rattle.std.specs.Prelude.{Some, None, IfOk, IfSome, IfNone, length, slice_index};
 ghost use Rattle.words36.specs.Common.{octets_packed, octets_unpacked, octet_word, four_octets, AreOctets};
@@ -6,12 +7,12 @@ ghost use Rattle.words36.specs.Common.{CountsOctets, OctetsAreOne, OctetsAreFoun
 use crate::Word;
 use std::alloc::{AllocError, Global};
 
-/// The words of bytes, four in a word from the left. The low four bits of the last word hold how many of its bytes
-/// count, 1 to 4; bytes that don't count, and the low four bits of all other words, are 0.
+/// Packs bytes into words, four to a word from the left. The low four bits of the last word hold how many of its
+/// bytes count, 1 to 4; bytes that don't count, and the low four bits of all other words, are 0.
 ///
 /// # Errors
 ///
-/// `AllocError` if the words found no room.
+/// `AllocError` if there is no room for the words.
 pub fn pack_octets(alloc: Global, bytes: &[u8]) -> Result<Vec<Word>, AllocError>
     ensures { IfOk result (λ words. words.items ≡ octets_packed bytes.now) }
 {
@@ -25,11 +26,11 @@ pub fn pack_octets(alloc: Global, bytes: &[u8]) -> Result<Vec<Word>, AllocError>
     Ok(words)
 }
 
-/// The bytes whose words these are, or `None` if no bytes have such words.
+/// Returns the bytes whose words these are, or `None` if no bytes have such words.
 ///
 /// # Errors
 ///
-/// `AllocError` if the bytes found no room.
+/// `AllocError` if there is no room for the bytes.
 pub fn unpack_octets(alloc: Global, words: &[Word]) -> Result<Option<Vec<u8>>, AllocError>
     ensures bytes { IfOk result (λ read. IfSome read (λ bytes. AreOctets words.now bytes.items)) }
     ensures refused { IfOk result (λ read. IfNone read ((bytes : List ℕ) → AreOctets words.now bytes → ⊥)) }
@@ -41,7 +42,7 @@ pub fn unpack_octets(alloc: Global, words: &[Word]) -> Result<Option<Vec<u8>>, A
     reader.finish()
 }
 
-/// Finds the bytes of words that come one after the other.
+/// A reader that finds the bytes of words that come one after the other.
 #[derive(Drop)]
 pub struct OctetReader {
     /// The bytes of all words before the last.
@@ -49,12 +50,12 @@ pub struct OctetReader {
     last: Option<Word>,
     /// Whether the low four bits of all words before the last are 0.
     is_full: bool,
-    /// Whether there was memory for all bytes. Without them too it is known whether bytes have these words.
+    /// Whether there was memory for all bytes. If not, the reader still knows whether bytes have these words.
     is_whole: bool,
 }
 
 impl OctetReader {
-    /// Begins, before the first word.
+    /// Returns a reader before its first word.
     pub fn new(alloc: Global) -> OctetReader
         ensures { HasRead result [] }
     {
@@ -103,7 +104,7 @@ impl OctetReader {
         self.last = Some(word);
     }
 
-    /// How many bytes of the last word count, or `None` if no bytes have these words.
+    /// Returns how many bytes of the last word count, or `None` if no bytes have these words.
     fn count(&self) -> Option<usize>
         ensures some { IfSome result (λ count. (w : ℕ) → self.now.last ≡ Some w
             → (self.now.is_full ≡ true) × CountsOctets w count) }
@@ -119,11 +120,11 @@ impl OctetReader {
         }
     }
 
-    /// The bytes whose words these are, or `None` if no bytes have such words.
+    /// Returns the bytes whose words these are, or `None` if no bytes have such words.
     ///
     /// # Errors
     ///
-    /// `AllocError` if these bytes found no room.
+    /// `AllocError` if there is no room for these bytes.
     pub fn finish(self) -> Result<Option<Vec<u8>>, AllocError>
         ensures found { (words : List ℕ) → HasRead self words
             → IfOk result (λ read. IfSome read (λ bytes. octets_unpacked words ≡ Some bytes.items)) }
@@ -144,14 +145,14 @@ impl OctetReader {
     }
 }
 
-/// Bytes that have the same words are the same, and are found in them.
+/// Proves that bytes that have the same words are the same, and that they are found in these words.
 pub fn octets_are_exact()
     ensures one { OctetsAreOne }
     ensures found { OctetsAreFound }
     ensures right { FoundOctetsAreRight }
 {}
 
-/// The low four bits of the word of a group of bytes: how many they are if no bytes follow, and 0 otherwise.
+/// Returns the low four bits of the word of a group of bytes: their number if no bytes follow, and 0 otherwise.
 fn mark_of(group: &[u8], after: &[u8]) -> u64
     ensures last { length after.now ≡ 0 → result ≡ length group.now }
     ensures others { 0 < length after.now → result ≡ 0 }
@@ -163,7 +164,7 @@ fn mark_of(group: &[u8], after: &[u8]) -> u64
     }
 }
 
-/// The word of up to four bytes and the low four bits.
+/// Returns the word of up to four bytes and the low four bits.
 fn word_of(group: &[u8], low: u64) -> Word
     requires { low < 16 }
     ensures { result ≡ octet_word (slice_index group.now 0) (slice_index group.now 1) (slice_index group.now 2)
@@ -178,7 +179,7 @@ fn word_of(group: &[u8], low: u64) -> Word
     Word::from_bits(u64::from(octets) << 4 | low)
 }
 
-/// The byte at a place, and 0 past the end.
+/// Returns the byte at a place, or 0 past the end.
 fn octet_at(group: &[u8], place: usize) -> u8
     ensures value { result ≡ slice_index group.now place }
     ensures fits { result < 256 }
@@ -186,7 +187,7 @@ fn octet_at(group: &[u8], place: usize) -> u8
     group.get(place).copied().unwrap_or(0)
 }
 
-/// How many bytes of the last word count.
+/// Returns how many bytes of the last word count, or `None` if no count fits the word.
 fn last_count(word: Word) -> Option<usize>
     ensures count { IfSome result (CountsOctets word) }
     ensures refused { IfNone result ((count : ℕ) → CountsOctets word count → ⊥) }
@@ -207,7 +208,7 @@ fn last_count(word: Word) -> Option<usize>
     Some(count as usize)
 }
 
-/// The four bytes of a word.
+/// Returns the four bytes of a word.
 fn octets_of(word: Word) -> [u8; 4]
     ensures value { result ≡ four_octets word }
     ensures fits { word < 2 ^ 36 }

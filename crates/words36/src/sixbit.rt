@@ -1,14 +1,15 @@
+//! Texts of SIXBIT characters in words: six characters to a word.
 ghost use Rattle.std.specs.Prelude.{◌≡◌, ◌%◌, ◌+◌, ◌*◌, ◌<◌, ◌^◌, ◌↔◌, IfOk, IfErr, IsOk, length, slice_index};
 ghost use Rattle.words36.specs.Common.{IsSixbitText, IsSixbitCharacter, sixbit, characters, six_characters, code};
 
 use crate::{Word, WordError};
 
-/// The word of a text of at most six characters, which blanks follow.
+/// Returns the word of a text of at most six characters, filled with blanks.
 ///
 /// # Errors
 ///
-/// `NotSixbit` for more than six characters, or one outside ASCII 40 to 137 (octal): there are no
-/// small letters.
+/// `NotSixbit` if the text has more than six characters, or one outside ASCII 40 to 137 (octal): SIXBIT has no small
+/// letters.
 pub fn sixbit_of(text: &[u8]) -> Result<Word, WordError>
     ensures value { IfOk result (λ word. word ≡ sixbit text.now) }
     ensures reads_back { IfOk result (λ word. characters word ≡ six_characters text.now) }
@@ -25,7 +26,7 @@ pub fn sixbit_of(text: &[u8]) -> Result<Word, WordError>
     Ok(Word::from_bits(bits))
 }
 
-/// The six characters of a word, blanks included.
+/// Returns the six characters of a word, blanks included.
 pub fn text_of(word: Word) -> [u8; 6]
     ensures value { result ≡ characters word }
     ensures packs_back { sixbit result ≡ word }
@@ -42,14 +43,14 @@ pub fn text_of(word: Word) -> [u8; 6]
     ]
 }
 
-/// The character whose code stands in the last six bits.
+/// Returns the character whose code is in the last six bits.
 fn character_of(bits: u64) -> u8
     ensures { result ≡ bits % 64 + 32 }
 {
     (bits & 0o77) as u8 + b' '
 }
 
-/// The code of the character at a place of a text, a blank's past its end.
+/// Returns the code of the character at a place of a text, or that of a blank past its end.
 fn code_at(text: &[u8], place: usize) -> Result<u8, WordError>
     ensures value { IfOk result (λ bits. bits ≡ code text.now place) }
     ensures fits { IfOk result (λ bits. bits < 64) }
@@ -62,7 +63,7 @@ fn code_at(text: &[u8], place: usize) -> Result<u8, WordError>
     }
 }
 
-/// The six bits of a character.
+/// Returns the six bits of a character.
 fn sixbit_code(character: u8) -> Result<u8, WordError>
     ensures value { IfOk result (λ code. code + 32 ≡ character) }
     ensures fits { IfOk result (λ code. code < 64) }

@@ -1,3 +1,4 @@
+//! Words of 36 bits, their halves, and blocks of words.
 ghost use Rattle.std.specs.Prelude.{◌≡◌, ◌<◌, ◌^◌, ◌↔◌, IsSome, IfSome};
 ghost use Rattle.words36.specs.Common.{left, right, join};
 
@@ -6,7 +7,7 @@ use std::marker::Model;
 /// A block of the disk: 128 words.
 pub type Block = [Word; BLOCK_WORDS];
 
-/// How many words a block has.
+/// The number of words in a block.
 pub const BLOCK_WORDS: usize = 128;
 
 /// Half a word: 18 bits, a number below 2^18.
@@ -28,7 +29,7 @@ impl Model for Half {
 }
 
 impl Half {
-    /// The half word of this number, or `None` where it has more than 18 bits.
+    /// Returns the half word of this number, or `None` if the number has more than 18 bits.
     pub fn new(bits: u32) -> Option<Half>
         ensures value { IfSome result (λ h. h ≡ bits) }
         ensures fits { IsSome result ↔ (bits < 2 ^ 18) }
@@ -40,7 +41,7 @@ impl Half {
         }
     }
 
-    /// The half word of a number that has at most 18 bits.
+    /// Returns the half word of a number that has at most 18 bits.
     pub fn from_bits(bits: u32) -> Half
         requires { bits < 2 ^ 18 }
         ensures { result ≡ bits }
@@ -48,7 +49,7 @@ impl Half {
         Half { bits }
     }
 
-    /// The number that the half word is.
+    /// Returns the number that the half word is.
     pub fn bits(self) -> u32
         ensures value { result ≡ self }
         ensures fits { result < 2 ^ 18 }
@@ -79,7 +80,7 @@ impl Word {
     /// The word whose bits are all zero.
     pub const ZERO: Word = Word { bits: 0 };
 
-    /// The word of this number, or `None` where it has more than 36 bits.
+    /// Returns the word of this number, or `None` if the number has more than 36 bits.
     pub fn new(bits: u64) -> Option<Word>
         ensures value { IfSome result (λ w. w ≡ bits) }
         ensures fits { IsSome result ↔ (bits < 2 ^ 36) }
@@ -91,7 +92,7 @@ impl Word {
         }
     }
 
-    /// The word of a number that has at most 36 bits.
+    /// Returns the word of a number that has at most 36 bits.
     pub fn from_bits(bits: u64) -> Word
         requires { bits < 2 ^ 36 }
         ensures { result ≡ bits }
@@ -99,7 +100,7 @@ impl Word {
         Word { bits }
     }
 
-    /// The number that the word is.
+    /// Returns the number that the word is.
     pub fn bits(self) -> u64
         ensures value { result ≡ self }
         ensures fits { result < 2 ^ 36 }
@@ -107,7 +108,7 @@ impl Word {
         self.bits
     }
 
-    /// The left half: bits 0 to 17.
+    /// Returns the left half: bits 0 to 17.
     pub fn left(self) -> Half
         ensures value { result ≡ left self }
         ensures fits { result < 2 ^ 18 }
@@ -117,7 +118,7 @@ impl Word {
         }
     }
 
-    /// The right half: bits 18 to 35.
+    /// Returns the right half: bits 18 to 35.
     pub fn right(self) -> Half
         ensures value { result ≡ right self }
         ensures fits { result < 2 ^ 18 }
@@ -127,7 +128,7 @@ impl Word {
         }
     }
 
-    /// The word with these halves.
+    /// Returns the word with these halves.
     pub fn from_halves(left: Half, right: Half) -> Word
         ensures { result ≡ join left right }
     {
@@ -140,7 +141,7 @@ impl Word {
 impl From<Half> for Word {
     ghost from_gives = { λ half word. word ≡ half };
 
-    /// The word with this right half and a left half of zero.
+    /// Returns the word with this right half and a left half of zero.
     fn from(half: Half) -> Word {
         Word {
             bits: half.bits as u64,

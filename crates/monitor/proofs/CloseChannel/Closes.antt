@@ -12,21 +12,21 @@ use Rattle.spec_image.proofs.Common.{some_none, some_same}
 use Rattle.spec_machine.proofs.Common.{none_some, is_some-map}
 use Rattle.spec_machine.specs.declared.call.Call.TheVariants.{Close, Releas}
 use Rattle.spec_machine.specs.declared.call.Reply.TheVariants.{Done, NoChannel}
-use Rattle.volume.specs.Common.{VolumeCore, pending_at, slot as version_at}
+use Rattle.volume.specs.Common.{MemoryMap, pending_at, slot as version_at}
 use Rattle.volume.specs.declared.pending.PendingVersion.{PendingVersion}
 use Rattle.monitor.specs.Common.{rings_closed, closed_in, Closes, readers_of, IsRow, KeepsSides, KeepsReading}
 use Rattle.monitor.specs.Common.{publishes_at, present, IsSide, IsReader, UnderKeys, side_of, sides_in, keys_of}
 use Rattle.monitor.specs.Common.{reader_of, readers_in, pins_of, output_of, input_of, channel_of, job_of}
-use Rattle.monitor.specs.declared.channel.Channel.{Channel}
+use Rattle.monitor.specs.declared.channel.OpenChannel.{OpenChannel}
 use Rattle.monitor.specs.declared.input.Input.{Input}
 use Rattle.monitor.specs.declared.output.Output.{Output}
 use Rattle.monitor.specs.declared.job.Job.{Job}
 use Rattle.monitor.proofs.common.Dropped.{closes_on, same_or_not}
 use Rattle.monitor.proofs.common.ReaderLists.{held, held-channel}
-use Rattle.monitor.proofs.common.ReadingJobs.{length-slice_set}
+use Rattle.monitor.proofs.common.JobReaders.{length-slice_set}
 use Rattle.monitor.proofs.CloseChannel.Rings.{rings_unpublished}
 use Rattle.monitor.proofs.common.SideLists.{count, count-channel, each-channel, each-side}
-use Rattle.monitor.proofs.common.Calling.{channel_is, channel_set, on_none}
+use Rattle.monitor.proofs.common.CallRows.{channel_is, channel_set, on_none}
 use Rattle.spec_machine.specs.Jobs as machine
 
 -- what stays of the two sides, and what goes
@@ -43,19 +43,19 @@ input_left i bits = if keeps_input bits then i else None
 abbrev pub input_released : Option Input → ℕ → Option Input
 input_released i bits = if keeps_input bits then None else i
 
-abbrev pub closed_as : Channel → ℕ → Channel
+abbrev pub closed_as : OpenChannel → ℕ → OpenChannel
 closed_as c bits = record c {
   status = cleared c.status;
   input = input_left c.input bits;
   output = output_left c.output bits;
 }
 
-module _ (w : UnderKeys) (c : Channel) (bits : ℕ) (unpublished : publishes_at (Some c) bits ≡ false) where
+module _ (w : UnderKeys) (c : OpenChannel) (bits : ℕ) (unpublished : publishes_at (Some c) bits ≡ false) where
   machine_unpublished : publishes (channel_of w c) bits ≡ false
   machine_unpublished = ap (λ b. b && not (keeps_output bits) && not (discards bits)) (is_some-map (output_of w) c.output)
       ∙ unpublished
 
-  input_is : (k p : Bool) (held : Option machine.Input) → p ≡ false
+  input_is : (k p : Bool) (held : Option machine.SpecInput) → p ≡ false
       → (if not k then None else if p then held else option_map (input_of w) c.input)
       ≡ option_map (input_of w) (if k then c.input else None)
   input_is true true held e = cc e
@@ -76,8 +76,8 @@ module _ (w : UnderKeys) (c : Channel) (bits : ℕ) (unpublished : publishes_at 
     files_same = ap (λ b. if b then files_with s.files serial (output_put (job_of w job) (channel_of w c))
         else s.files) machine_unpublished
 
-    -- what the input side would hold, were something published
-    abbrev holds : Option machine.Input
+    -- what the input side would have pinned, if something were published
+    abbrev holds : Option machine.SpecInput
     holds = holding (option_map (input_of w) c.input)
         (option_map (published serial) (output_put (job_of w job) (channel_of w c)))
 
@@ -89,7 +89,7 @@ module _ (w : UnderKeys) (c : Channel) (bits : ℕ) (unpublished : publishes_at 
           output = output_is (keeps_output bits) i;
         }
 
-    -- its rings are left alone, but for an input side's that closes
+    -- its rings are left alone, except that of an input side that closes
     pub closes_is : (ends : Bool) → ends ≡ (is_some c.input && not (keeps_input bits) && not (discards bits))
         → closes pack serial s (job_of w job) number (channel_of w c) bits
         ≡ (Done, (job_of w (closed_in job number c false ends (Some (closed_as c bits))), s.files))
@@ -114,7 +114,7 @@ pub close_none : (job : Job) (number bits : ℕ) → slot job.channels number �
 close_none job number bits none pack serial s n w moment at = on_none s n w job number
     (λ c. of_files s n (closes pack serial s (job_of w job) number c bits)) none at
 
-pub close_row : (job job' : Job) (number bits : ℕ) (c : Channel) → slot job.channels number ≡ Some c
+pub close_row : (job job' : Job) (number bits : ℕ) (c : OpenChannel) → slot job.channels number ≡ Some c
     → publishes_at (slot job.channels number) bits ≡ false → (ends : Bool)
     → ends ≡ (is_some c.input && not (keeps_input bits) && not (discards bits))
     → job' ≡ closed_in job number c false ends (Some (closed_as c bits)) → IsRow job job' (Close number bits) Done
@@ -130,7 +130,7 @@ pub release_none : (job : Job) (number : ℕ) → slot job.channels number ≡ N
 release_none job number none pack serial s n w moment at = on_none s n w job number
     (λ c. of_files s n (releases pack serial s (job_of w job) number c)) none at
 
-pub release_row : (job job' : Job) (number : ℕ) (c : Channel) → slot job.channels number ≡ Some c
+pub release_row : (job job' : Job) (number : ℕ) (c : OpenChannel) → slot job.channels number ≡ Some c
     → publishes_at (slot job.channels number) 0 ≡ false
     → job' ≡ closed_in job number c false (is_some c.input) None → IsRow job job' (Releas number) Done
 release_row job job' number c there unpublished set pack serial s n w moment at =
@@ -174,15 +174,15 @@ slot_put (o ∷ xs) (suc n) zero x y at = ((λ same. cc same), (λ apart. at))
 slot_put (o ∷ xs) (suc n) (suc k) x y at = let rest = slot_put xs n k x y at in
     ((λ same. rest.0 (omega (arith, same))), (λ apart. rest.1 (λ same. apart (ap suc same))))
 
--- what is written is dropped first, and what is read is then let go
-pub closed_both : (a b c : VolumeCore) (keys pins : List ℕ) → Closes a b keys [] → Closes b c [] pins
+-- what is written is dropped first, and what is read is then unpinned
+pub closed_both : (a b c : MemoryMap) (keys pins : List ℕ) → Closes a b keys [] → Closes b c [] pins
     → Closes a c keys pins
 closed_both a b c keys pins first second = closes_on a b c keys [] keys [] pins pins first second (λ key. omega arith)
     (λ key. omega arith)
 
--- The channel of a number is another one, or none, and what its sides had is dropped and let go.
-module _ (c c' : VolumeCore) (job job' : Job) (number : ℕ) (open_as : Channel) (there : slot job.channels number
-    ≡ Some open_as) (x : Option Channel) (core : List ℕ)
+-- The channel of a number is another one, or none, and what its sides had is dropped and unpinned.
+module _ (c c' : MemoryMap) (job job' : Job) (number : ℕ) (open_as : OpenChannel) (there : slot job.channels number
+    ≡ Some open_as) (x : Option OpenChannel) (core : List ℕ)
     (set : job' ≡ record job { core = core; channels = slice_set job.channels number x }) (keys pins : List ℕ)
     (closed : Closes c c' keys pins) where
   pub keeps_closed : ((key : ℕ) → count key (option_to_list (side_of x)) + times key keys
@@ -203,7 +203,7 @@ module _ (c c' : VolumeCore) (job job' : Job) (number : ℕ) (open_as : Channel)
   })
 
   pub reads_closed : ((key : ℕ) → held key (option_to_list (reader_of x)) + times key pins
-      ≡ held key (option_to_list open_as.input)) → (IsReader open_as → (y : Channel) → x ≡ Some y → IsReader y)
+      ≡ held key (option_to_list open_as.input)) → (IsReader open_as → (y : OpenChannel) → x ≡ Some y → IsReader y)
       → KeepsReading c.live c'.live job job'
   reads_closed parts reader = subst (KeepsReading c.live c'.live job) (sym set) (record {
     once = λ key.
@@ -220,8 +220,8 @@ module _ (c c' : VolumeCore) (job job' : Job) (number : ℕ) (open_as : Channel)
     };
   })
 
--- the ring of an input side that is let go
-pub ends_is : (c : Channel) (bits : ℕ) (released : Option Input) → released ≡ input_released c.input bits →
+-- the ring of an input side that closes
+pub ends_is : (c : OpenChannel) (bits : ℕ) (released : Option Input) → released ≡ input_released c.input bits →
     (ends : Bool)
     → ends ≡ (is_some released && not (discards bits))
     → ends ≡ (is_some c.input && not (keeps_input bits) && not (discards bits))
@@ -234,7 +234,7 @@ ends_is c bits released is ends marks =
     by (Some i) true b = refl
     by (Some i) false b = refl
 
-pub closed_back : (job job' : Job) (number bits : ℕ) (c : Channel) (core : List ℕ) (status : ℕ) (input : Option Input)
+pub closed_back : (job job' : Job) (number bits : ℕ) (c : OpenChannel) (core : List ℕ) (status : ℕ) (input : Option Input)
     (output : Option Output) → status ≡ cleared c.status → input ≡ input_left c.input bits
     → output ≡ output_left c.output bits
     → job' ≡ record job {
@@ -249,9 +249,9 @@ closed_back job job' number bits c core status input output p r q set = set
           (Some (record c { status = p i; input = r i; output = q i }));
     })
 
-module _ (job : Job) (number : ℕ) (c : Channel) (there : slot job.channels number ≡ Some c) where
-  -- what a channel reads is held by its job
-  pub input_held : (a b : VolumeCore) (keys : List ℕ) → Closes a b keys []
+module _ (job : Job) (number : ℕ) (c : OpenChannel) (there : slot job.channels number ≡ Some c) where
+  -- what a channel reads is pinned by its job
+  pub input_held : (a b : MemoryMap) (keys : List ℕ) → Closes a b keys []
       → ((key : ℕ) → times key (pins_of (readers_in (Some job))) ≤ readers_of (version_at a.live key))
       → (i : Option Input) → ((key : ℕ) → held key (option_to_list i) ≤ held key (option_to_list c.input))
       → (key : ℕ) → times key (pins_of (option_to_list i)) ≤ readers_of (version_at b.live key)
@@ -280,7 +280,7 @@ module _ (job : Job) (number : ℕ) (c : Channel) (there : slot job.channels num
         few true p = omega arith
         few false p = omega arith
 
-    pub released_held : (a b : VolumeCore) (keys : List ℕ) → Closes a b keys []
+    pub released_held : (a b : MemoryMap) (keys : List ℕ) → Closes a b keys []
         → ((key : ℕ) → times key (pins_of (readers_in (Some job))) ≤ readers_of (version_at a.live key))
         → (i : Option Input) → i ≡ input_released c.input bits → (key : ℕ)
         → times key (pins_of (option_to_list i)) ≤ readers_of (version_at b.live key)
@@ -293,7 +293,7 @@ module _ (job : Job) (number : ℕ) (c : Channel) (there : slot job.channels num
         few key true r = omega arith
         few key false r = omega arith
 
-    module _ (a b : VolumeCore) (job' : Job) (core : List ℕ) (o : Option Output) (i : Option Input) (drops : o
+    module _ (a b : MemoryMap) (job' : Job) (core : List ℕ) (o : Option Output) (i : Option Input) (drops : o
         ≡ output_dropped c.output bits) (releases : i ≡ input_released c.input bits)
         (set : job' ≡ record job { core = core; channels = slice_set job.channels number (Some (closed_as c bits)) })
         (closed : Closes a b (keys_of (option_to_list o)) (pins_of (option_to_list i))) where
@@ -338,8 +338,8 @@ module _ (job : Job) (number : ℕ) (c : Channel) (there : slot job.channels num
           closed_reader reader true l i at = reader i at
           closed_reader reader false l i at = absurd (some_none (sym at))
 
--- a channel without an output side goes, and what it reads is let go
-module _ (a b : VolumeCore) (job job' : Job) (number : ℕ) (c : Channel) (there : slot job.channels number
+-- a channel without an output side closes, and what it reads is unpinned
+module _ (a b : MemoryMap) (job job' : Job) (number : ℕ) (c : OpenChannel) (there : slot job.channels number
     ≡ Some c) (unpublished : publishes_at (slot job.channels number) 0 ≡ false)
     (core : List ℕ) (set : job' ≡ record job { core = core; channels = slice_set job.channels number None })
     (closed : Closes a b [] (pins_of (option_to_list c.input))) where

@@ -1,4 +1,4 @@
--- CLOSE and RELEAS by the job of a number: what its row says of all jobs.
+-- CLOSE and RELEAS by the job of a number: what its row states of all jobs.
 use Rattle.std.proofs.Common.{◌≡◌, ℕ, Bool, false, List, Option, Some, refl, sym, subst, ◌∙◌, ◌⊎◌, inl, inr, ⊎_elim}
 use Rattle.std.proofs.Common.{slice_set}
 use Rattle.std.specs.Prelude.{◌↔◌, IsTrue}
@@ -12,28 +12,28 @@ use Rattle.spec_machine.specs.declared.call.Reply.TheVariants.{Done, Value, Refu
 use Rattle.spec_machine.specs.declared.call.Reply.TheVariants.{NoJob, NoMemory, Device, Failed, DateRange}
 use Rattle.spec_image.proofs.Common.{some_same}
 use Rattle.spec_image.specs.Common.{pack_of}
-use Rattle.volume.specs.Common.{VolumeCore}
+use Rattle.volume.specs.Common.{MemoryMap}
 use Rattle.monitor.specs.Common.{OnlyDrops, CallCrashes, IsIdle, IsPublishing, IsPublishRow, CrashesAsRow}
 use Rattle.monitor.specs.Common.{StillStands, ClosesSide, IsRow, KeepsSides, KeepsReading, Serves, AreKeyed}
 use Rattle.monitor.specs.Common.{ArePlaced, AreReading, IsTimely}
-use Rattle.monitor.specs.declared.channel.Channel.{Channel}
+use Rattle.monitor.specs.declared.channel.OpenChannel.{OpenChannel}
 use Rattle.monitor.specs.declared.output.Output.{Output}
 use Rattle.monitor.specs.declared.job.Job.{Job}
-use Rattle.monitor.proofs.common.Answering.{row, in_state, contrary}
+use Rattle.monitor.proofs.common.EventAnswers.{row, in_state, contrary}
 use Rattle.monitor.proofs.common.Dropped.{keeps_keyed}
-use Rattle.monitor.proofs.common.ReadingJobs.{keeps_reading}
-use Rattle.monitor.proofs.common.Serving.{row_is}
+use Rattle.monitor.proofs.common.JobReaders.{keeps_reading}
+use Rattle.monitor.proofs.common.ServedCalls.{row_is}
 
 -- The side that is published is one of the job's.
-pub closes_here : (jobs : List (Option Job)) (n : ℕ) (job : Job) (channel bits : ℕ) (c : Channel) (o : Output)
+pub closes_here : (jobs : List (Option Job)) (n : ℕ) (job : Job) (channel bits : ℕ) (c : OpenChannel) (o : Output)
     → slot jobs n ≡ Some job → (there : Job) × (slot jobs n ≡ Some there) × ClosesSide there channel bits c o
     → ClosesSide job channel bits c o
 closes_here jobs n job channel bits c o at closes = subst (λ j. ClosesSide j channel bits c o)
     (some_same (sym closes.1 ∙ at)) closes.2
 
--- Where something is published.
+-- If something is published.
 
-module _ (d d' : DiskState) (c c' : VolumeCore) (jobs jobs' : List (Option Job)) (n : ℕ) (job job' : Job)
+module _ (d d' : DiskState) (c c' : MemoryMap) (jobs jobs' : List (Option Job)) (n : ℕ) (job job' : Job)
     (moment : Moment) (there : slot jobs n ≡ Some job) (set : jobs' ≡ slice_set jobs n (Some job'))
     (timely : IsTimely d moment) where
   pub row_answered : (failed failed' : Bool) (call : Call) (reply : Reply) → failed ≡ false → ArePlaced c
@@ -54,13 +54,13 @@ module _ (d d' : DiskState) (c c' : VolumeCore) (jobs jobs' : List (Option Job))
       let is = stands jobs n there keyed placed reading alive in
       (subst (AreKeyed c'.pending) (sym set) is.0, is.1, subst (AreReading c'.live) (sym set) is.2)
 
--- what is said of each answer
-module _ (d d' : DiskState) (c c' : VolumeCore) (failed failed' : Bool) (channel : Channel) (o : Output)
+-- what holds for each answer
+module _ (d d' : DiskState) (c c' : MemoryMap) (failed failed' : Bool) (channel : OpenChannel) (o : Output)
     (last : Option (List ℕ)) where
   abbrev Answered : Reply → Type 0
   Answered reply = IsPublishing d d' c c' failed failed' channel o last reply
 
-  -- an answer other than these is none of a volume that fails
+  -- any other answer isn't that of a volume that fails
   serves_on : (reply : Reply) → failed' ≡ false → (reply ≡ Device → ⊥) → (reply ≡ Failed → ⊥)
       → IsTrue failed' ↔ ((reply ≡ Device) ⊎ (reply ≡ Failed))
   serves_on reply serves device failure =
@@ -100,8 +100,8 @@ module _ (d d' : DiskState) (c c' : VolumeCore) (failed failed' : Bool) (channel
   publishing_served NoJob is idle other = absurd is
   publishing_served DateRange is idle other = absurd is
 
--- Where what was written is dropped, and what was read is let go, if anything.
-module _ (d : DiskState) (c c' : VolumeCore) (failed : Bool) (jobs jobs' : List (Option Job)) (n : ℕ)
+-- If what was written is dropped, and what was read, if anything, is unpinned.
+module _ (d : DiskState) (c c' : MemoryMap) (failed : Bool) (jobs jobs' : List (Option Job)) (n : ℕ)
     (job job' : Job) (call : Call) (moment : Moment) (alive : failed ≡ false) (timely : IsTimely d moment)
     (there : slot jobs n ≡ Some job) (set : jobs' ≡ slice_set jobs n (Some job'))
     (keeps : KeepsSides c.pending c'.pending job job') (reads : KeepsReading c.live c'.live job job') where

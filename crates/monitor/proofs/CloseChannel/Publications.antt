@@ -1,4 +1,4 @@
--- What is answered where an output side is published, and which output sides there are then.
+-- The answer if an output side is published, and which output sides there are then.
 use Rattle.std.proofs.Common.{◌≡◌, ℕ, ◌+◌, ◌<◌, ◌≤◌, ◌^◌, Bool, true, false, List, [], length, Option, Some, None}
 use Rattle.std.proofs.Common.{Result, Ok, Err, refl, sym, ap, subst, ◌∙◌, ◌⊎◌, inr, arith, slice_set}
 use Rattle.std.specs.Prelude.{IsErrOf, IsSome, option_to_list}
@@ -11,7 +11,7 @@ use Rattle.spec_machine.specs.declared.call.Reply.TheVariants.{Done}
 use Rattle.spec_image.specs.declared.code.ErrorCode.{ErrorCode}
 use Rattle.spec_image.specs.declared.code.ErrorCode.TheVariants.{NoRoom}
 use Rattle.spec_image.proofs.Common.{some_none, some_is}
-use Rattle.volume.specs.Common.{VolumeCore, slot, pending_at, prime_at}
+use Rattle.volume.specs.Common.{MemoryMap, slot, pending_at, prime_at}
 use Rattle.volume.specs.declared.error.CallError.{CallError}
 use Rattle.volume.specs.declared.error.CallError.TheVariants.{Refused, Device, Failed, NoMemory}
 use Rattle.volume.specs.declared.live.LiveVersion.{LiveVersion}
@@ -20,7 +20,7 @@ use Rattle.volume.proofs.PublishVersion.Places.{published_named}
 use Rattle.monitor.specs.Common.{Closes, unpublished_by, MayPublish, HasPublished, IsPublishing, FindsNone}
 use Rattle.monitor.specs.Common.{readers_of, Renews, KeepsSides, KeepsReading, present, IsSide, side_of, reader_of}
 use Rattle.monitor.specs.Common.{readers_in, pins_of}
-use Rattle.monitor.specs.declared.channel.Channel.{Channel}
+use Rattle.monitor.specs.declared.channel.OpenChannel.{OpenChannel}
 use Rattle.monitor.specs.declared.input.Input.{Input}
 use Rattle.monitor.specs.declared.output.Output.{Output}
 use Rattle.monitor.specs.declared.job.Job.{Job}
@@ -35,7 +35,7 @@ use Rattle.spec_machine.specs.Jobs as machine
 
 -- Answers.
 
-module _ (d d' : DiskState) (c c' : VolumeCore) (failed failed' : Bool) (channel : Channel) (o : Output)
+module _ (d d' : DiskState) (c c' : MemoryMap) (failed failed' : Bool) (channel : OpenChannel) (o : Output)
     (last : Option (List ℕ)) (words : List ℕ) (found : last ≡ Some words) {T : Type 0} (r : Result T CallError)
     (alive : failed ≡ false) (still : (IsErrOf r Device → ⊥) → (IsErrOf r Failed → ⊥) → failed' ≡ failed)
     (served : (IsErrOf r Device → ⊥) → d'.failures ≡ d.failures) where
@@ -86,7 +86,7 @@ there_is None f one is = let wrong = is in cc
 there_is (Some x) f one is = one x
 
 -- A channel's output side is gone, with its version.
-pub published_keeps : (c c' : VolumeCore) (job job' : Job) (number : ℕ) (o : Output) (x : Option Channel)
+pub published_keeps : (c c' : MemoryMap) (job job' : Job) (number : ℕ) (o : Output) (x : Option OpenChannel)
     (core : List ℕ) → side_of (machine.slot job.channels number) ≡ Some o → side_of x ≡ None
     → job' ≡ record job { core = core; channels = slice_set job.channels number x }
     → IsSome (pending_at c.pending o.pending.key) → pending_at c'.pending o.pending.key ≡ None
@@ -107,23 +107,23 @@ published_keeps c c' job job' number o x core side none set live gone others =
           (subst (λ z. AllByRecursion (IsSide c'.pending) (option_to_list z)) (sym none) tt);
     })
 
--- What becomes of core and of the caller behind a publication: versions are let go, or held once more, and no version
--- comes that is written.
+-- What becomes of memory and of the caller after a publication: versions are unpinned, or pinned once more, and no
+-- version comes that is written.
 
-pub record IsBehind (c between c' : VolumeCore) (job job' : Job) : Type 0 where
+pub record IsBehind (c between c' : MemoryMap) (job job' : Job) : Type 0 where
   pub pending : c'.pending ≡ between.pending
   pub known : c'.known ≡ record between.known { table = c'.known.table }
   pub keeps : KeepsSides c.pending c'.pending job job'
   pub reads : KeepsReading c.live c'.live job job'
 
-module _ {d d' : DiskState} {c b : VolumeCore} (o : Output) {last : List ℕ} (whatever : MayPublish d d' c b o last)
+module _ {d d' : DiskState} {c b : MemoryMap} (o : Output) {last : List ℕ} (whatever : MayPublish d d' c b o last)
     (has : HasPublished d d' c b o last) (live : IsSome (pending_at c.pending o.pending.key)) where
   -- each version has as many readers as before
   pub readers_behind : (k : ℕ) → readers_of (slot b.live k) ≡ readers_of (slot c.live k)
   readers_behind = let p = some_is (pending_at c.pending o.pending.key) live in
-      readers_stay d.size c b o.pending.key p.0 (length_after p.0.version.words o.next (length last)) (has.core p.0 p.1)
+      readers_stay d.size c b o.pending.key p.0 (length_after p.0.version.words o.next (length last)) (has.map p.0 p.1)
 
-  -- What is asked of core where versions are let go, or a side comes to hold what is published.
+  -- What is required of memory if versions are unpinned, or a side pins what is published.
 
   pub few_behind : ((key : ℕ) (v : LiveVersion) → slot c.live key ≡ Some v → v.readers + 1 < 2 ^ 32)
       → (key : ℕ) (v : LiveVersion) → slot b.live key ≡ Some v → v.readers + 1 < 2 ^ 32
@@ -134,7 +134,7 @@ module _ {d d' : DiskState} {c b : VolumeCore} (o : Output) {last : List ℕ} (w
       by None few same = omega (arith, same)
       by (Some u) few same = omega (arith, same, few u refl)
 
-  pub held_behind : (job : Job) (number : ℕ) (channel : Channel) → machine.slot job.channels number ≡ Some channel
+  pub held_behind : (job : Job) (number : ℕ) (channel : OpenChannel) → machine.slot job.channels number ≡ Some channel
       → ((key : ℕ) → times key (pins_of (readers_in (Some job))) ≤ readers_of (slot c.live key)) → (i : Option Input)
       → i ≡ channel.input → (key : ℕ) → times key (pins_of (option_to_list i)) ≤ readers_of (slot b.live key)
   held_behind job number channel there all i is key =
@@ -150,15 +150,15 @@ module _ {d d' : DiskState} {c b : VolumeCore} (o : Output) {last : List ℕ} (w
       let owner = sym (is p.0 p.1).0 in
       let name = sym (is p.0 p.1).1 in
       published_named d.size c b o.pending.key p.0 (length_after p.0.version.words o.next (length last))
-      (has.core p.0 p.1)
+      (has.map p.0 p.1)
       ((λ i. prime_at b (owner i) (name i)) ∙ none)
 
   -- What becomes of the caller's channel.
 
-  module _ (c' : VolumeCore) (job job' : Job) (number : ℕ) (channel : Channel)
+  module _ (c' : MemoryMap) (job job' : Job) (number : ℕ) (channel : OpenChannel)
       (there : machine.slot job.channels number ≡ Some channel) (side : channel.output ≡ Some o)
       (pending : c'.pending ≡ b.pending) where
-    keeps_behind : (x : Option Channel) (core : List ℕ) → side_of x ≡ None
+    keeps_behind : (x : Option OpenChannel) (core : List ℕ) → side_of x ≡ None
         → job' ≡ record job { core = core; channels = slice_set job.channels number x }
         → KeepsSides c.pending c'.pending job job'
     keeps_behind x core none set = subst (λ ps. KeepsSides c.pending ps job job') (sym pending)
@@ -171,8 +171,8 @@ module _ {d d' : DiskState} {c b : VolumeCore} (o : Output) {last : List ℕ} (w
       each = behind.each;
     }
 
-    -- what the channel reads is let go
-    pub released_behind : (x : Option Channel) (core : List ℕ) → side_of x ≡ None → reader_of x ≡ None
+    -- what the channel reads is unpinned
+    pub released_behind : (x : Option OpenChannel) (core : List ℕ) → side_of x ≡ None → reader_of x ≡ None
         → job' ≡ record job { core = core; channels = slice_set job.channels number x }
         → Closes b c' [] (pins_of (option_to_list channel.input)) → IsBehind c b c' job job'
     released_behind x core none bare set closed = record {
@@ -185,8 +185,8 @@ module _ {d d' : DiskState} {c b : VolumeCore} (o : Output) {last : List ℕ} (w
           (λ reader y is i reads. absurd (some_none (sym reads ∙ ap reader_of (sym is) ∙ bare))));
     }
 
-    -- or it comes to hold another version
-    pub renewed_behind : (input renewed : Input) (ppn : ℕ) (file : FileName) (protection : ℕ) (x : Channel)
+    -- or it pins another version
+    pub renewed_behind : (input renewed : Input) (ppn : ℕ) (file : FileName) (protection : ℕ) (x : OpenChannel)
         (core : List ℕ) → channel.input ≡ Some input
         → x.input ≡ Some renewed → x.output ≡ None
         → job' ≡ record job { core = core; channels = slice_set job.channels number (Some x) }

@@ -5,7 +5,7 @@ use Rattle.std.specs.List.{AllByRecursion}
 use Rattle.std.specs.Prelude.{◌+◌, not, IsSome, option_to_list}
 use Rattle.words36.specs.declared.moment.Moment.{Moment}
 use Rattle.blockdisk.specs.Common.{DiskState, LeavesOnly, SameDisk, leaves_weaker}
-use Rattle.spec_image.specs.Common.{Files, pack_of, StandsOn, Version, without_serials, with_file, length_after}
+use Rattle.spec_image.specs.Common.{Files, pack_of, StandsOn, SpecVersion, without_serials, with_file, length_after}
 use Rattle.spec_machine.specs.Common.{State, slot, cleared, block_too_large, finds_no_place, booked, Service, Serving}
 use Rattle.spec_machine.specs.Common.{Broken, Answers, IsFresh, HaveDistinctSerials, is_plain, is_light, IsSound}
 use Rattle.spec_machine.specs.Common.{step}
@@ -16,42 +16,42 @@ use Rattle.spec_machine.specs.declared.call.Reply.TheVariants.{Done, Value, Refu
 use Rattle.spec_machine.specs.declared.call.Reply.TheVariants.{NoJob, NoMemory, Device, Failed, DateRange}
 use Rattle.spec_image.proofs.Common.{some_is}
 use Rattle.spec_machine.proofs.Common.{set-slot, sound_step}
-use Rattle.volume.specs.Common.{VolumeCore, pending_at, RestsAt, StandsForOneOf}
+use Rattle.volume.specs.Common.{MemoryMap, pending_at, RestsAt, StandsForOneOf}
 use Rattle.volume.specs.declared.live.LiveVersion.{LiveVersion}
 use Rattle.volume.specs.declared.pending.PendingVersion.{PendingVersion}
 use Rattle.monitor.specs.Common.{left_open, IsIdle, last_at, MayPublish, HasPublished, IsPublishing, PublishesBy}
 use Rattle.monitor.specs.Common.{FindsNone, AreRead, KeepsSides, KeepsReading, IsSide, AreKeyed, ArePlaced}
 use Rattle.monitor.specs.Common.{AreReading, IsState, Serves, UnderKeys, side_of, reader_of, output_of, state_of}
-use Rattle.monitor.specs.declared.channel.Channel.{Channel}
+use Rattle.monitor.specs.declared.channel.OpenChannel.{OpenChannel}
 use Rattle.monitor.specs.declared.job.Job.{Job}
 use Rattle.monitor.specs.declared.output.Output.{Output}
-use Rattle.monitor.proofs.common.Answering.{next_serial, is_fresh, state_is, contrary, goes_on, steps_on, same_files}
-use Rattle.monitor.proofs.common.Calling.{keeps_same, keeps_channel, reads_same, reads_channel}
+use Rattle.monitor.proofs.common.EventAnswers.{next_serial, is_fresh, state_is, contrary, goes_on, steps_on, same_files}
+use Rattle.monitor.proofs.common.CallRows.{keeps_same, keeps_channel, reads_same, reads_channel}
 use Rattle.monitor.proofs.common.Dropped.{leaves_none, keeps_keyed}
-use Rattle.monitor.proofs.common.Knowing.{known}
+use Rattle.monitor.proofs.common.KnownState.{known}
 use Rattle.monitor.proofs.LookupFile.Lookups.{placed_still}
 use Rattle.monitor.proofs.common.Limits.{LimitsAre, limits_are}
-use Rattle.monitor.proofs.WriteOut.Serving.{none_found, place_found}
-use Rattle.monitor.proofs.common.Placing.{placed_published}
+use Rattle.monitor.proofs.WriteOut.Serves.{none_found, place_found}
+use Rattle.monitor.proofs.common.PlacedVersions.{placed_published}
 use Rattle.monitor.proofs.CloseChannel.Publications.{IsBehind}
 use Rattle.monitor.proofs.common.Copies.{versions_in}
 use Rattle.monitor.proofs.CloseChannel.PublishedRows.{version_with, PublishRows, undecided}
 use Rattle.monitor.proofs.CloseChannel.PublishedStates.{published_state, published_are, keyed_published, rests}
 use Rattle.monitor.proofs.CloseChannel.PublishedStates.{distinct, reads_between}
 use Rattle.monitor.proofs.common.ReaderLists.{held}
-use Rattle.monitor.proofs.common.ReadingJobs.{keeps_reading}
+use Rattle.monitor.proofs.common.JobReaders.{keeps_reading}
 use Rattle.monitor.proofs.common.SideLists.{count, each-side}
 use Rattle.volume.specs.Rest as rest
 
--- a disk and core that are what they were
-pub same_state : {D : Type 0} (state : D → DiskState) (old new : D) (c c' : VolumeCore) (jobs : List (Option Job))
+-- a disk and a memory that are what they were
+pub same_state : {D : Type 0} (state : D → DiskState) (old new : D) (c c' : MemoryMap) (jobs : List (Option Job))
     (s : State) → (new ≡ old) × (c' ≡ c) → IsState (state old) c jobs s → IsState (state new) c' jobs s
 same_state state old new c c' jobs s same was = subst (λ disk. IsState (state disk) c' jobs s) (sym same.0)
     (subst (λ x. IsState (state old) x jobs s) (sym same.1) was)
 
--- What was published stays so where the disk is left alone behind it.
-pub publishes_by : {D : Type 0} (state : D → DiskState) (old published new : D) (c b : VolumeCore)
-    (failed after failed' : Bool) (channel : Channel) (o : Output) (last : Option (List ℕ)) (reply : Reply)
+-- What was published stays so if the disk is left alone after it.
+pub publishes_by : {D : Type 0} (state : D → DiskState) (old published new : D) (c b : MemoryMap)
+    (failed after failed' : Bool) (channel : OpenChannel) (o : Output) (last : Option (List ℕ)) (reply : Reply)
     → (new ≡ published) × (failed' ≡ after)
     → ((words : List ℕ) → last ≡ Some words → MayPublish (state old) (state published) c b o words)
     → IsPublishing (state old) (state published) c b failed after channel o last reply
@@ -70,7 +70,7 @@ publishes_by state old published new c b failed after failed' channel o last rep
 
 -- A channel that stays open writes and reads what it did.
 
-module _ (job : Job) (number : ℕ) (c : Channel) (is_open : slot job.channels number ≡ Some c) where
+module _ (job : Job) (number : ℕ) (c : OpenChannel) (is_open : slot job.channels number ≡ Some c) where
   pub left_keeps : (pending : List (Option PendingVersion)) (reply : Reply)
       → KeepsSides pending pending job (left_open job number c reply)
   left_keeps pending (Stopped status) =
@@ -106,12 +106,12 @@ module _ (job : Job) (number : ℕ) (c : Channel) (is_open : slot job.channels n
   left_reads live Failed = reads_same live job
   left_reads live DateRange = reads_same live job
 
-module _ {d d' : DiskState} {c b : VolumeCore} {failed failed' : Bool} {reply : Reply} (call : Call) (moment : Moment)
-    (jobs : List (Option Job)) (n : ℕ) (job : Job) (number : ℕ) (channel : Channel) (o : Output)
+module _ {d d' : DiskState} {c b : MemoryMap} {failed failed' : Bool} {reply : Reply} (call : Call) (moment : Moment)
+    (jobs : List (Option Job)) (n : ℕ) (job : Job) (number : ℕ) (channel : OpenChannel) (o : Output)
     (there : slot jobs n ≡ Some job) (is_open : slot job.channels number ≡ Some channel)
     (rows : PublishRows d call jobs n moment job number channel o)
     (by : PublishesBy d d' c b failed failed' channel o (last_at job.core channel) reply)
-    (live : IsSome (pending_at c.pending o.pending.key)) (sound : rest.IsSoundCore d c failed) (alive : failed ≡ false)
+    (live : IsSome (pending_at c.pending o.pending.key)) (sound : rest.IsSoundMemory d c failed) (alive : failed ≡ false)
     (honest : d'.honest) (s : State) (state : IsState d c jobs s) where
   abbrev key : ℕ
   key = o.pending.key
@@ -124,7 +124,7 @@ module _ {d d' : DiskState} {c b : VolumeCore} {failed failed' : Bool} {reply : 
   before = state_of s.files w jobs
 
   -- the files with the version
-  abbrev files' : List ℕ → ℕ → Files Version
+  abbrev files' : List ℕ → ℕ → Files SpecVersion
   files' last serial = with_file s.files (w.written key).place (version_with (w.written key) o.next last serial)
 
   abbrev same : s ≡ state_of s.files state.under jobs
@@ -134,11 +134,11 @@ module _ {d d' : DiskState} {c b : VolumeCore} {failed failed' : Bool} {reply : 
 
   books : booked before ≡ c.known.table.booked
   books = subst (λ t. booked t ≡ c.known.table.booked) same
-      (known d c jobs s state (subst (rest.IsSoundCore d c) alive sound) (by.same.was_honest honest)).booked_is
+      (known d c jobs s state (subst (rest.IsSoundMemory d c) alive sound) (by.same.was_honest honest)).booked_is
 
   limits : LimitsAre c before
   limits =
-      let sound' = subst (rest.IsSoundCore d c) alive sound in
+      let sound' = subst (rest.IsSoundMemory d c) alive sound in
       let honest' = by.same.was_honest honest in
       subst (LimitsAre c) same (limits_are d c s (known d c jobs s state sound' honest') sound' honest')
 
@@ -202,13 +202,13 @@ module _ {d d' : DiskState} {c b : VolumeCore} {failed failed' : Bool} {reply : 
     pub crashes_as : Crashes
     crashes_as = crash_by reply refl by.answered
 
-  -- What a call leaves that is done: the machine goes on to this state, with whichever serial.
-  abbrev pub GoesOn : VolumeCore → Job → List ℕ → ℕ → Type 0
-  GoesOn c' job' last serial = (read : ℕ → Version) × AreRead d' c' (files' last serial) read
+  -- What a call that is done leaves: the machine continues in this state, with whichever serial.
+  abbrev pub GoesOn : MemoryMap → Job → List ℕ → ℕ → Type 0
+  GoesOn c' job' last serial = (read : ℕ → SpecVersion) × AreRead d' c' (files' last serial) read
       × (step (pack_of d) serial s (Calls n call moment)
       ≡ (Done, state_of (files' last serial) (record w { read = read }) (slice_set jobs n (Some job'))))
 
-  module _ (c' : VolumeCore) (job' : Job) (placed : ArePlaced c)
+  module _ (c' : MemoryMap) (job' : Job) (placed : ArePlaced c)
       (kept : (reply ≡ Done → ⊥) → job' ≡ left_open job number channel reply)
       (behind : reply ≡ Done → IsBehind c b c' job job')
       (goes : reply ≡ Done → (last : List ℕ) → last_at job.core channel ≡ Some last
@@ -253,7 +253,7 @@ module _ {d d' : DiskState} {c b : VolumeCore} {failed failed' : Bool} {reply : 
         honest s state placed serial fresh left.0 left.1 still in
         (Serving after, (serves, published), inl (serial, fresh, left.2 ∙ ap (λ (r : Reply). (r, after)) (sym is)))
 
-    -- The last words find no place, and the channel says so.
+    -- The last words find no place, and the channel reports it.
     leads_stopped : (status : ℕ) → reply ≡ Stopped status → (last : List ℕ) → last_at job.core channel ≡ Some last
         → status ≡ cleared channel.status + block_too_large → ((p : PendingVersion) → pending_at c.pending key ≡ Some p
         → FindsNone d.size c p o (length last)) → failed' ≡ false → Leads
@@ -310,10 +310,10 @@ module _ {d d' : DiskState} {c b : VolumeCore} {failed failed' : Bool} {reply : 
     pub published_answered : Leads
     published_answered = by_reply reply refl by.answered
 
--- Where the volume hasn't failed the sides are those of the versions that are being written and read, and each that is
+-- If the volume hasn't failed, the sides are those of the versions that are being written and read, and each that is
 -- written may be published.
-module _ {d d' : DiskState} {c b : VolumeCore} {failed failed' : Bool} {reply : Reply} (c' : VolumeCore)
-    (jobs : List (Option Job)) (n : ℕ) (job job' : Job) (number : ℕ) (channel : Channel) (o : Output)
+module _ {d d' : DiskState} {c b : MemoryMap} {failed failed' : Bool} {reply : Reply} (c' : MemoryMap)
+    (jobs : List (Option Job)) (n : ℕ) (job job' : Job) (number : ℕ) (channel : OpenChannel) (o : Output)
     (there : slot jobs n ≡ Some job) (is_open : slot job.channels number ≡ Some channel) (last : Option (List ℕ))
     (by : PublishesBy d d' c b failed failed' channel o last reply)
     (live : IsSome (pending_at c.pending o.pending.key))
@@ -330,12 +330,12 @@ module _ {d d' : DiskState} {c b : VolumeCore} {failed failed' : Bool} {reply : 
   stand_idle r is idle other =
       let left : job' ≡ left_open job number channel reply = kept (λ e. other (sym is ∙ e)) in
       let same = sym (unchanged (subst IsIdle (sym is) idle)) in (
-        subst (λ (x : VolumeCore). AreKeyed x.pending (slice_set jobs n (Some job'))) same
+        subst (λ (x : MemoryMap). AreKeyed x.pending (slice_set jobs n (Some job'))) same
             (keeps_keyed c.pending c.pending jobs n job job' keyed there
             (subst (KeepsSides c.pending c.pending job) (sym left)
             (left_keeps job number channel is_open c.pending reply))),
         subst ArePlaced same placed,
-        subst (λ (x : VolumeCore). AreReading x.live (slice_set jobs n (Some job'))) same
+        subst (λ (x : MemoryMap). AreReading x.live (slice_set jobs n (Some job'))) same
             (keeps_reading c.live c.live jobs n job job' reading there
             (subst (KeepsReading c.live c.live job) (sym left) (left_reads job number channel is_open c.live reply))),
       )
@@ -348,7 +348,7 @@ module _ {d d' : DiskState} {c b : VolumeCore} {failed failed' : Bool} {reply : 
         keyed_published d d' c b c' jobs n job job' o answer.0 there whatever answer.2 is_behind live keyed,
         placed_still b c' is_behind.pending is_behind.known
             (placed_published d.size c b o.pending.key p.0
-            (length_after p.0.version.words o.next (length answer.0)) (answer.2.core p.0 p.1) p.1 answer.2.gone
+            (length_after p.0.version.words o.next (length answer.0)) (answer.2.map p.0 p.1) p.1 answer.2.gone
             whatever.others placed),
         keeps_reading c.live c'.live jobs n job job' reading there is_behind.reads,
       )

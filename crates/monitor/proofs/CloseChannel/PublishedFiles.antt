@@ -6,7 +6,7 @@ use Rattle.std.specs.Prelude.{◌==◌, ◌||◌, option_map}
 use Rattle.std.specs.Cmp.{nat_cmp_total}
 use Rattle.std.specs.FinMap.{nat_cmp-IsAntisymmetric}
 use Rattle.spec_image.specs.Common.{File, Files, Directory, Place, map_directory, get, insert, values, map_values}
-use Rattle.spec_image.specs.Common.{Version, without_serials, file_in, file_at, with_file, with_file_in}
+use Rattle.spec_image.specs.Common.{SpecVersion, without_serials, file_in, file_at, with_file, with_file_in}
 use Rattle.spec_machine.specs.Common.{has_serial, HaveDistinctSerials}
 use Rattle.spec_image.proofs.Common.{same_or_other, get-insert_same, get-insert_other, map_values-insert, sum-insert}
 use Rattle.spec_image.proofs.Common.{sum-values, name_total, name_exact}
@@ -17,14 +17,14 @@ use Rattle.monitor.proofs.common.Copies.{copies-files, one_if}
 
 -- The files alone.
 
-abbrev shown : Directory Version → Directory File
+abbrev shown : Directory SpecVersion → Directory File
 shown d = map_directory (λ v. v.file) d
 
-pub files_with : (files : Files Version) (place : Place) (v : Version)
+pub files_with : (files : Files SpecVersion) (place : Place) (v : SpecVersion)
     → without_serials (with_file files place v) ≡ files_published (without_serials files) place.ppn place.name v.file
 files_with files place v = by (get files place.ppn) refl
   where
-    by : (o : Option (Directory Version)) → get files place.ppn ≡ o → without_serials (with_file_in o files place v)
+    by : (o : Option (Directory SpecVersion)) → get files place.ppn ≡ o → without_serials (with_file_in o files place v)
         ≡ files_put_in (get (without_serials files) place.ppn) (without_serials files) place.ppn place.name v.file
     by None is = ap (λ o. files_put_in o (without_serials files) place.ppn place.name v.file)
         (sym (shown_at files place.ppn ∙ ap (option_map shown) is))
@@ -35,21 +35,21 @@ files_with files place v = by (get files place.ppn) refl
         (λ i. record {
           protection = d.protection;
           quota = d.quota;
-          files = map_values-insert name_total name_exact (λ (x : Version). x.file) d.files place.name v i;
+          files = map_values-insert name_total name_exact (λ (x : SpecVersion). x.file) d.files place.name v i;
         })
         ∙ ap (λ o. files_put_in o (without_serials files) place.ppn place.name v.file)
         (sym (shown_at files place.ppn ∙ ap (option_map shown) is))
 
 -- another place
-pub put_elsewhere : (files : Files Version) (place : Place) (v : Version) (q : Place) → (q ≡ place → ⊥)
+pub put_elsewhere : (files : Files SpecVersion) (place : Place) (v : SpecVersion) (q : Place) → (q ≡ place → ⊥)
     → file_at (with_file files place v) q ≡ file_at files q
 put_elsewhere files place v q apart = by (get files place.ppn) refl
   where
-    by : (o : Option (Directory Version)) → get files place.ppn ≡ o → file_at (with_file_in o files place v) q
+    by : (o : Option (Directory SpecVersion)) → get files place.ppn ≡ o → file_at (with_file_in o files place v) q
         ≡ file_at files q
     by None is = refl
     by (Some d) is =
-        let new : Directory Version = record d { files = insert d.files place.name v } in
+        let new : Directory SpecVersion = record d { files = insert d.files place.name v } in
         ⊎_elim
         (λ here.
         ap (λ o. file_in o q.name) (ap (get (insert files place.ppn new)) here
@@ -61,20 +61,20 @@ put_elsewhere files place v q apart = by (get files place.ppn) refl
         (get-insert_other nat_cmp_total nat_cmp-IsAntisymmetric files place.ppn new q.ppn other))
         (same_or_other nat_cmp_total nat_cmp-IsAntisymmetric q.ppn place.ppn)
 
--- Serials are distinct where each stands at most once.
+-- Serials are distinct if each occurs at most once.
 
--- with one more, whatever stood at its place
-pub copies-put : (files : Files Version) (place : Place) (v : Version) (k : ℕ)
+-- with one more, whatever was at its place
+pub copies-put : (files : Files SpecVersion) (place : Place) (v : SpecVersion) (k : ℕ)
     → copies k (versions_in (with_file files place v)) ≤ copies k (versions_in files) + with_serial k v
 copies-put files place v k = by (get files place.ppn) refl
   where
-    by : (o : Option (Directory Version)) → get files place.ppn ≡ o
+    by : (o : Option (Directory SpecVersion)) → get files place.ppn ≡ o
         → copies k (versions_in (with_file_in o files place v)) ≤ copies k (versions_in files) + with_serial k v
     by None is = omega arith
     by (Some d) is =
-        let new : Directory Version = record d { files = insert d.files place.name v } in
+        let new : Directory SpecVersion = record d { files = insert d.files place.name v } in
         let in_files = sum-insert nat_cmp_total nat_cmp-IsAntisymmetric
-        (λ (x : Directory Version). copies k (values x.files)) files place.ppn new (Some d) is in
+        (λ (x : Directory SpecVersion). copies k (values x.files)) files place.ppn new (Some d) is in
         let in_names = sum-insert name_total name_exact (with_serial k) d.files place.name v
         (get d.files place.name) refl in
         let all = copies-files k files in
@@ -84,7 +84,7 @@ copies-put files place v k = by (get files place.ppn) refl
         omega arith
 
 -- a version with a serial that none has
-pub distinct_put : (files : Files Version) (place : Place) (v : Version) → HaveDistinctSerials (versions_in files)
+pub distinct_put : (files : Files SpecVersion) (place : Place) (v : SpecVersion) → HaveDistinctSerials (versions_in files)
     → has_serial v.serial (versions_in files) ≡ false → HaveDistinctSerials (versions_in (with_file files place v))
 distinct_put files place v distinct fresh = few_distinct (versions_in (with_file files place v))
     (λ k. by k (v.serial == k) refl)

@@ -10,7 +10,7 @@ use Rattle.spec_machine.specs.Common.{output_put, input_closed, channel_closed, 
 use Rattle.spec_machine.specs.Common.{State, slot, with_channel, cleared, block_too_large, settled, reports}
 use Rattle.spec_machine.specs.Common.{stopped_in, put_on, finds_no_place, is_light, is_plain, publishes_on, step}
 use Rattle.spec_machine.specs.Common.{on_channel, of_files, last_date}
-use Rattle.spec_image.specs.Common.{Files, Place, Version, with_file, with_protection, Pack, splice, place_of}
+use Rattle.spec_image.specs.Common.{Files, Place, SpecVersion, with_file, with_protection, Pack, splice, place_of}
 use Rattle.spec_image.specs.Common.{pack_of}
 use Rattle.spec_machine.specs.Runs.{channel_of as channel_at_job}
 use Rattle.spec_machine.specs.declared.call.Call.{Call}
@@ -22,22 +22,22 @@ use Rattle.spec_image.proofs.Common.{some_none}
 use Rattle.spec_machine.proofs.Common.{set-slot}
 use Rattle.monitor.specs.Common.{both_closed, output_closed, rings_closed, closed_in, left_open, last_at, Writing}
 use Rattle.monitor.specs.Common.{UnderKeys, input_of, output_of, channel_of, job_of, jobs_of, state_of}
-use Rattle.monitor.specs.declared.channel.Channel.{Channel}
+use Rattle.monitor.specs.declared.channel.OpenChannel.{OpenChannel}
 use Rattle.monitor.specs.declared.input.Input.{Input}
 use Rattle.monitor.specs.declared.output.Output.{Output}
 use Rattle.monitor.specs.declared.job.Job.{Job}
-use Rattle.monitor.proofs.common.Answering.{called, slot_of, job_set}
-use Rattle.monitor.proofs.common.Calling.{channel_is, channel_set}
+use Rattle.monitor.proofs.common.EventAnswers.{called, slot_of, job_set}
+use Rattle.monitor.proofs.common.CallRows.{channel_is, channel_set}
 use Rattle.spec_machine.specs.Jobs as machine
 
 -- the version that is published, with these last words at a block and with its serial
-abbrev pub version_with : Writing → ℕ → List ℕ → ℕ → Version
+abbrev pub version_with : Writing → ℕ → List ℕ → ℕ → SpecVersion
 version_with w next last serial =
     record { file = record w.file { body = splice w.file.body next last }; serial = serial }
 
--- A channel that is closed keeps no input side, or has one that holds what is published.
+-- A channel that is closed has no input side, or one that pins what is published.
 
-no_input : (w : UnderKeys) (k p : Bool) (found : Option Version) (x : Option Input) → (if k then x else None) ≡ None
+no_input : (w : UnderKeys) (k p : Bool) (found : Option SpecVersion) (x : Option Input) → (if k then x else None) ≡ None
     → (if not k then None else if p then holding (option_map (input_of w) x) found else option_map (input_of w) x)
     ≡ None
 no_input w false p found x none = refl
@@ -45,7 +45,7 @@ no_input w true true found None none = refl
 no_input w true false found None none = refl
 no_input w true p found (Some i) none = absurd (some_none none)
 
-module _ (w : UnderKeys) (c : Channel) (o : Output) (bits : ℕ) (side : c.output ≡ Some o)
+module _ (w : UnderKeys) (c : OpenChannel) (o : Output) (bits : ℕ) (side : c.output ≡ Some o)
     (drops : keeps_output bits ≡ false) (publishes_it : discards bits ≡ false) where
   pub machine_publishes : publishes (channel_of w c) bits ≡ true
   machine_publishes = λ i. is_some (option_map (output_of w) (side i)) && not (drops i) && not (publishes_it i)
@@ -70,14 +70,14 @@ module _ (w : UnderKeys) (c : Channel) (o : Output) (bits : ℕ) (side : c.outpu
         then last_answer pack s (channel_of w c) (option_map (output_of w) (side i)) (is i) else Done
 
     module _ (last : List ℕ) (found : last_at job.core c ≡ Some last) where
-      abbrev version : Version
+      abbrev version : SpecVersion
       version = version_with (w.written o.pending.key) o.next last serial
 
       -- the version that is published
       put_is : option_map (published serial) (output_put (job_of w job) (channel_of w c)) ≡ Some version
       put_is = λ i. option_map (published serial) (put_on (option_map (output_of w) (side i)) (words_or_none (found i)))
 
-      pub files_put : (files : Files Version) → files_closed serial files (job_of w job) (channel_of w c) bits
+      pub files_put : (files : Files SpecVersion) → files_closed serial files (job_of w job) (channel_of w c) bits
           ≡ with_file files place version
       files_put files = λ i. if machine_publishes i
           then files_with files serial (put_on (option_map (output_of w) (side i)) (words_or_none (found i))) else files
@@ -108,22 +108,22 @@ module _ (w : UnderKeys) (c : Channel) (o : Output) (bits : ℕ) (side : c.outpu
           output = if drops i then option_map (output_of w) c.output else None;
         }
 
--- What a channel leaves of its job that is stopped is what the machine leaves.
-pub stopped_is : (w : UnderKeys) (job : Job) (number : ℕ) (c : Channel) (status : ℕ)
+-- What a channel that is stopped leaves of its job is what the machine leaves.
+pub stopped_is : (w : UnderKeys) (job : Job) (number : ℕ) (c : OpenChannel) (status : ℕ)
     → stopped_in (job_of w job) number (channel_of w c) (Stopped status)
     ≡ job_of w (left_open job number c (Stopped status))
 stopped_is w job number c status = channel_set w job number (Some (record c { status = status }))
 
 -- What is known of a call that publishes the side of a channel: its rows, from any state of these jobs.
 pub record PublishRows (d : DiskState) (call : Call) (jobs : List (Option Job)) (n : ℕ) (moment : Moment) (job : Job)
-    (number : ℕ) (c : Channel) (o : Output) : Type 0 where
+    (number : ℕ) (c : OpenChannel) (o : Output) : Type 0 where
   -- the call takes memory, and touches the disk
-  pub heavy : (files : Files Version) (w : UnderKeys) → is_light (state_of files w jobs) n call ≡ false
-  -- the last buffer isn't as it should be
-  pub unread : (files : Files Version) (w : UnderKeys) (serial : ℕ) → last_at job.core c ≡ None
+  pub heavy : (files : Files SpecVersion) (w : UnderKeys) → is_light (state_of files w jobs) n call ≡ false
+  -- the last buffer isn't valid
+  pub unread : (files : Files SpecVersion) (w : UnderKeys) (serial : ℕ) → last_at job.core c ≡ None
       → step (pack_of d) serial (state_of files w jobs) (Calls n call moment) ≡ (AddressCheck, state_of files w jobs)
   -- its words find no place
-  pub crowded : (files : Files Version) (w : UnderKeys) (serial : ℕ) (last : List ℕ) → last_at job.core c ≡ Some last
+  pub crowded : (files : Files SpecVersion) (w : UnderKeys) (serial : ℕ) (last : List ℕ) → last_at job.core c ≡ Some last
       → finds_no_place (pack_of d) (state_of files w jobs) (output_of w o) (length last) ≡ true
       → step (pack_of d) serial (state_of files w jobs) (Calls n call moment)
       ≡ (
@@ -132,7 +132,7 @@ pub record PublishRows (d : DiskState) (call : Call) (jobs : List (Option Job)) 
             (Some (left_open job number c (Stopped (cleared c.status + block_too_large))))),
       )
   -- they find one
-  pub done : (files : Files Version) (w : UnderKeys) (serial : ℕ) (last : List ℕ) → last_at job.core c ≡ Some last
+  pub done : (files : Files SpecVersion) (w : UnderKeys) (serial : ℕ) (last : List ℕ) → last_at job.core c ≡ Some last
       → finds_no_place (pack_of d) (state_of files w jobs) (output_of w o) (length last) ≡ false
       → ((step (pack_of d) serial (state_of files w jobs) (Calls n call moment)).0 ≡ Done)
       × ((step (pack_of d) serial (state_of files w jobs) (Calls n call moment)).1.files
@@ -140,7 +140,7 @@ pub record PublishRows (d : DiskState) (call : Call) (jobs : List (Option Job)) 
 
 -- it isn't decided before memory and the disk are needed
 pub undecided : {d : DiskState} {call : Call} {jobs : List (Option Job)} {n : ℕ} {moment : Moment} {job : Job}
-    {number : ℕ} {c : Channel} {o : Output} → PublishRows d call jobs n moment job number c o → (files : Files Version)
+    {number : ℕ} {c : OpenChannel} {o : Output} → PublishRows d call jobs n moment job number c o → (files : Files SpecVersion)
     (w : UnderKeys) (last : List ℕ) → last_at job.core c ≡ Some last
     → is_plain ((step (pack_of d) 0 (state_of files w jobs) (Calls n call moment)).0) ≡ false
 undecided {d} {call} {jobs} {n} {moment} {job} {number} {c} {o} rows files w last found =
@@ -155,24 +155,24 @@ undecided {d} {call} {jobs} {n} {moment} {job} {number} {c} {o} rows files w las
 
 module _ (d : DiskState) (jobs : List (Option Job)) (n : ℕ) (moment : Moment)
     (timely : moment.date ≤ last_date (pack_of d).layout)
-    (job : Job) (there : slot jobs n ≡ Some job) (number : ℕ) (c : Channel)
+    (job : Job) (there : slot jobs n ≡ Some job) (number : ℕ) (c : OpenChannel)
     (is_open : slot job.channels number ≡ Some c) (o : Output) (side : c.output ≡ Some o) where
-  -- the row of a call that leaves this job where it is done, by its answer
-  abbrev row_by : Files Version → UnderKeys → ℕ → ℕ → machine.Job → Reply → Reply × State
+  -- the row of a call that leaves this job if it is done, by its answer
+  abbrev row_by : Files SpecVersion → UnderKeys → ℕ → ℕ → machine.SpecJob → Reply → Reply × State
   row_by files w serial bits after answer = of_files (state_of files w jobs) n (settled answer (
     after,
     files_closed serial files (job_of w job) (channel_of w c) bits,
   ) (λ reply. (stopped_in (job_of w job) number (channel_of w c) reply, files)))
 
   module _ (call : Call) (bits : ℕ) (drops : keeps_output bits ≡ false) (publishes_it : discards bits ≡ false)
-      (after : UnderKeys → ℕ → machine.Job)
-      (heavy : (files : Files Version) (w : UnderKeys) → is_light (state_of files w jobs) n call ≡ false)
-      (rows : (files : Files Version) (w : UnderKeys) (serial : ℕ)
+      (after : UnderKeys → ℕ → machine.SpecJob)
+      (heavy : (files : Files SpecVersion) (w : UnderKeys) → is_light (state_of files w jobs) n call ≡ false)
+      (rows : (files : Files SpecVersion) (w : UnderKeys) (serial : ℕ)
       → step (pack_of d) serial (state_of files w jobs) (Calls n call moment)
       ≡ row_by files w serial bits (after w serial)
       (close_answer (pack_of d) (state_of files w jobs) (job_of w job) (channel_of w c) bits)) where
     -- the row, by what the last buffer has
-    row_by_last : (files : Files Version) (w : UnderKeys) (serial : ℕ) (last : Option (List ℕ))
+    row_by_last : (files : Files SpecVersion) (w : UnderKeys) (serial : ℕ) (last : Option (List ℕ))
         → last_at job.core c ≡ last → step (pack_of d) serial (state_of files w jobs) (Calls n call moment)
         ≡ row_by files w serial bits (after w serial)
         (last_answer (pack_of d) (state_of files w jobs) (channel_of w c) (Some (output_of w o)) last)
@@ -181,7 +181,7 @@ module _ (d : DiskState) (jobs : List (Option Job)) (n : ℕ) (moment : Moment)
         (answer_by_last w c o bits side drops publishes_it serial job (pack_of d) (state_of files w jobs) last is)
 
     -- and by whether its words find a place
-    row_by_place : (files : Files Version) (w : UnderKeys) (serial : ℕ) (last : List ℕ)
+    row_by_place : (files : Files SpecVersion) (w : UnderKeys) (serial : ℕ) (last : List ℕ)
         → last_at job.core c ≡ Some last → (none : Bool)
         → finds_no_place (pack_of d) (state_of files w jobs) (output_of w o) (length last) ≡ none
         → step (pack_of d) serial (state_of files w jobs) (Calls n call moment)
@@ -213,10 +213,10 @@ module _ (d : DiskState) (jobs : List (Option Job)) (n : ℕ) (moment : Moment)
     }
 
     -- what is done leaves this job
-    module _ (files : Files Version) (w : UnderKeys) (serial : ℕ) (last : List ℕ)
+    module _ (files : Files SpecVersion) (w : UnderKeys) (serial : ℕ) (last : List ℕ)
         (found : last_at job.core c ≡ Some last)
         (place : finds_no_place (pack_of d) (state_of files w jobs) (output_of w o) (length last) ≡ false) where
-      abbrev files' : Files Version
+      abbrev files' : Files SpecVersion
       files' = with_file files (w.written o.pending.key).place
           (version_with (w.written o.pending.key) o.next last serial)
 
@@ -236,7 +236,7 @@ module _ (d : DiskState) (jobs : List (Option Job)) (n : ℕ) (moment : Moment)
           job_after = ap (λ t. (Done, record t { files = files' })) (job_set files w jobs n x)
               ∙ ap (λ j. (Done, state_of files' w (slice_set jobs n (Some j)))) (sym set)
 
-  weighs : (files : Files Version) (w : UnderKeys) (bits : ℕ)
+  weighs : (files : Files SpecVersion) (w : UnderKeys) (bits : ℕ)
       → not (publishes_on (channel_at_job (slot (jobs_of w jobs) n) number) bits)
       ≡ not (publishes (channel_of w c) bits)
   weighs files w bits =
@@ -246,14 +246,14 @@ module _ (d : DiskState) (jobs : List (Option Job)) (n : ℕ) (moment : Moment)
   -- CLOSE
 
   module _ (bits : ℕ) (drops : keeps_output bits ≡ false) (publishes_it : discards bits ≡ false) where
-    abbrev close_after : UnderKeys → ℕ → machine.Job
+    abbrev close_after : UnderKeys → ℕ → machine.SpecJob
     close_after w serial = close_done serial (job_of w job) number (channel_of w c) bits
 
-    close_heavy : (files : Files Version) (w : UnderKeys)
+    close_heavy : (files : Files SpecVersion) (w : UnderKeys)
         → is_light (state_of files w jobs) n (Close number bits) ≡ false
     close_heavy files w = weighs files w bits ∙ ap not (machine_publishes w c o bits side drops publishes_it)
 
-    close_row_is : (files : Files Version) (w : UnderKeys) (serial : ℕ)
+    close_row_is : (files : Files SpecVersion) (w : UnderKeys) (serial : ℕ)
         → step (pack_of d) serial (state_of files w jobs) (Calls n (Close number bits) moment)
         ≡ row_by files w serial bits (close_after w serial)
         (close_answer (pack_of d) (state_of files w jobs) (job_of w job) (channel_of w c) bits)
@@ -266,11 +266,11 @@ module _ (d : DiskState) (jobs : List (Option Job)) (n : ℕ) (moment : Moment)
     pub close_rows : PublishRows d (Close number bits) jobs n moment job number c o
     close_rows = publish_rows (Close number bits) bits drops publishes_it close_after close_heavy close_row_is
 
-    -- where the channel has become this one
-    pub close_step : (files : Files Version) (w : UnderKeys) (serial : ℕ) (last : List ℕ)
+    -- if the channel has become this one
+    pub close_step : (files : Files SpecVersion) (w : UnderKeys) (serial : ℕ) (last : List ℕ)
         → last_at job.core c ≡ Some last
         → finds_no_place (pack_of d) (state_of files w jobs) (output_of w o) (length last) ≡ false
-        → (x : Channel) (closes_output closes_input : Bool)
+        → (x : OpenChannel) (closes_output closes_input : Bool)
         → channel_closed serial (job_of w job) (channel_of w c) bits ≡ channel_of w x
         → core_closed job.core (channel_of w c) bits ≡ rings_closed job.core c closes_output closes_input
         → (job' : Job) → job' ≡ closed_in job number c closes_output closes_input (Some x)
@@ -289,14 +289,14 @@ module _ (d : DiskState) (jobs : List (Option Job)) (n : ℕ) (moment : Moment)
 
   -- RELEAS
 
-  abbrev release_after : UnderKeys → ℕ → machine.Job
+  abbrev release_after : UnderKeys → ℕ → machine.SpecJob
   release_after w serial =
       with_channel (record (job_of w job) { core = core_closed job.core (channel_of w c) 0 }) number None
 
-  release_heavy : (files : Files Version) (w : UnderKeys) → is_light (state_of files w jobs) n (Releas number) ≡ false
+  release_heavy : (files : Files SpecVersion) (w : UnderKeys) → is_light (state_of files w jobs) n (Releas number) ≡ false
   release_heavy files w = weighs files w 0 ∙ ap not (machine_publishes w c o 0 side refl refl)
 
-  release_row_is : (files : Files Version) (w : UnderKeys) (serial : ℕ)
+  release_row_is : (files : Files SpecVersion) (w : UnderKeys) (serial : ℕ)
       → step (pack_of d) serial (state_of files w jobs) (Calls n (Releas number) moment)
       ≡ row_by files w serial 0 (release_after w serial)
       (close_answer (pack_of d) (state_of files w jobs) (job_of w job) (channel_of w c) 0)
@@ -309,7 +309,7 @@ module _ (d : DiskState) (jobs : List (Option Job)) (n : ℕ) (moment : Moment)
   pub release_rows : PublishRows d (Releas number) jobs n moment job number c o
   release_rows = publish_rows (Releas number) 0 refl refl release_after release_heavy release_row_is
 
-  pub release_step : (files : Files Version) (w : UnderKeys) (serial : ℕ) (last : List ℕ)
+  pub release_step : (files : Files SpecVersion) (w : UnderKeys) (serial : ℕ) (last : List ℕ)
       → last_at job.core c ≡ Some last
       → finds_no_place (pack_of d) (state_of files w jobs) (output_of w o) (length last) ≡ false
       → (closes_output closes_input : Bool)

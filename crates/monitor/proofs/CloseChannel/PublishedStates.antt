@@ -4,11 +4,11 @@ use Rattle.std.proofs.Common.{ap, subst, ◌∙◌, slice_set, arith}
 use Rattle.std.specs.Prelude.{◌==◌, ◌||◌, IsSome}
 use Rattle.std.specs.List.{AllByRecursion}
 use Rattle.blockdisk.specs.Common.{DiskState}
-use Rattle.spec_image.specs.Common.{Files, Version, without_serials, with_file, splice, length_after}
-use Rattle.spec_machine.specs.Common.{State, slot, current_versions, held_versions, has_serial, IsFresh}
+use Rattle.spec_image.specs.Common.{Files, SpecVersion, without_serials, with_file, splice, length_after}
+use Rattle.spec_machine.specs.Common.{State, slot, current_versions, pinned_versions, has_serial, IsFresh}
 use Rattle.spec_machine.specs.Common.{HaveDistinctSerials, IsSound}
 use Rattle.spec_image.proofs.Common.{some_none, some_is}
-use Rattle.volume.specs.Common.{VolumeCore, pending_at, IsWholeCore, slot as version_at, file_of, files_published}
+use Rattle.volume.specs.Common.{MemoryMap, pending_at, IsWholeMemory, slot as version_at, file_of, files_published}
 use Rattle.volume.specs.Common.{RestsAt}
 use Rattle.volume.specs.declared.live.LiveVersion.{LiveVersion}
 use Rattle.volume.specs.declared.pending.PendingVersion.{PendingVersion}
@@ -17,12 +17,12 @@ use Rattle.monitor.specs.Common.{IsSide, IsWriting, IsState, Writing, UnderKeys,
 use Rattle.monitor.specs.declared.job.Job.{Job}
 use Rattle.monitor.specs.declared.output.Output.{Output}
 use Rattle.monitor.proofs.common.Dropped.{side_stays}
-use Rattle.monitor.proofs.common.HeldReaders.{fresh_read}
+use Rattle.monitor.proofs.common.PinnedReaders.{fresh_read}
 use Rattle.monitor.proofs.CloseChannel.Publications.{IsBehind}
 use Rattle.monitor.proofs.common.Copies.{versions_in}
 use Rattle.monitor.proofs.CloseChannel.PublishedFiles.{files_with, put_elsewhere, distinct_put}
 use Rattle.monitor.proofs.CloseChannel.PublishedRows.{version_with}
-use Rattle.monitor.proofs.common.ReadingJobs.{keeps_reading}
+use Rattle.monitor.proofs.common.JobReaders.{keeps_reading}
 use Rattle.monitor.proofs.common.ReadsPublished.{reads_published}
 use Rattle.monitor.proofs.common.SideLists.{count, count-set, each-set, each-slot}
 use Rattle.monitor.proofs.common.WrittenStays.{writing_stays}
@@ -46,7 +46,7 @@ kept_keyed old new jobs n job job' there keeps stays keyed = record {
 
 -- The state.
 
-none_first : (k : ℕ) (vs ws : List Version) → has_serial k (vs ++ ws) ≡ false → has_serial k vs ≡ false
+none_first : (k : ℕ) (vs ws : List SpecVersion) → has_serial k (vs ++ ws) ≡ false → has_serial k vs ≡ false
 none_first k [] ws none = refl
 none_first k (v ∷ vs) ws none = by (v.serial == k) (none_first k vs ws) none
   where
@@ -67,7 +67,7 @@ file_is d p w body is = λ i. record {
 }
 
 -- the files that the volume publishes are the machine's
-pub published_are : (d : DiskState) (c : VolumeCore) (jobs : List (Option Job)) (s : State) (state : IsState d c jobs s)
+pub published_are : (d : DiskState) (c : MemoryMap) (jobs : List (Option Job)) (s : State) (state : IsState d c jobs s)
     (key next : ℕ) (last : List ℕ) (serial : ℕ) (p : PendingVersion) → IsWriting d p (state.under.written key)
     → files_published (without_serials s.files) p.prime.ppn p.prime.file
     (file_of p.prime (splice (state.under.written key).file.body next last))
@@ -78,7 +78,7 @@ published_are d c jobs s state key next last serial p is =
     ∙ (λ i. files_published (without_serials s.files) (is.place i).ppn (is.place i).name
     (file_is d p (state.under.written key) (splice (state.under.written key).file.body next last) is i)))
 
-module _ (d d' : DiskState) (c b c' : VolumeCore) (jobs : List (Option Job)) (n : ℕ) (job job' : Job)
+module _ (d d' : DiskState) (c b c' : MemoryMap) (jobs : List (Option Job)) (n : ℕ) (job job' : Job)
     (o : Output) (last : List ℕ) (there : slot jobs n ≡ Some job) (whatever : MayPublish d d' c b o last)
     (has : HasPublished d d' c b o last) (behind : IsBehind c b c' job job')
     (live : IsSome (pending_at c.pending o.pending.key)) where
@@ -102,7 +102,7 @@ module _ (d d' : DiskState) (c b c' : VolumeCore) (jobs : List (Option Job)) (n 
     abbrev w : UnderKeys
     w = state.under
 
-    abbrev files' : Files Version
+    abbrev files' : Files SpecVersion
     files' = with_file s.files (w.written key).place (version_with (w.written key) o.next last serial)
 
     pub rests : RestsAt d' (without_serials files')
@@ -115,7 +115,7 @@ module _ (d d' : DiskState) (c b c' : VolumeCore) (jobs : List (Option Job)) (n 
     pub distinct : HaveDistinctSerials (versions_in files')
     distinct = distinct_put s.files (w.written key).place (version_with (w.written key) o.next last serial)
         state.serials
-        (none_first serial (current_versions s) (held_versions s) fresh)
+        (none_first serial (current_versions s) (pinned_versions s) fresh)
 
     -- another version has another place
     elsewhere : (p : PendingVersion) → pending_at c.pending key ≡ Some p → (k : ℕ) (q : PendingVersion)
@@ -129,17 +129,17 @@ module _ (d d' : DiskState) (c b c' : VolumeCore) (jobs : List (Option Job)) (n 
     unlike k v at some = let pinned = state.reading.pinned k in let here = ap readers_of at in
         fresh_read s w jobs state.jobs_are serial fresh k (omega arith)
 
-    -- what is read just behind the publication
-    pub reads_between : IsWholeCore d.size c → AreRead d' b files' w.read
+    -- what is read just after the publication
+    pub reads_between : IsWholeMemory d.size c → AreRead d' b files' w.read
     reads_between whole =
         let p = some_is (pending_at c.pending key) live in
         reads_published d d' c b s.files w.read key p.0 (length_after p.0.version.words o.next (length last))
         (w.written key).place
-        (version_with (w.written key) o.next last serial) state.read whole (has.core p.0 p.1) state.serials
+        (version_with (w.written key) o.next last serial) state.read whole (has.map p.0 p.1) state.serials
         (state.versions key p.0 p.1).place unlike (has.readers honest)
 
-    -- where the versions that are read are these
-    pub published_state : (read : ℕ → Version) → AreRead d' c' files' read
+    -- if the versions that are read are these
+    pub published_state : (read : ℕ → SpecVersion) → AreRead d' c' files' read
         → IsSound (state_of files' (record w { read = read }) (slice_set jobs n (Some job')))
         → IsState d' c' (slice_set jobs n (Some job'))
         (state_of files' (record w { read = read }) (slice_set jobs n (Some job')))

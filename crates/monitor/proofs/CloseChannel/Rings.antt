@@ -5,11 +5,11 @@ use Rattle.spec_machine.specs.Common.{keeps_output, keeps_input, discards, core_
 use Rattle.spec_machine.specs.Common.{is_buffered}
 use Rattle.retrieval.specs.Common.{mode_number}
 use Rattle.monitor.specs.Common.{rings_closed, publishes_at, UnderKeys, input_of, output_of, channel_of}
-use Rattle.monitor.specs.declared.channel.Channel.{Channel}
+use Rattle.monitor.specs.declared.channel.OpenChannel.{OpenChannel}
 use Rattle.spec_machine.proofs.Common.{is_some-map}
 
-module _ (core : List ℕ) (w : UnderKeys) (c : Channel) (bits : ℕ) where
-  -- core, by whether there is a ring, whether nothing is to be marked, and which sides close
+module _ (core : List ℕ) (w : UnderKeys) (c : OpenChannel) (bits : ℕ) where
+  -- the core, by whether there is a ring, whether nothing will be marked, and which sides close
   abbrev marked_by : Bool → Bool → Bool → Bool → List ℕ
   marked_by buffered drops closes_output closes_input =
       if not buffered || drops then core
@@ -41,8 +41,8 @@ module _ (core : List ℕ) (w : UnderKeys) (c : Channel) (bits : ℕ) where
       (λ i. marked_by (is_buffered (mode_number c.mode)) (keeps i) (outputs i) (inputs i))
       ∙ by_rings (is_buffered (mode_number c.mode)) closes_output closes_input
 
-  -- Where nothing is published the output side's ring is left alone, and with it the other one where what was written
-  -- is dropped.
+  -- If nothing is published, the output side's ring is left alone, and so is the other one if what was written is
+  -- dropped.
   pub rings_unpublished : publishes_at (Some c) bits ≡ false → (closes_input : Bool)
       → closes_input ≡ (is_some c.input && not (keeps_input bits) && not (discards bits))
       → core_closed core (channel_of w c) bits ≡ rings_closed core c false closes_input
@@ -69,14 +69,14 @@ module _ (core : List ℕ) (w : UnderKeys) (c : Channel) (bits : ℕ) where
       by true false true true true false none = refl
       by true false true false reads holds none = cc none
 
--- an input side that closes is no longer kept
+-- an input side that doesn't stay is one that closes
 pub input_ends : {X : Type 0} (o : Option X) (holds : Bool) → (if holds then o else None) ≡ None
     → (is_some o && not holds) ≡ is_some o
 input_ends None holds none = refl
 input_ends (Some x) false none = refl
 input_ends (Some x) true none = cc none
 
--- and one that is kept does not close
+-- and one that stays does not close
 pub input_stays : (reads holds : Bool) → holds ≡ true → (reads && not holds) ≡ false
 input_stays true holds is = ap not is
 input_stays false holds is = refl

@@ -1,4 +1,5 @@
--- What a CLOSE or RELEAS promises that publishes: the sides let go or held behind it, and the machine's row.
+-- What a CLOSE or RELEAS that publishes promises: the versions that are unpinned or pinned after it, and the machine's
+-- row.
 use Rattle.std.proofs.Common.{◌≡◌, ℕ, Bool, true, false, List, length, Option, Some, None, Ok, refl, sym, ap, subst}
 use Rattle.std.proofs.Common.{◌∙◌, slice_set}
 use Rattle.std.specs.Prelude.{◌&&◌, not, if◌then◌else◌, is_some, option_map, IsSome}
@@ -9,14 +10,14 @@ use Rattle.blockdisk.specs.Common.{Contents, DiskState, LeavesOnly}
 use Rattle.spec_machine.specs.Common.{keeps_output, keeps_input, discards, State, slot, finds_no_place}
 use Rattle.spec_machine.specs.Common.{HaveDistinctSerials, step}
 use Rattle.spec_image.specs.Common.{File, Files, Directory, Place, map_directory, pack_of, StandsOn, get, insert}
-use Rattle.spec_image.specs.Common.{Version, without_serials, file_in, file_at, with_file, with_file_in, place_of}
+use Rattle.spec_image.specs.Common.{SpecVersion, without_serials, file_in, file_at, with_file, with_file_in, place_of}
 use Rattle.spec_machine.specs.declared.call.Call.TheVariants.{Close, Releas}
 use Rattle.spec_machine.specs.declared.call.Event.TheVariants.{Call as Calls}
 use Rattle.spec_machine.specs.declared.call.Reply.{Reply}
 use Rattle.spec_machine.specs.declared.call.Reply.TheVariants.{Done}
 use Rattle.spec_image.proofs.Common.{some_none, get-insert_same, name_total, some_is}
 use Rattle.retrieval.specs.declared.prime.Prime.{Prime}
-use Rattle.volume.specs.Common.{VolumeCore, pending_at, IsWholeCore, IsPinAnswer, RestsAt, IsSoundCore}
+use Rattle.volume.specs.Common.{MemoryMap, pending_at, IsWholeMemory, IsPinAnswer, RestsAt, IsSoundMemory}
 use Rattle.volume.specs.declared.handles.Pin.{Pin}
 use Rattle.volume.specs.declared.live.LiveVersion.{LiveVersion}
 use Rattle.volume.specs.declared.pending.PendingVersion.{PendingVersion}
@@ -24,11 +25,11 @@ use Rattle.monitor.specs.Common.{both_closed, output_closed, rings_closed, close
 use Rattle.monitor.specs.Common.{last_at, HasPublished, IsPublishing, PublishesBy, IsPublishRow, CrashesAsRow}
 use Rattle.monitor.specs.Common.{StillStands, ArePinned, AreRead, Renews, HoldsPublished, IsState, IsTimely}
 use Rattle.monitor.specs.Common.{UnderKeys, readers, pins_of, input_of, output_of, jobs_of, state_of}
-use Rattle.monitor.specs.declared.channel.Channel.{Channel}
+use Rattle.monitor.specs.declared.channel.OpenChannel.{OpenChannel}
 use Rattle.monitor.specs.declared.input.Input.{Input}
 use Rattle.monitor.specs.declared.output.Output.{Output}
 use Rattle.monitor.specs.declared.job.Job.{Job}
-use Rattle.monitor.proofs.common.Answering.{state_is}
+use Rattle.monitor.proofs.common.EventAnswers.{state_is}
 use Rattle.monitor.proofs.common.Growths.{shown_at}
 use Rattle.monitor.proofs.LookupFile.Calls.{with_version}
 use Rattle.monitor.proofs.CloseChannel.Publications.{IsBehind, readers_behind, renewed_behind}
@@ -36,51 +37,51 @@ use Rattle.monitor.proofs.CloseChannel.PublishedAnswers.{GoesOn, still_stand, cr
 use Rattle.monitor.proofs.common.Copies.{versions_in}
 use Rattle.monitor.proofs.CloseChannel.PublishedRows.{version_with, channel_both, channel_renewed, close_rows}
 use Rattle.monitor.proofs.CloseChannel.PublishedRows.{close_step, release_rows, release_step}
-use Rattle.monitor.proofs.common.ReadingJobs.{reads_left}
+use Rattle.monitor.proofs.common.JobReaders.{reads_left}
 use Rattle.monitor.proofs.common.ReadsPinned.{with_read, with_read_same}
 use Rattle.monitor.proofs.common.Renewals.{renewed_pending, renewed_jobs, renewed_reads}
 use Rattle.monitor.proofs.CloseChannel.Rings.{rings_marked, input_ends, input_stays}
 use Rattle.spec_machine.proofs.Common.{is_some-map}
 
--- what is said of an answer that is Done
-pub has_published : {d d' : DiskState} {c b : VolumeCore} {failed failed' : Bool} {channel : Channel} {o : Output}
+-- what holds for an answer that is Done
+pub has_published : {d d' : DiskState} {c b : MemoryMap} {failed failed' : Bool} {channel : OpenChannel} {o : Output}
     {last : Option (List ℕ)} {reply : Reply} → PublishesBy d d' c b failed failed' channel o last reply → reply ≡ Done
     → IsPublishing d d' c b failed failed' channel o last Done
 has_published {d} {d'} {c} {b} {failed} {failed'} {channel} {o} {last} by done =
     subst (IsPublishing d d' c b failed failed' channel o last) done by.answered
 
--- A version is held of a directory that there is, and a version that is put there is the file of its place.
+-- A version is pinned in a directory that there is, and a version that is put there is the file of its place.
 
 some_directory : (contents : Contents) (live : List (Option LiveVersion)) (name : FileName) (pin : Pin)
     (o : Option (Directory File)) → IsPinAnswer contents live name (Ok pin) o → o ≡ None → ⊥
 some_directory contents live name pin None answer none = cc answer
 some_directory contents live name pin (Some d) answer none = cc none
 
-put_here : (files : Files Version) (place : Place) (v : Version)
+put_here : (files : Files SpecVersion) (place : Place) (v : SpecVersion)
     → (get (without_serials (with_file files place v)) place.ppn ≡ None → ⊥)
     → file_at (with_file files place v) place ≡ Some v
 put_here files place v some = by (get files place.ppn) refl some
   where
-    by : (o : Option (Directory Version)) → get files place.ppn ≡ o
+    by : (o : Option (Directory SpecVersion)) → get files place.ppn ≡ o
         → (get (without_serials (with_file_in o files place v)) place.ppn ≡ None → ⊥)
         → file_at (with_file_in o files place v) place ≡ Some v
     by None is there = absurd (there (shown_at files place.ppn
-        ∙ ap (option_map (map_directory (λ (x : Version). x.file))) is))
+        ∙ ap (option_map (map_directory (λ (x : SpecVersion). x.file))) is))
     by (Some d) is there =
-        let new : Directory Version = record d { files = insert d.files place.name v } in
+        let new : Directory SpecVersion = record d { files = insert d.files place.name v } in
         ap (λ o. file_in o place.name) (get-insert_same nat_cmp_total files place.ppn new)
         ∙ get-insert_same name_total d.files place.name v
 
--- an input side is kept by this bit alone, and as it is
+-- an input side stays by this bit alone, and as it is
 pub kept_by : (k : Bool) (x : Option Input) (input : Input) → (if k then x else None) ≡ Some input
     → (k ≡ true) × (x ≡ Some input)
 kept_by true x input is = (refl, is)
 kept_by false x input is = absurd (some_none (sym is))
 
--- An input side that stays holds what is published where a side was renewed, and the disk left alone.
-pub holds_published : {D : Type 0} (state : D → DiskState) (mid new : D) (c b c' : VolumeCore) (failed : Bool) (key : ℕ)
-    (job job' : Job) (number : ℕ) (channel : Channel) (input renewed : Input) (prime : Prime) → new ≡ mid
-    → IsSoundCore (state mid) b failed → ((is : Renews b c' input renewed prime.ppn prime.file prime.protection)
+-- An input side that stays pins what is published if a side was renewed, and the disk left alone.
+pub holds_published : {D : Type 0} (state : D → DiskState) (mid new : D) (c b c' : MemoryMap) (failed : Bool) (key : ℕ)
+    (job job' : Job) (number : ℕ) (channel : OpenChannel) (input renewed : Input) (prime : Prime) → new ≡ mid
+    → IsSoundMemory (state mid) b failed → ((is : Renews b c' input renewed prime.ppn prime.file prime.protection)
     × ((state new).honest → (files : Files File) → RestsAt (state mid) files
     → IsPinAnswer (state mid).contents is.between.live prime.file (Ok is.held.pin) (get files prime.ppn)))
     → ((p : PendingVersion) → pending_at c.pending key ≡ Some p → prime ≡ p.prime)
@@ -95,7 +96,7 @@ holds_published state mid new c b c' failed key job job' number channel input re
       renews = renews.0;
       place = λ p at. let is = of p at in
           (ap (λ (q : Prime). q.ppn) is, ap (λ (q : Prime). q.file) is, ap (λ (q : Prime). q.protection) is);
-      whole = subst (λ disk. IsWholeCore (state disk).size b) (sym same) sound.whole;
+      whole = subst (λ disk. IsWholeMemory (state disk).size b) (sym same) sound.whole;
       pinned = λ honest files rests.
           subst (λ (pin : Pin). IsPinAnswer (state new).contents renews.0.between.live prime.file (Ok pin)
           (get files prime.ppn)) (sym (ap (λ (i : Input). i.pin) renews.0.renewed_is))
@@ -105,19 +106,19 @@ holds_published state mid new c b c' failed key job job' number channel input re
       job_is = set;
     }
 
--- An input side ends with the output side but where it is kept.
+-- An input side ends with the output side, except if it stays.
 
-ends_output : (w : UnderKeys) (channel : Channel) (o : Output) (bits : ℕ) → channel.output ≡ Some o
+ends_output : (w : UnderKeys) (channel : OpenChannel) (o : Output) (bits : ℕ) → channel.output ≡ Some o
     → keeps_output bits ≡ false → (is_some (option_map (output_of w) channel.output) && not (keeps_output bits)) ≡ true
 ends_output w channel o bits side drops = λ i. is_some (option_map (output_of w) (side i)) && not (drops i)
 
-ends_input : (w : UnderKeys) (channel : Channel) (bits : ℕ) → (if keeps_input bits then channel.input else None) ≡ None
+ends_input : (w : UnderKeys) (channel : OpenChannel) (bits : ℕ) → (if keeps_input bits then channel.input else None) ≡ None
     → (is_some (option_map (input_of w) channel.input) && not (keeps_input bits)) ≡ is_some channel.input
 ends_input w channel bits none = ap (λ b. b && not (keeps_input bits)) (is_some-map (input_of w) channel.input)
     ∙ input_ends channel.input (keeps_input bits) none
 
-module _ {d d' : DiskState} {c b : VolumeCore} {failed failed' : Bool} {reply : Reply} (c' : VolumeCore) (o : Output)
-    (job job' : Job) (number : ℕ) (channel : Channel) (there : slot job.channels number ≡ Some channel)
+module _ {d d' : DiskState} {c b : MemoryMap} {failed failed' : Bool} {reply : Reply} (c' : MemoryMap) (o : Output)
+    (job job' : Job) (number : ℕ) (channel : OpenChannel) (there : slot job.channels number ≡ Some channel)
     (side : channel.output ≡ Some o)
     (by : PublishesBy d d' c b failed failed' channel o (last_at job.core channel) reply)
     (live : IsSome (pending_at c.pending o.pending.key)) where
@@ -125,7 +126,7 @@ module _ {d d' : DiskState} {c b : VolumeCore} {failed failed' : Bool} {reply : 
   key = o.pending.key
 
   -- A crash.
-  module _ (sound : IsSoundCore d c failed) (alive : failed ≡ false) (idle : IsIdle reply → d'.honest
+  module _ (sound : IsSoundMemory d c failed) (alive : failed ≡ false) (idle : IsIdle reply → d'.honest
       → (f : Files File) → RestsAt d f → LeavesOnly d d' (λ contents. StandsOn (pack_of d) contents f)) where
     pub close_crashes : (bits : ℕ) → keeps_output bits ≡ false → discards bits ≡ false
         → CrashesAsRow d d' c job (Close number bits)
@@ -152,8 +153,8 @@ module _ {d d' : DiskState} {c b : VolumeCore} {failed failed' : Bool} {reply : 
 
     -- The machine's row.
     module _ (unchanged : IsIdle reply → (jobs : List (Option Job)) (s : State) → IsState d c jobs s
-        → IsState d' c' jobs s) (sound : IsSoundCore d c failed) (alive : failed ≡ false) where
-      -- where versions are let go
+        → IsState d' c' jobs s) (sound : IsSoundMemory d c failed) (alive : failed ≡ false) where
+      -- if versions are unpinned
       module _ (leaves : reply ≡ Done → OnlyDrops b c') where
         pub closed_row : (bits : ℕ) → keeps_output bits ≡ false → discards bits ≡ false
             → (if keeps_input bits then channel.input else None) ≡ None
@@ -209,7 +210,7 @@ module _ {d d' : DiskState} {c b : VolumeCore} {failed failed' : Bool} {reply : 
                   (set done)),
             )) unchanged
 
-      -- where what is published is held
+      -- if what is published is pinned
       module _ (input : Input) (reads_it : channel.input ≡ Some input)
           (holds : reply ≡ Done → HoldsPublished d' c b c' key job job' number channel input) (bits : ℕ)
           (drops : keeps_output bits ≡ false) (publishes_it : discards bits ≡ false)
@@ -223,10 +224,10 @@ module _ {d d' : DiskState} {c b : VolumeCore} {failed failed' : Bool} {reply : 
           abbrev w : UnderKeys
           w = state.under
 
-          abbrev x : Version
+          abbrev x : SpecVersion
           x = version_with (w.written key) o.next last serial
 
-          abbrev files' : Files Version
+          abbrev files' : Files SpecVersion
           files' = with_file s.files (w.written key).place x
 
           abbrev u : UnderKeys
@@ -306,7 +307,7 @@ module _ {d d' : DiskState} {c b : VolumeCore} {failed failed' : Bool} {reply : 
             (λ done last found place has serial fresh rests distinct reads. renewed_goes jobs n moment at timely s state
             honest last found place serial has (holds done) rests distinct reads) unchanged
 
-  -- what is held is all that is behind it
+  -- what is pinned is all that comes after it
   pub holds_behind : (input : Input) → channel.input ≡ Some input
       → HoldsPublished d' c b c' key job job' number channel input → reply ≡ Done → IsBehind c b c' job job'
   holds_behind input reads h done =

@@ -1,4 +1,4 @@
--- What the monitor tells of a call is what the machine's job has.
+-- What the monitor returns for a call is what the machine's job has.
 use Rattle.std.proofs.Common.{◌≡◌, ◌≤◌, ℕ, List, [], ◌∷◌, length, Option, Some, sym, ap, subst, ◌∙◌, arith}
 use Rattle.std.specs.List.{AllByRecursion}
 use Rattle.std.specs.Prelude.{Bool, Result, Ok, Err, IfOk, option_map}
@@ -7,20 +7,20 @@ use Rattle.spec_image.specs.Common.{File}
 use Rattle.spec_machine.specs.Common.{State, channel_at, job_at, slot, Serving}
 use Rattle.spec_machine.specs.declared.area.Area.{Area}
 use Rattle.spec_machine.specs.declared.call.Call.{Call}
-use Rattle.volume.specs.Common.{VolumeCore}
+use Rattle.volume.specs.Common.{MemoryMap}
 use Rattle.monitor.specs.Common.{IsInside, IsPart, in_core, on_open, areas_named, areas_of, areas_for, Serves}
 use Rattle.monitor.specs.Common.{UnderKeys, channel_of, job_of}
-use Rattle.monitor.specs.declared.channel.Channel.{Channel}
+use Rattle.monitor.specs.declared.channel.OpenChannel.{OpenChannel}
 use Rattle.monitor.specs.declared.job.Job.{Job}
-use Rattle.monitor.proofs.common.Calling.{channel_is}
+use Rattle.monitor.proofs.common.CallRows.{channel_is}
 use Rattle.monitor.proofs.CoreAreas.Words.{parts}
 use Rattle.spec_machine.proofs.Common.{slot-map}
 use Rattle.volume.proofs.VolumeStart.Starts.{ok_on}
 use Rattle.spec_machine.specs.Jobs as machine
 
 -- on a channel that is open
-pub opened_there : {X E : Type 0} (items : X → List Area) (r : Result X E) (core : List ℕ) (c : Channel)
-    (channel : Option Channel) (areas : machine.Channel → List Area) → channel ≡ Some c
+pub opened_there : {X E : Type 0} (items : X → List Area) (r : Result X E) (core : List ℕ) (c : OpenChannel)
+    (channel : Option OpenChannel) (areas : machine.Channel → List Area) → channel ≡ Some c
     → IfOk r (λ x. (w : UnderKeys) → items x ≡ in_core core (areas (channel_of w c)))
     → IfOk r (λ x. (w : UnderKeys) → items x ≡ in_core core (on_open (option_map (channel_of w) channel) areas))
 opened_there items r core c channel areas there is = ok_on _ _ r
@@ -28,7 +28,7 @@ opened_there items r core c channel areas there is = ok_on _ _ r
 
 -- on the channel that a call names
 pub on_channel : {X E : Type 0} (items : X → List Area) (r : Result X E) (job : Job) (number : ℕ)
-    (channel : Option Channel) (areas : machine.Channel → List Area) (call named : Call)
+    (channel : Option OpenChannel) (areas : machine.Channel → List Area) (call named : Call)
     → ((w : UnderKeys) → areas_of (job_of w job) named
     ≡ in_core job.core (on_open (channel_at (job_of w job) number) areas))
     → channel ≡ slot job.channels number → call ≡ named
@@ -49,13 +49,13 @@ for_slot items r jobs n job call there told = ok_on _ _ r
 -- of the job that the machine has
 pub for_job : (items : List Area) (jobs : List (Option Job)) (n : ℕ) (call : Call)
     → ((w : UnderKeys) → items ≡ areas_for (option_map (job_of w) (slot jobs n)) call)
-    → (d : DiskState) (map : VolumeCore) (failed : Bool) (s : State) → Serves d map failed jobs (Serving s)
+    → (d : DiskState) (map : MemoryMap) (failed : Bool) (s : State) → Serves d map failed jobs (Serving s)
     → items ≡ areas_for (job_at s n) call
 for_job items jobs n call told d map failed s serves =
     told serves.1.under ∙ ap (λ o. areas_for o call) (sym (slot-map (job_of serves.1.under) jobs n)
     ∙ ap (λ slots. slot slots n) (sym serves.1.jobs_are))
 
--- Whatever is under its keys, the areas of a job lie in its core, which has so many words at most.
+-- Whatever is under its keys, the areas of a job lie in its core, which has at most this many words.
 
 no_file : File
 no_file = record { protection = 0; mode = 0; time = 0; date = 0; body = [] }

@@ -6,9 +6,9 @@ use Rattle.std.specs.Prelude.{not, is_none, is_some, option_map}
 use Rattle.std.proofs.lemmas.List.{length-take}
 use Rattle.words36.specs.Common.{left, join}
 use Rattle.words36.specs.declared.moment.Moment.{Moment}
-use Rattle.spec_image.specs.Common.{File, Files, Version, file_at, attributes, Pack}
+use Rattle.spec_image.specs.Common.{File, Files, SpecVersion, file_at, attributes, Pack}
 use Rattle.spec_machine.specs.Common.{dump_list, after_writes, dealt, with_right, first_free, rings_begin, joined}
-use Rattle.spec_machine.specs.Common.{lies_outside, Output, Channel, Job, State, with_channel, cleared, settled}
+use Rattle.spec_machine.specs.Common.{lies_outside, SpecOutput, Channel, SpecJob, State, with_channel, cleared, settled}
 use Rattle.spec_machine.specs.Common.{clean, stopped_in, refused_at, open_answer, open_done, opens, header_opened}
 use Rattle.spec_machine.specs.Common.{mode_at, output_header_at, input_header_at, found_or_not, core_or, has_no_ring}
 use Rattle.spec_machine.specs.Common.{ring_made, ring_answer, sets_up, misses_headers, place_at, high_date, size_word}
@@ -35,15 +35,15 @@ word_misses : (first count at address : ℕ) → first ≤ at → at < first + c
 word_misses first count at address from less (inl below) e = omega (arith, e)
 word_misses first count at address from less (inr past) e = omega (arith, e)
 
--- What is left where the answer isn't Done.
+-- What is left if the answer isn't Done.
 
-pub stopped_within : (areas : List Area) (job : Job) (number : ℕ) (c : Channel) (reply : Reply)
+pub stopped_within : (areas : List Area) (job : SpecJob) (number : ℕ) (c : Channel) (reply : Reply)
     → ChangesWithin areas job.core (stopped_in job number c reply).core
 stopped_within areas job number c reply = stopped_by (λ j. ChangesWithin areas job.core j.core) job number c reply
     (same_within areas job.core) (λ status. same_within areas job.core)
 
 -- the second word, with the code of a refusal
-pub refused_within : (job : Job) (e n : ℕ) (reply : Reply)
+pub refused_within : (job : SpecJob) (e n : ℕ) (reply : Reply)
     → ChangesWithin (words_at (e + 1) (n + 1) ∷ []) job.core (refused_at job e reply).core
 refused_within job e n (Refused code) =
     writes_within (words_at (e + 1) (n + 1) ∷ []) job.core
@@ -62,10 +62,10 @@ refused_within job e n DateRange = same_within _ job.core
 
 -- a row of a job's record alone, and one that may change the files
 
-abbrev Within : List Area → Job → Reply × Job → Type 0
+abbrev Within : List Area → SpecJob → Reply × SpecJob → Type 0
 Within areas job r = ChangesWithin areas job.core r.1.core
 
-abbrev FilesWithin : List Area → Job → Reply × (Job × Files Version) → Type 0
+abbrev FilesWithin : List Area → SpecJob → Reply × (SpecJob × Files SpecVersion) → Type 0
 FilesWithin areas job r = ChangesWithin areas job.core r.1.0.core
 
 -- OPEN
@@ -94,7 +94,7 @@ lies_inside : (outside misses : Bool) (reply : Reply) → (if outside || misses 
 lies_inside true misses reply e = cc e
 lies_inside false misses reply e = refl
 
-pub opens_within : (job : Job) (number a : ℕ) → Within (areas_opened job.core a) job (opens job number a)
+pub opens_within : (job : SpecJob) (number a : ℕ) → Within (areas_opened job.core a) job (opens job number a)
 opens_within job number a = settled_by (Within (areas_opened job.core a) job) (open_answer job number a)
     (open_done job number a) (λ reply. job)
     (λ is. opened_if job.core (mode_at job.core a) (output_header_at job.core a) (input_header_at job.core a)
@@ -104,7 +104,7 @@ opens_within job number a = settled_by (Within (areas_opened job.core a) job) (o
 
 -- INBUF and OUTBUF
 
-pub sets_up_within : (job : Job) (number : ℕ) (c : Channel) (header n : ℕ)
+pub sets_up_within : (job : SpecJob) (number : ℕ) (c : Channel) (header n : ℕ)
     → Within (areas_set_up job.core c header n) job (sets_up job number c header n)
 sets_up_within job number c header n =
     settled_by (Within (areas_set_up job.core c header n) job) (ring_answer job c header n)
@@ -130,7 +130,7 @@ attributes_within layout core e n f = writes_within (words_at (e + 1) (n + 2) �
       (word_misses (e + 1) (n + 2) (e + 2) address (omega arith) (omega arith) out.0, tt),
     ))
 
-pub lookup_within : (pack : Pack) (s : State) (job : Job) (number : ℕ) (c : Channel) (e : ℕ)
+pub lookup_within : (pack : Pack) (s : State) (job : SpecJob) (number : ℕ) (c : Channel) (e : ℕ)
     → Within (words_at (e + 1) 3 ∷ []) job (lookup pack s job number c e)
 lookup_within pack s job number c e =
     settled_by (Within (words_at (e + 1) 3 ∷ []) job) (lookup_answer s job c e (place_at job e))
@@ -138,7 +138,7 @@ lookup_within pack s job number c e =
     (λ is. found (file_at s.files (place_at job e)))
     (λ no. refused_within job e 2 (lookup_answer s job c e (place_at job e)))
   where
-    found : (o : Option Version)
+    found : (o : Option SpecVersion)
         → ChangesWithin (words_at (e + 1) 3 ∷ []) job.core (looked_up pack job number c e (place_at job e) o).core
     found None = same_within (words_at (e + 1) 3 ∷ []) job.core
     found (Some v) = then_within (words_at (e + 1) 3 ∷ []) job.core (with_attributes pack.layout job.core e v.file) _
@@ -147,7 +147,7 @@ lookup_within pack s job number c e =
         ((e + 3, size_word (length v.file.body)) ∷ [])
         (λ address out. (word_misses (e + 1) 3 (e + 3) address (omega arith) (omega arith) out.0, tt)))
 
-pub enter_within : (pack : Pack) (s : State) (job : Job) (number : ℕ) (c : Channel) (e : ℕ) (moment : Moment)
+pub enter_within : (pack : Pack) (s : State) (job : SpecJob) (number : ℕ) (c : Channel) (e : ℕ) (moment : Moment)
     → Within (words_at (e + 1) 2 ∷ []) job (enter pack s job number c e moment)
 enter_within pack s job number c e moment =
     settled_by (Within (words_at (e + 1) 2 ∷ []) job) (enter_answer pack s job c e (place_at job e))
@@ -157,7 +157,7 @@ enter_within pack s job number c e moment =
     (λ no. refused_within job e 1 (enter_answer pack s job c e (place_at job e)))
 
 -- a row that, if it is Done, leaves core as it was
-pub refuses_within : (job done : Job) (files were : Files Version) (e : ℕ) (answer : Reply) → done.core ≡ job.core
+pub refuses_within : (job done : SpecJob) (files were : Files SpecVersion) (e : ℕ) (answer : Reply) → done.core ≡ job.core
     → FilesWithin (words_at (e + 1) 1 ∷ []) job (settled answer (done, files) (λ reply. (refused_at job e reply, were)))
 refuses_within job done files were e answer same =
     settled_by (FilesWithin (words_at (e + 1) 1 ∷ []) job) answer (done, files)
@@ -167,7 +167,7 @@ refuses_within job done files were e answer same =
 
 -- IN, OUT, USETI and USETO
 
-pub reads_within : (job : Job) (number : ℕ) (c : Channel) (a : ℕ)
+pub reads_within : (job : SpecJob) (number : ℕ) (c : Channel) (a : ℕ)
     → Within (areas_filled job.core c a) job (reads job number c a)
 reads_within job number c a =
     settled_by (Within (areas_filled job.core c a) job) (in_answer job c a) (in_done job number c a)
@@ -195,7 +195,7 @@ reads_within job number c a =
     by false true true reply is = cc is
     by false true false reply is = filled (ring_in job c) refl
 
-pub puts_within : (pack : Pack) (s : State) (job : Job) (number : ℕ) (c : Channel) (a : ℕ)
+pub puts_within : (pack : Pack) (s : State) (job : SpecJob) (number : ℕ) (c : Channel) (a : ℕ)
     → Within (areas_emptied job.core c) job (puts pack s job number c a)
 puts_within pack s job number c a =
     settled_by (Within (areas_emptied job.core c) job) (out_answer pack s job c a) (out_done job number c a)
@@ -206,11 +206,11 @@ puts_within pack s job number c a =
     found : Option Outgoing
     found = outgoing job c a
 
-    lies : (o : Option Output) → put_answer pack s c o found ≡ Done → is_none o ≡ false
+    lies : (o : Option SpecOutput) → put_answer pack s c o found ≡ Done → is_none o ≡ false
     lies None is = cc is
     lies (Some o) is = refl
 
-    has : (o : Option Output) → put_answer pack s c o found ≡ Done
+    has : (o : Option SpecOutput) → put_answer pack s c o found ≡ Done
         → (is_buffered c.mode && (c.output_header == 0)) ≡ false
     has None is = cc is
     has (Some o) is = header (is_buffered c.mode && (c.output_header == 0)) (found_answer pack s c o found) is
@@ -242,7 +242,7 @@ puts_within pack s job number c a =
     by false true false p q = emptied (out_ready job.core c.output_header (byte_size c.mode)) refl
 
 -- a row that changes a channel alone
-pub channel_within : (job : Job) (number : ℕ) (c : Channel) (answer : Reply) (o : Option Channel)
+pub channel_within : (job : SpecJob) (number : ℕ) (c : Channel) (answer : Reply) (o : Option Channel)
     → Within [] job (settled answer (with_channel job number o) (stopped_in job number c))
 channel_within job number c answer o =
     settled_by (Within [] job) answer (with_channel job number o) (stopped_in job number c)
@@ -283,7 +283,7 @@ closed_within core c bits =
         (header_closed core c.input_header input) (closed_miss core output c.output_header address out.0)
         (closed_miss core input c.input_header address out.1.0))
 
-pub closes_within : (job done : Job) (files were : Files Version) (number : ℕ) (c : Channel) (bits : ℕ) (answer : Reply)
+pub closes_within : (job done : SpecJob) (files were : Files SpecVersion) (number : ℕ) (c : Channel) (bits : ℕ) (answer : Reply)
     → done.core ≡ core_closed job.core c bits
     → FilesWithin (areas_closed c bits) job
     (settled answer (done, files) (λ reply. (stopped_in job number c reply, were)))

@@ -4,8 +4,8 @@ use Rattle.std.proofs.Common.{◌≡◌, ℕ, ◌+◌, Bool, true, false, List, 
 use Rattle.std.proofs.Common.{if◌then◌else◌, ⊎_elim}
 use Rattle.std.specs.Prelude.{nat_lt, nat_le}
 use Rattle.words36.specs.declared.moment.Moment.{Moment}
-use Rattle.spec_image.specs.Common.{Files, Version, Pack}
-use Rattle.spec_machine.specs.Common.{Channel, Job, State, channel_at, job_at, with_job, opens, Serving, Answers}
+use Rattle.spec_image.specs.Common.{Files, SpecVersion, Pack}
+use Rattle.spec_machine.specs.Common.{Channel, SpecJob, State, channel_at, job_at, with_job, opens, Serving, Answers}
 use Rattle.spec_machine.specs.Common.{step, last_date, on_job, on_channel, of_job, call_of}
 use Rattle.spec_machine.specs.declared.area.Area.{Area}
 use Rattle.spec_machine.specs.declared.call.Call.{Call}
@@ -24,14 +24,14 @@ use Rattle.monitor.proofs.CoreAreas.Areas.{cut_within}
 use Rattle.monitor.proofs.CoreAreas.Rows.{opens_within, sets_up_within, lookup_within, enter_within, refuses_within}
 use Rattle.monitor.proofs.CoreAreas.Rows.{reads_within, puts_within, channel_within, closes_within, reset_within}
 
-module _ (s : State) (n : ℕ) (job : Job) (there : job_at s n ≡ Some job) where
+module _ (s : State) (n : ℕ) (job : SpecJob) (there : job_at s n ≡ Some job) where
   abbrev Changes : List Area → State → Type 0
   Changes areas t = ChangesJob n job areas s t
 
   same_state : (areas : List Area) → Changes areas s
   same_state areas = record { after = job; there = there; core = same_within areas job.core; others = λ m apart. refl }
 
-  job_put : (areas : List Area) (after : Job) (files : Files Version) → ChangesWithin areas job.core after.core
+  job_put : (areas : List Area) (after : SpecJob) (files : Files SpecVersion) → ChangesWithin areas job.core after.core
       → Changes areas (record (with_job s n after) { files = files })
   job_put areas after files within = record {
     after = after;
@@ -51,7 +51,7 @@ module _ (s : State) (n : ℕ) (job : Job) (there : job_at s n ≡ Some job) whe
   no_areas row None each = same_state []
   no_areas row (Some c) each = each c
 
-  opens_state : (b : Bool) (areas : List Area) (r : Reply × Job) → ChangesWithin areas job.core r.1.core
+  opens_state : (b : Bool) (areas : List Area) (r : Reply × SpecJob) → ChangesWithin areas job.core r.1.core
       → Changes areas (if b then of_job s n r else (NoChannel, s)).1
   opens_state true areas r within = job_put areas r.1 s.files within
   opens_state false areas r within = same_state areas
@@ -110,7 +110,7 @@ module _ (s : State) (n : ℕ) (job : Job) (there : job_at s n ≡ Some job) whe
         else on_job s o (λ job. call_of pack serial s n job call moment)).1) (sym there)
         (late_or_not call moment (nat_lt (last_date pack.layout) moment.date))
 
-  -- also where memory was wanting, and nothing was changed
+  -- even if memory was lacking, and nothing was changed
   pub answer_changes : (pack : Pack) (call : Call) (moment : Moment) (reply : Reply) (t : State)
       → Answers pack (Serving s) (Calls n call moment) reply (Serving t) → Changes (areas_of job call) t
   answer_changes pack call moment reply t answered =

@@ -1,11 +1,12 @@
--- Which words the areas of a call have: what they name where all of it lies in core.
+-- Which words the areas of a call have: what they name if all of it lies in core.
 use Rattle.std.proofs.Common.{◌≡◌, ◌≢◌, ℕ, ◌+◌, ◌-◌, ◌<◌, ◌≤◌, Bool, true, false, List, [], ◌∷◌, length, min, refl}
 use Rattle.std.proofs.Common.{ap, sym, ◌∙◌, arith, Some, None, ◌==◌, ◌&&◌, if◌then◌else◌, cond}
 use Rattle.std.specs.Prelude.{not, is_none}
 use Rattle.std.specs.List.{AllByRecursion}
 use Rattle.std.proofs.Math.Nat.{min-eq_left, min-le_right}
 use Rattle.std.proofs.lemmas.Bool.Decides.{nat_tests}
-use Rattle.spec_machine.specs.Common.{lies_outside, first_free, areas_at, ring_in, Input, Channel, Job, channel_at}
+use Rattle.spec_machine.specs.Common.{lies_outside, first_free, areas_at, ring_in, SpecInput, Channel, SpecJob}
+use Rattle.spec_machine.specs.Common.{channel_at}
 use Rattle.spec_machine.specs.Common.{is_buffered, byte_size, base, current, target, is_good, in_is_good, in_ready}
 use Rattle.spec_machine.specs.Common.{with_ring, setup}
 use Rattle.spec_machine.specs.declared.area.Area.{Area}
@@ -45,12 +46,12 @@ all_of core (area ∷ areas) all =
     ∙ ap (λ b. cond b (area ∷ in_core core areas) (in_core core areas)) (has_words area.count all.0.0)
     ∙ ap (λ rest. area ∷ rest) (all_of core areas all.1)
 
-module _ (job : Job) (ch : ℕ) (c : Channel) (there : channel_at job ch ≡ Some c) where
+module _ (job : SpecJob) (ch : ℕ) (c : Channel) (there : channel_at job ch ≡ Some c) where
   pub lookup_words : (e : ℕ) → e + 4 ≤ length job.core → areas_of job (Lookup ch e) ≡ words_at (e + 1) 3 ∷ []
   lookup_words e fits = ap (λ o. in_core job.core (on_open o (λ c. words_at (e + 1) 3 ∷ []))) there
       ∙ all_of job.core (words_at (e + 1) 3 ∷ []) ((omega arith, omega arith), tt)
 
-  module _ (a : ℕ) (i : Input) (reads : c.input ≡ Some i) (buffered : is_buffered c.mode ≡ true)
+  module _ (a : ℕ) (i : SpecInput) (reads : c.input ≡ Some i) (buffered : is_buffered c.mode ≡ true)
       (ready : List ℕ) (is : ring_in job c ≡ Some ready) (some : c.input_header ≢ 0) where
     abbrev h : ℕ
     h = c.input_header

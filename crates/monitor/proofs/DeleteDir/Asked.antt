@@ -9,20 +9,20 @@ use Rattle.std.specs.Ordering.{nat_cmp}
 use Rattle.std.specs.FinMap.Entries.{find}
 use Rattle.words36.specs.Common.{IsPpn}
 use Rattle.blockdisk.specs.Common.{DiskState}
-use Rattle.spec_image.specs.Common.{number_of, FileEntry, File, Files, name_cmp, get, total}
+use Rattle.spec_image.specs.Common.{number_of, SpecFileEntry, File, Files, name_cmp, get, total}
 use Rattle.spec_image.specs.declared.code.ErrorCode.{ErrorCode}
 use Rattle.spec_image.specs.declared.code.ErrorCode.TheVariants.{NoDirectory, NotEmpty}
-use Rattle.volume.specs.Common.{entries_with, IsDirectoryOf, is_absent, KnownDirectory, VolumeCore, pending_at}
-use Rattle.volume.specs.Common.{creates, is_creation, IsPlaced, protection_answer, HasEntries, IsSoundCore, RestsAt}
+use Rattle.volume.specs.Common.{entries_with, IsDirectoryOf, is_absent, CurrentDirectory, MemoryMap, pending_at}
+use Rattle.volume.specs.Common.{creates, is_creation, IsPlaced, protection_answer, HasEntries, IsSoundMemory, RestsAt}
 use Rattle.volume.specs.declared.error.CallError.{CallError}
 use Rattle.volume.specs.declared.pending.PendingVersion.{PendingVersion}
-use Rattle.volume.proofs.common.Answering.{directory_none, rest_holds, all_at_place}
+use Rattle.volume.proofs.common.Answers.{directory_none, rest_holds, all_at_place}
 use Rattle.volume.proofs.common.Lookups.{first_place}
 use Rattle.volume.proofs.PinVersion.Pins.{total_at}
 use Rattle.monitor.specs.Common.{IsNowhere, IsThere, is_kept_from, IsKeptBy, ArePlaced}
 
--- No file has a directory that core hasn't, and none has one whose number is none.
-module _ (d : DiskState) (c : VolumeCore) (failed : Bool) (sound : IsSoundCore d c failed) (alive : failed ≡ false)
+-- No file has a directory that memory lacks, and none has one whose number is no PPN.
+module _ (d : DiskState) (c : MemoryMap) (failed : Bool) (sound : IsSoundMemory d c failed) (alive : failed ≡ false)
     (owner : ℕ) where
   pub nowhere_known : find nat_cmp owner c.known.master.entries ≡ None → IsNowhere d owner
   nowhere_known none honest f rests = directory_none d c.known f (rest_holds d c failed sound honest alive f rests)
@@ -47,8 +47,8 @@ there_by d owner failed answer alive value found honest f rests none =
     let wrong = sym found ∙ ap is_err (value honest alive f rests ∙ ap protection_answer none) in
     cc wrong
 
--- What the volume refuses by.
-pub kept_by : (d : DiskState) (c : VolumeCore) (ppn owner : ℕ) (code : ErrorCode)
+-- What the volume refuses with.
+pub kept_by : (d : DiskState) (c : MemoryMap) (ppn owner : ℕ) (code : ErrorCode)
     → (code ≡ NoDirectory) ⊎ (code ≡ NotEmpty) → (code ≡ NoDirectory → IsNowhere d owner)
     → (code ≡ NotEmpty → HasEntries c owner) → IsThere d owner → is_kept_from c ppn owner ≡ false
     → IsKeptBy d c ppn owner (number_of code)
@@ -56,7 +56,7 @@ kept_by d c ppn owner code (inl is) nowhere filled there own = inl (ap number_of
 kept_by d c ppn owner code (inr is) nowhere filled there own = inr (inr (ap number_of is, there, own, filled is))
 
 -- A version that is being written has an entry in its directory, or will have one.
-module _ (c : VolumeCore) (key : ℕ) (p : PendingVersion) (at : pending_at c.pending key ≡ Some p)
+module _ (c : MemoryMap) (key : ℕ) (p : PendingVersion) (at : pending_at c.pending key ≡ Some p)
     (placed : IsPlaced c p) where
   abbrev has : ℕ
   has = entries_with c placed.directory p.prime.ppn
@@ -74,7 +74,7 @@ module _ (c : VolumeCore) (key : ℕ) (p : PendingVersion) (at : pending_at c.pe
   named_there : is_absent p.prime.file placed.directory ≡ false → 0 < has
   named_there is = by placed.directory.chain.entries is
     where
-      by : (es : List FileEntry) → is_none (find name_cmp p.prime.file es) ≡ false
+      by : (es : List SpecFileEntry) → is_none (find name_cmp p.prime.file es) ≡ false
           → 0 < length es + total (creates p.prime.ppn) c.pending
       by [] none = let wrong = none in cc
       by (e ∷ es) some = omega arith
@@ -86,9 +86,9 @@ module _ (c : VolumeCore) (key : ℕ) (p : PendingVersion) (at : pending_at c.pe
   pub is_filled : (owner : ℕ) → p.prime.ppn ≡ owner → HasEntries c owner
   is_filled owner same = subst (HasEntries c) same (placed.directory, placed.there, some_entry)
 
--- Where a directory is deleted that is empty, each may still be published.
-pub placed_removed : (c c' : VolumeCore) (owner : ℕ) → c'.pending ≡ c.pending
-    → ((ppn : ℕ) (d : KnownDirectory) → IsDirectoryOf c ppn d → (ppn ≡ owner → ⊥) → IsDirectoryOf c' ppn d)
+-- If an empty directory is deleted, each may still be published.
+pub placed_removed : (c c' : MemoryMap) (owner : ℕ) → c'.pending ≡ c.pending
+    → ((ppn : ℕ) (d : CurrentDirectory) → IsDirectoryOf c ppn d → (ppn ≡ owner → ⊥) → IsDirectoryOf c' ppn d)
     → (HasEntries c owner → ⊥) → ArePlaced c → ArePlaced c'
 placed_removed c c' owner pending stays bare placed = record {
   each = λ key p at.

@@ -6,7 +6,7 @@ use Rattle.words36.specs.declared.moment.Moment.{Moment}
 use Rattle.words36.specs.declared.names.FileName.{FileName}
 use Rattle.blockdisk.specs.Common.{DiskState}
 use Rattle.spec_image.specs.Common.{Files, Directory, Place, map_directory, name_cmp, get, remove, empty, size}
-use Rattle.spec_image.specs.Common.{values, Version, without_serials, file_in, file_at, pack_of}
+use Rattle.spec_image.specs.Common.{values, SpecVersion, without_serials, file_in, file_at, pack_of}
 use Rattle.spec_machine.specs.Common.{State, slot, remove_answer, settled, refused_at, HaveDistinctSerials, step}
 use Rattle.spec_machine.specs.Common.{of_files, last_date}
 use Rattle.spec_machine.specs.declared.call.Call.TheVariants.{DeleteDir}
@@ -15,12 +15,12 @@ use Rattle.spec_machine.specs.declared.call.Reply.{Reply}
 use Rattle.spec_machine.specs.declared.call.Reply.TheVariants.{Done}
 use Rattle.spec_image.proofs.Common.{some_none, same_or_other, get-empty, get-removed, get-remove_other, insert_same}
 use Rattle.spec_image.proofs.Common.{insert-removed, map_values-remove, empty_of_size}
-use Rattle.volume.specs.Common.{VolumeCore, pending_at, prime_at, directory_removed, RestsAt, KeepsRead}
+use Rattle.volume.specs.Common.{MemoryMap, pending_at, prime_at, directory_removed, RestsAt, KeepsRead}
 use Rattle.volume.specs.Common.{KeepsEachWritten}
 use Rattle.volume.specs.declared.pending.PendingVersion.{PendingVersion}
 use Rattle.monitor.specs.Common.{asked_owner, AreKeyed, AreReading, IsState, UnderKeys, job_of, state_of}
 use Rattle.monitor.specs.declared.job.Job.{Job}
-use Rattle.monitor.proofs.common.Answering.{job_set, called, settled_with}
+use Rattle.monitor.proofs.common.EventAnswers.{job_set, called, settled_with}
 use Rattle.monitor.proofs.common.Changes.{versions_made, none_in}
 use Rattle.monitor.proofs.common.ReadBookings.{versions_of}
 use Rattle.monitor.proofs.common.ReadStays.{reads_go}
@@ -28,14 +28,14 @@ use Rattle.monitor.proofs.common.WrittenStays.{writing_stays}
 use Rattle.spec_machine.specs.Sound as machine_states
 
 -- The machine's row, by its answer.
-module _ (d : DiskState) (files : Files Version) (w : UnderKeys) (jobs : List (Option Job))
+module _ (d : DiskState) (files : Files SpecVersion) (w : UnderKeys) (jobs : List (Option Job))
     (n : ℕ) (job : Job) (there : slot jobs n ≡ Some job) (e : ℕ) (moment : Moment)
     (timely : moment.date ≤ last_date (pack_of d).layout) where
   abbrev t : State
   t = state_of files w jobs
 
   -- the files without the directory
-  abbrev removed : Files Version
+  abbrev removed : Files SpecVersion
   removed = remove files (asked_owner job.core e)
 
   abbrev by_answer : Reply → Reply × State
@@ -64,10 +64,10 @@ module _ (d : DiskState) (files : Files Version) (w : UnderKeys) (jobs : List (O
       ∙ ap (λ x. (reply, x)) (job_set files w jobs n job')
 
 -- The files without a directory that has none.
-module _ (files : Files Version) (owner : ℕ) where
+module _ (files : Files SpecVersion) (owner : ℕ) where
   -- the volume's, too
   pub shown_removed : without_serials (remove files owner) ≡ directory_removed (without_serials files) owner
-  shown_removed = map_values-remove nat_cmp_total nat_cmp-IsAntisymmetric (map_directory (λ (v : Version). v.file))
+  shown_removed = map_values-remove nat_cmp_total nat_cmp-IsAntisymmetric (map_directory (λ (v : SpecVersion). v.file))
       files owner
 
   -- a file that isn't there isn't there now
@@ -78,15 +78,15 @@ module _ (files : Files Version) (owner : ℕ) where
       (get-remove_other nat_cmp_total nat_cmp-IsAntisymmetric files owner q.ppn other) ∙ none)
       (same_or_other nat_cmp_total nat_cmp-IsAntisymmetric q.ppn owner)
 
-  module _ (v : Directory Version) (there : get files owner ≡ Some v) (bare : size v.files ≡ 0) where
+  module _ (v : Directory SpecVersion) (there : get files owner ≡ Some v) (bare : size v.files ≡ 0) where
     is_empty : v.files ≡ empty
     is_empty = empty_of_size v.files bare
 
     -- all files that are there stay
-    pub file_stays : (q : Place) (x : Version) → file_at files q ≡ Some x → file_at (remove files owner) q ≡ Some x
+    pub file_stays : (q : Place) (x : SpecVersion) → file_at files q ≡ Some x → file_at (remove files owner) q ≡ Some x
     file_stays q x is = ⊎_elim
         (λ here. absurd (some_none (sym is ∙ ap (λ o. file_in o q.name) (ap (get files) here ∙ there)
-        ∙ ap (λ fs. get fs q.name) is_empty ∙ get-empty name_cmp Version q.name)))
+        ∙ ap (λ fs. get fs q.name) is_empty ∙ get-empty name_cmp SpecVersion q.name)))
         (λ other. ap (λ o. file_in o q.name)
         (get-remove_other nat_cmp_total nat_cmp-IsAntisymmetric files owner q.ppn other) ∙ is)
         (same_or_other nat_cmp_total nat_cmp-IsAntisymmetric q.ppn owner)
@@ -100,12 +100,12 @@ module _ (files : Files Version) (owner : ℕ) where
         ∙ insert_same nat_cmp_total nat_cmp-IsAntisymmetric files owner v there)
 
 -- The state that the monitor stands for.
-module _ (d d' : DiskState) (c c' : VolumeCore) (jobs jobs' : List (Option Job)) (s : State)
+module _ (d d' : DiskState) (c c' : MemoryMap) (jobs jobs' : List (Option Job)) (s : State)
     (state : IsState d c jobs s) (keyed : AreKeyed c'.pending jobs') (reading : AreReading c'.live jobs')
     (live : c'.live ≡ c.live) (pending : c'.pending ≡ c.pending)
     (primes : (ppn : ℕ) (name : FileName) → prime_at c' ppn name ≡ prime_at c ppn name)
     (readers : KeepsRead d.contents d'.contents c) (writers : KeepsEachWritten d.contents d'.contents c)
-    (owner : ℕ) (v : Directory Version) (there : get s.files owner ≡ Some v) (bare : size v.files ≡ 0)
+    (owner : ℕ) (v : Directory SpecVersion) (there : get s.files owner ≡ Some v) (bare : size v.files ≡ 0)
     (rests : RestsAt d' (directory_removed (without_serials s.files) owner)) where
   was : (key : ℕ) (p : PendingVersion) → pending_at c'.pending key ≡ Some p → pending_at c.pending key ≡ Some p
   was key p at = ap (λ ps. pending_at ps key) (sym pending) ∙ at

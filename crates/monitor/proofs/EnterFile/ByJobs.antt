@@ -10,20 +10,20 @@ use Rattle.spec_machine.specs.declared.call.Event.TheVariants.{Call as Calls}
 use Rattle.spec_machine.specs.declared.call.Reply.{Reply}
 use Rattle.spec_machine.specs.declared.call.Reply.TheVariants.{Done}
 use Rattle.retrieval.specs.declared.prime.Prime.{Prime}
-use Rattle.volume.specs.Common.{VolumeCore, IsSoundCore, RestsAt}
+use Rattle.volume.specs.Common.{MemoryMap, IsSoundMemory, RestsAt}
 use Rattle.monitor.specs.Common.{IsEntering, IsEnterAnswer, IsKnown, found_in, protection_for, AreKeyed, AreReading}
 use Rattle.monitor.specs.Common.{Serves, IsTimely, UnderKeys, job_of}
-use Rattle.monitor.specs.declared.channel.Channel.{Channel}
+use Rattle.monitor.specs.declared.channel.OpenChannel.{OpenChannel}
 use Rattle.monitor.specs.declared.job.Job.{Job}
-use Rattle.monitor.proofs.common.Answering.{in_state, is_done}
+use Rattle.monitor.proofs.common.EventAnswers.{in_state, is_done}
 use Rattle.monitor.proofs.EnterFile.Calls.{enter_keyed, enter_reading, entered_leads}
 use Rattle.monitor.proofs.EnterFile.Refusals.{other_keyed, other_reading, other_leads}
 
-module _ (d d' : DiskState) (map map' : VolumeCore) (jobs jobs' : List (Option Job)) (n : ℕ) (job job' : Job)
+module _ (d d' : DiskState) (map map' : MemoryMap) (jobs jobs' : List (Option Job)) (n : ℕ) (job job' : Job)
     (ch e : ℕ) (moment : Moment) (reply : Reply)
     (there : slot jobs n ≡ Some job) (set : jobs' ≡ slice_set jobs n (Some job')) (keyed : AreKeyed map.pending jobs)
     (reading : AreReading map.live jobs)
-    (begun : reply ≡ Done → (c : Channel) × (key : ℕ) × (prime : Prime)
+    (begun : reply ≡ Done → (c : OpenChannel) × (key : ℕ) × (prime : Prime)
     × IsEntering map map' job job' ch e moment c key prime
     × (d'.honest → (files : Files File) → RestsAt d files
     → prime.protection ≡ protection_for (found_in (get files prime.ppn) prime.file)
@@ -45,7 +45,7 @@ module _ (d d' : DiskState) (map map' : VolumeCore) (jobs jobs' : List (Option J
       (other_reading d map false jobs jobs' n job job' ch e moment reply there set k.1 not keyed reading))
       (is_done reply)
 
-  pub enter_answered : (failed : Bool) → failed ≡ false → IsSoundCore d map false → d.honest → d'.honest
+  pub enter_answered : (failed : Bool) → failed ≡ false → IsSoundMemory d map false → d.honest → d'.honest
       → IsTimely d moment
       → ((s : State) → IsKnown d map s → (w : UnderKeys)
       → IsEnterAnswer (pack_of d) s (job_of w job) (job_of w job') (channel_at (job_of w job) ch) e reply)

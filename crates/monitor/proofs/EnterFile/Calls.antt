@@ -9,7 +9,8 @@ use Rattle.spec_machine.specs.Common.{protection_or, new_file, enter, enter_answ
 use Rattle.spec_machine.specs.Common.{output_opened, input_updating, State, slot, channel_at, with_channel, is_create}
 use Rattle.spec_machine.specs.Common.{place_at, digit_at, with_attributes, settled, refused_at, Service, Serving}
 use Rattle.spec_machine.specs.Common.{Answers, step, on_channel, of_job}
-use Rattle.spec_image.specs.Common.{File, Files, Place, map_directory, get, times, Version, without_serials, file_in}
+use Rattle.spec_image.specs.Common.{File, Files, Place, map_directory, get, times, SpecVersion, without_serials}
+use Rattle.spec_image.specs.Common.{file_in}
 use Rattle.spec_image.specs.Common.{file_at, place_of, date_limit, pack_of}
 use Rattle.spec_machine.specs.declared.call.Call.TheVariants.{Enter}
 use Rattle.spec_machine.specs.declared.call.Event.TheVariants.{Call as Calls}
@@ -18,33 +19,33 @@ use Rattle.spec_image.proofs.Common.{some_same, times_head, times_other, get-map
 use Rattle.spec_machine.proofs.Common.{none_some}
 use Rattle.retrieval.specs.Common.{mode_number}
 use Rattle.retrieval.specs.declared.prime.Prime.{Prime}
-use Rattle.volume.specs.Common.{begun, no_words, is_absent, VolumeCore, pending_at, is_creation, prime_at}
-use Rattle.volume.specs.Common.{IsSoundCore, RestsAt}
+use Rattle.volume.specs.Common.{begun, no_words, is_absent, MemoryMap, pending_at, is_creation, prime_at}
+use Rattle.volume.specs.Common.{IsSoundMemory, RestsAt}
 use Rattle.volume.specs.declared.pending.PendingVersion.{PendingVersion}
-use Rattle.volume.proofs.common.Answering.{rest_holds}
+use Rattle.volume.proofs.common.Answers.{rest_holds}
 use Rattle.volume.proofs.BeginVersion.Beginnings.{named_none, begun_bare}
 use Rattle.monitor.specs.Common.{IsEntering, IsEnterAnswer, IsKnown, found_file, found_in, protection_for, file_begun}
 use Rattle.monitor.specs.Common.{KeepsSides, present, IsSide, AreKeyed, IsWriting, AreReading, IsState, Serves}
 use Rattle.monitor.specs.Common.{IsTimely, Writing, UnderKeys, side_of, kind_of, input_of, output_of, channel_of}
 use Rattle.monitor.specs.Common.{job_of, state_of}
-use Rattle.monitor.specs.declared.channel.Channel.{Channel}
-use Rattle.monitor.specs.declared.output.Kind.{Kind}
+use Rattle.monitor.specs.declared.channel.OpenChannel.{OpenChannel}
+use Rattle.monitor.specs.declared.output.OutputKind.{OutputKind}
 use Rattle.monitor.specs.declared.output.Output.{Output}
 use Rattle.monitor.specs.declared.job.Job.{Job}
-use Rattle.monitor.proofs.common.Answering.{state_is, job_set, called, goes_on}
-use Rattle.monitor.proofs.EnterFile.Beginning.{IsKnownAs, home_of}
-use Rattle.monitor.proofs.common.Calling.{channel_is, channel_set}
+use Rattle.monitor.proofs.common.EventAnswers.{state_is, job_set, called, goes_on}
+use Rattle.monitor.proofs.EnterFile.Begins.{IsKnownAs, home_of}
+use Rattle.monitor.proofs.common.CallRows.{channel_is, channel_set}
 use Rattle.monitor.proofs.common.Dropped.{same_or_not, keeps_keyed}
 use Rattle.monitor.proofs.EnterFile.Readers.{reading_entered}
-use Rattle.monitor.proofs.EnterFile.Serving.{with_writing, with_same, with_other, jobs_same}
+use Rattle.monitor.proofs.EnterFile.Serves.{with_writing, with_same, with_other, jobs_same}
 use Rattle.monitor.proofs.EnterFile.Outcomes.{at_place}
 use Rattle.monitor.proofs.common.Growths.{shown_at}
-use Rattle.monitor.proofs.common.Knowing.{known}
+use Rattle.monitor.proofs.common.KnownState.{known}
 use Rattle.monitor.proofs.common.ReadStays.{reads_kept}
-use Rattle.monitor.proofs.common.ReadingJobs.{keeps_reading}
+use Rattle.monitor.proofs.common.JobReaders.{keeps_reading}
 use Rattle.monitor.proofs.common.SideLists.{count, count-channel, each-channel}
 use Rattle.monitor.proofs.common.Dates.{attributes_in, in_time}
-use Rattle.monitor.specs.Entering as entering
+use Rattle.monitor.specs.EnterFile as entering
 
 -- The output side that is opened.
 
@@ -53,7 +54,7 @@ creates_new : (is_new : Bool) → is_new ≡ is_create (kind_of (entering.entere
 creates_new true = refl
 creates_new false = refl
 
-module _ (w : UnderKeys) (job : Job) (c : Channel) (e : ℕ) (moment : Moment) (q : Place) (digit : ℕ) (kind : Kind)
+module _ (w : UnderKeys) (job : Job) (c : OpenChannel) (e : ℕ) (moment : Moment) (q : Place) (digit : ℕ) (kind : OutputKind)
     (prime : Prime) (directory : ℕ) (mode : mode_number prime.mode ≡ mode_number c.mode)
     (at : prime.moment ≡ moment) where
   file_is : (protection : ℕ) → prime.protection ≡ protection → new_file protection (channel_of w c) moment
@@ -63,9 +64,9 @@ module _ (w : UnderKeys) (job : Job) (c : Channel) (e : ℕ) (moment : Moment) (
       let d = ap (λ (x : Moment). x.date) (sym at) in
       λ i. record { protection = p i; mode = m i; time = t i; date = d i; body = [] }
 
-  opened_is : (was : Option Version) → kind ≡ entering.entered_kind (is_none was)
-      → ((v : Version) → was ≡ Some v → v.file.protection < 512)
-      → prime.protection ≡ protection_for (found_file directory (option_map (λ (v : Version). v.file) was))
+  opened_is : (was : Option SpecVersion) → kind ≡ entering.entered_kind (is_none was)
+      → ((v : SpecVersion) → was ≡ Some v → v.file.protection < 512)
+      → prime.protection ≡ protection_for (found_file directory (option_map (λ (v : SpecVersion). v.file) was))
       (protection_or (slice_index job.core (e + 2)) 0o057)
       → output_opened (job_of w job) (channel_of w c) e moment q digit None was
       ≡ record { place = q; kind = kind_of kind; pending = file_begun prime; next = 1 }
@@ -79,8 +80,8 @@ module _ (w : UnderKeys) (job : Job) (c : Channel) (e : ℕ) (moment : Moment) (
       let f = file_is v.file.protection (protection ∙ small) in
       λ i. record { place = q; kind = k i; pending = f i; next = 1 }
 
-module _ (d : DiskState) (map map' : VolumeCore) (jobs jobs' : List (Option Job)) (n : ℕ) (job job' : Job)
-    (ch e : ℕ) (moment : Moment) (c : Channel) (key : ℕ) (prime : Prime)
+module _ (d : DiskState) (map map' : MemoryMap) (jobs jobs' : List (Option Job)) (n : ℕ) (job job' : Job)
+    (ch e : ℕ) (moment : Moment) (c : OpenChannel) (key : ℕ) (prime : Prime)
     (there : slot jobs n ≡ Some job) (set : jobs' ≡ slice_set jobs n (Some job'))
     (enters : IsEntering map map' job job' ch e moment c key prime) (keyed : AreKeyed map.pending jobs)
     (reading : AreReading map.live jobs) where
@@ -127,7 +128,7 @@ module _ (d : DiskState) (map map' : VolumeCore) (jobs jobs' : List (Option Job)
   enter_reading = subst (AreReading map'.live) (sym set) (keeps_reading map.live map'.live jobs n job job' reading there
       (reading_entered map map' job job' ch e moment c key prime enters))
 
-  module _ (sound : IsSoundCore d map false) (honest : d.honest) (timely : IsTimely d moment)
+  module _ (sound : IsSoundMemory d map false) (honest : d.honest) (timely : IsTimely d moment)
       (row : (s : State) → IsKnown d map s → (w : UnderKeys)
       → IsEnterAnswer (pack_of d) s (job_of w job) (job_of w job') (channel_at (job_of w job) ch) e Done)
       (protection : (files : Files File) → RestsAt d files
@@ -187,9 +188,9 @@ module _ (d : DiskState) (map map' : VolumeCore) (jobs jobs' : List (Option Job)
           (protection (without_serials s.files) state.files
           ∙ ap (λ f. protection_for f (protection_or (slice_index job.core (e + 2)) 0o057))
           (ap (λ o. found_in o prime.file) (shown_at s.files prime.ppn
-          ∙ ap (option_map (map_directory (λ (v : Version). v.file))) directory.there)
+          ∙ ap (option_map (map_directory (λ (v : SpecVersion). v.file))) directory.there)
           ∙ ap (found_file directory.directory.protection)
-          (get-map_values name_total (λ (v : Version). v.file) directory.directory.files prime.file)))
+          (get-map_values name_total (λ (v : SpecVersion). v.file) directory.directory.files prime.file)))
           ∙ (let x = sym (with_same state.under key new_writing) in
           λ i. record { place = (x i).place; kind = kind_of enters.kind; pending = (x i).file; next = 1 })
 
@@ -267,7 +268,7 @@ module _ (d : DiskState) (map map' : VolumeCore) (jobs jobs' : List (Option Job)
           ∙ gone (get directory.directory.files prime.file) (sym directory.absent ∙ sym named
           ∙ sym enters.begun.is_new ∙ ap is_creation (sym (begins k p at same)) ∙ is_new)
         where
-          gone : (o : Option Version) → is_none o ≡ true → o ≡ None
+          gone : (o : Option SpecVersion) → is_none o ≡ true → o ≡ None
           gone None e = refl
           gone (Some v) e = cc e
 

@@ -8,16 +8,16 @@ use Rattle.spec_image.specs.declared.code.ErrorCode.{ErrorCode}
 use Rattle.spec_machine.specs.declared.call.Reply.{Reply}
 use Rattle.spec_machine.specs.declared.call.Reply.TheVariants.{Done, Refused, AddressCheck, NoMemory}
 use Rattle.monitor.specs.Common.{IsEnterAnswer, begin_answer_at, UnderKeys, input_of, output_of, channel_of, job_of}
-use Rattle.monitor.specs.declared.channel.Channel.{Channel}
+use Rattle.monitor.specs.declared.channel.OpenChannel.{OpenChannel}
 use Rattle.monitor.specs.declared.job.Job.{Job}
-use Rattle.monitor.proofs.common.Calling.{channel_is}
+use Rattle.monitor.proofs.common.CallRows.{channel_is}
 use Rattle.spec_machine.proofs.Common.{is_none_of}
 use Rattle.spec_machine.specs.Jobs as machine
 
-module _ (pack : Pack) (s : State) (w : UnderKeys) (job : Job) (number e : ℕ) (c : Channel)
+module _ (pack : Pack) (s : State) (w : UnderKeys) (job : Job) (number e : ℕ) (c : OpenChannel)
     (there : slot job.channels number ≡ Some c) (inside : lies_outside job.core e 4 ≡ false) (free : c.output
     ≡ None) (unread : c.input ≡ None) where
-  -- what is asked before it may begin
+  -- what is checked before it may begin
   tail : enter_answer pack s (job_of w job) (channel_of w c) e (place_at (job_of w job) e)
       ≡ begin_answer_at pack s (job_of w job) (place_at (job_of w job) e)
   tail = λ i. if inside i then AddressCheck else if is_some (option_map (output_of w) (free i))
@@ -26,13 +26,13 @@ module _ (pack : Pack) (s : State) (w : UnderKeys) (job : Job) (number e : ℕ) 
       else if (place_at (job_of w job) e).name.name == 0 then Refused 0
       else begin_answer pack s (job_of w job) (option_map (input_of w) (unread i)) (place_at (job_of w job) e)
 
-  answered : (job' : machine.Job) (reply : Reply)
+  answered : (job' : machine.SpecJob) (reply : Reply)
       → IsEnterAnswer pack s (job_of w job) job' (Some (channel_of w c)) e reply
       → IsEnterAnswer pack s (job_of w job) job' (channel_at (job_of w job) number) e reply
   answered job' reply is = subst (λ o. IsEnterAnswer pack s (job_of w job) job' o e reply)
       (sym (channel_is w job number (Some c) there)) is
 
-  pub done : (job' : machine.Job) → begin_answer_at pack s (job_of w job) (place_at (job_of w job) e) ≡ Done
+  pub done : (job' : machine.SpecJob) → begin_answer_at pack s (job_of w job) (place_at (job_of w job) e) ≡ Done
       → IsEnterAnswer pack s (job_of w job) job' (channel_at (job_of w job) number) e Done
   done job' is = answered job' Done (inr (tail ∙ is, λ not. absurd (not refl)))
 

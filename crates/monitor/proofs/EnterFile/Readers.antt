@@ -1,18 +1,18 @@
--- What readers hold, over an ENTER: no input side comes or goes.
+-- What readers have pinned, over an ENTER: no input side comes or goes.
 use Rattle.std.proofs.Common.{◌≡◌, ℕ, List, Option, None, Some, refl, sym, ap, subst, ◌∙◌, slice_set, arith}
 use Rattle.std.specs.Prelude.{option_to_list}
 use Rattle.words36.specs.declared.moment.Moment.{Moment}
 use Rattle.spec_machine.specs.Common.{slot}
 use Rattle.spec_image.proofs.Common.{some_none}
 use Rattle.retrieval.specs.declared.prime.Prime.{Prime}
-use Rattle.volume.specs.Common.{VolumeCore}
+use Rattle.volume.specs.Common.{MemoryMap}
 use Rattle.volume.specs.declared.live.LiveVersion.{LiveVersion}
 use Rattle.monitor.specs.Common.{IsEntering, side_entered, KeepsReading, IsReader, reader_of}
-use Rattle.monitor.specs.declared.channel.Channel.{Channel}
+use Rattle.monitor.specs.declared.channel.OpenChannel.{OpenChannel}
 use Rattle.monitor.specs.declared.job.Job.{Job}
 use Rattle.monitor.proofs.common.Dropped.{same_or_not}
 use Rattle.monitor.proofs.common.ReaderLists.{held, held-channel}
-use Rattle.monitor.proofs.common.ReadingJobs.{slot_set, length-slice_set}
+use Rattle.monitor.proofs.common.JobReaders.{slot_set, length-slice_set}
 
 -- other words of core alone
 pub reading_core : (live : List (Option LiveVersion)) (job : Job) (core : List ℕ)
@@ -23,14 +23,14 @@ reading_core live job core = record {
 }
 
 -- the versions are the same, and so are the input sides
-pub reading_same : (c c' : VolumeCore) (job job' : Job) → c' ≡ c → job' ≡ record job { core = job'.core }
+pub reading_same : (c c' : MemoryMap) (job job' : Job) → c' ≡ c → job' ≡ record job { core = job'.core }
     → KeepsReading c.live c'.live job job'
 reading_same c c' job job' map kept =
-    subst (λ (x : VolumeCore). KeepsReading c.live x.live job job') (sym map)
+    subst (λ (x : MemoryMap). KeepsReading c.live x.live job job') (sym map)
     (subst (KeepsReading c.live c.live job) (sym kept) (reading_core c.live job job'.core))
 
 -- a channel that doesn't read is another one, which doesn't read
-pub reading_unread : (live : List (Option LiveVersion)) (job : Job) (core : List ℕ) (number : ℕ) (c x : Channel)
+pub reading_unread : (live : List (Option LiveVersion)) (job : Job) (core : List ℕ) (number : ℕ) (c x : OpenChannel)
     → slot job.channels number ≡ Some c → c.input ≡ None → x.input ≡ None
     → KeepsReading live live job (record job { core = core; channels = slice_set job.channels number (Some x) })
 reading_unread live job core number c x there none still = record {
@@ -49,7 +49,7 @@ reading_unread live job core number c x there none still = record {
 }
 
 -- a version is begun
-pub reading_entered : (map map' : VolumeCore) (job job' : Job) (number e : ℕ) (moment : Moment) (c : Channel)
+pub reading_entered : (map map' : MemoryMap) (job job' : Job) (number e : ℕ) (moment : Moment) (c : OpenChannel)
     (key : ℕ) (prime : Prime) → IsEntering map map' job job' number e moment c key prime
     → KeepsReading map.live map'.live job job'
 reading_entered map map' job job' number e moment c key prime enters =

@@ -1,4 +1,4 @@
--- What an ENTER leaves that begins nothing.
+-- What an ENTER that begins nothing leaves.
 use Rattle.std.proofs.Common.{◌≡◌, ℕ, Bool, false, List, Option, None, Some, sym, ap, subst, ◌∙◌, inl, inr, refl}
 use Rattle.std.proofs.Common.{slice_set}
 use Rattle.words36.specs.declared.moment.Moment.{Moment}
@@ -11,22 +11,22 @@ use Rattle.spec_machine.specs.declared.call.Call.TheVariants.{Enter}
 use Rattle.spec_machine.specs.declared.call.Event.TheVariants.{Call as Calls}
 use Rattle.spec_machine.specs.declared.call.Reply.{Reply}
 use Rattle.spec_machine.specs.declared.call.Reply.TheVariants.{Done}
-use Rattle.volume.specs.Common.{VolumeCore, IsSoundCore}
+use Rattle.volume.specs.Common.{MemoryMap, IsSoundMemory}
 use Rattle.monitor.specs.Common.{IsEnterAnswer, IsKnown, AreKeyed, AreReading, IsState, Serves, IsTimely, UnderKeys}
 use Rattle.monitor.specs.Common.{sides_in, job_of, state_of}
 use Rattle.monitor.specs.declared.job.Job.{Job}
-use Rattle.monitor.proofs.common.Answering.{state_is, slot_of, job_set, called, goes_on, same_files, settled_with}
-use Rattle.monitor.proofs.common.Answering.{settled_reply}
-use Rattle.monitor.proofs.common.Calling.{job_same}
+use Rattle.monitor.proofs.common.EventAnswers.{state_is, slot_of, job_set, called, goes_on, same_files, settled_with}
+use Rattle.monitor.proofs.common.EventAnswers.{settled_reply}
+use Rattle.monitor.proofs.common.CallRows.{job_same}
 use Rattle.monitor.proofs.common.Dropped.{job_keyed, leaves_none}
 use Rattle.monitor.proofs.EnterFile.Readers.{reading_same}
-use Rattle.monitor.proofs.common.Knowing.{known}
-use Rattle.monitor.proofs.common.ReadingJobs.{keeps_reading}
+use Rattle.monitor.proofs.common.KnownState.{known}
+use Rattle.monitor.proofs.common.JobReaders.{keeps_reading}
 use Rattle.spec_machine.specs.Jobs as machine
 use Rattle.spec_machine.specs.Sound as machine_states
 
 -- What every other answer leaves.
-module _ (d : DiskState) (map : VolumeCore) (failed : Bool) (jobs jobs' : List (Option Job)) (n : ℕ) (job job' : Job)
+module _ (d : DiskState) (map : MemoryMap) (failed : Bool) (jobs jobs' : List (Option Job)) (n : ℕ) (job job' : Job)
     (ch e : ℕ) (moment : Moment) (reply : Reply)
     (there : slot jobs n ≡ Some job) (set : jobs' ≡ slice_set jobs n (Some job')) (kept : job'
     ≡ record job { core = job'.core }) (not_done : reply ≡ Done
@@ -39,7 +39,7 @@ module _ (d : DiskState) (map : VolumeCore) (failed : Bool) (jobs jobs' : List (
   other_reading = subst (AreReading map.live) (sym set)
       (keeps_reading map.live map.live jobs n job job' reading there (reading_same map map job job' refl kept))
 
-  module _ (sound : IsSoundCore d map false) (honest : d.honest) (timely : IsTimely d moment)
+  module _ (sound : IsSoundMemory d map false) (honest : d.honest) (timely : IsTimely d moment)
       (row : (s : State) → IsKnown d map s → (w : UnderKeys)
       → IsEnterAnswer (pack_of d) s (job_of w job) (job_of w job') (channel_at (job_of w job) ch) e reply)
       (s : State) (state : IsState d map jobs s) where

@@ -19,7 +19,7 @@ use Rattle.volume.specs.declared.error.VolumeError.TheVariants.{NoMemory, Failed
 use Rattle.volume.proofs.common.Packs.{stands_in_one}
 use Rattle.volume.proofs.VolumeStart.Starts.{stands_ignores_gate}
 use Rattle.monitor.specs.Common.{IsAlong, HasStarted, AreStopped}
-use Rattle.volume.proofs.common.Handing.{found_named}
+use Rattle.volume.proofs.common.PassedErrors.{found_named}
 use Rattle.spec_image.specs.Faults as faults
 
 module _ (pack : Pack) (d : DiskState) (only_now : (c : Contents) → d.left_since d.clock c
@@ -145,7 +145,7 @@ start_in H state S e pack files blocks stands (Ok a) same stood = λ h.
     stands_in_one (pack_of (state a)) pack e.contents (stood h).0 files (same.size ∙ sym blocks) (stood h).1 stands
 start_in H state S e pack files blocks stands (Err error) same stood = tt
 
--- what is known whatever was answered stands beside what holds at Ok
+-- what is known, whatever the answer was, together with what holds at Ok
 pub ok_and : {A E : Type 0} (K : Type 0) (H P : A → Type 0) (r : Result A E) → K → IfOk r (λ a. H a → P a)
     → IfOk r (λ a. H a → K × P a)
 ok_and K H P (Ok a) known ok = λ h. (known, ok h)

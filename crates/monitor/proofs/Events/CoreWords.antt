@@ -1,9 +1,9 @@
--- A word that is put into a job's core, or asked for, is that of the machine.
+-- A word that is put into a job's core, or read from it, is that of the machine.
 use Rattle.std.proofs.Common.{◌≡◌, ◌+◌, ◌<◌, ℕ, Bool, false, List, Option, None, Some, refl, sym, ap, subst, ◌∙◌}
 use Rattle.std.proofs.Common.{⊎_elim, slice_index, slice_set}
 use Rattle.std.specs.Prelude.{IfSome}
 use Rattle.blockdisk.specs.Common.{DiskState}
-use Rattle.spec_image.specs.Common.{Files, Version, Pack, pack_of}
+use Rattle.spec_image.specs.Common.{Files, SpecVersion, Pack, pack_of}
 use Rattle.spec_machine.specs.Common.{State, slot, with_job, Service, Answers, settled, examine_answer, step, on_job}
 use Rattle.spec_machine.specs.Common.{deposit}
 use Rattle.spec_machine.specs.declared.call.Event.TheVariants.{Deposit, Examine}
@@ -11,15 +11,15 @@ use Rattle.spec_machine.specs.declared.call.Reply.{Reply}
 use Rattle.spec_machine.specs.declared.call.Reply.TheVariants.{Done, Value}
 use Rattle.monitor.specs.Common.{deposit_of, examine_of, Serves, AreKeyed, AreReading, UnderKeys, job_of, state_of}
 use Rattle.monitor.specs.Common.{sides_in}
-use Rattle.volume.specs.Common.{VolumeCore}
+use Rattle.volume.specs.Common.{MemoryMap}
 use Rattle.volume.specs.declared.live.LiveVersion.{LiveVersion}
 use Rattle.volume.specs.declared.pending.PendingVersion.{PendingVersion}
 use Rattle.monitor.specs.declared.job.Job.{Job}
-use Rattle.monitor.proofs.common.Answering.{row, slot_of, job_set, is_done, settled_other}
+use Rattle.monitor.proofs.common.EventAnswers.{row, slot_of, job_set, is_done, settled_other}
 use Rattle.monitor.proofs.common.Dropped.{leaves_none, job_keyed}
-use Rattle.monitor.proofs.common.ReadingJobs.{keeps_reading}
+use Rattle.monitor.proofs.common.JobReaders.{keeps_reading}
 
-module _ (pack : Pack) (jobs : List (Option Job)) (n address : ℕ) (serial : ℕ) (files : Files Version)
+module _ (pack : Pack) (jobs : List (Option Job)) (n address : ℕ) (serial : ℕ) (files : Files SpecVersion)
     (w : UnderKeys) where
   -- the state with the word put
   abbrev put_in : Job → ℕ → State
@@ -71,7 +71,7 @@ deposit_keyed pending jobs jobs' n address word reply keyed done refused = ⊎_e
     (λ not. subst (AreKeyed pending) (sym (refused not)) keyed)
     (is_done reply)
 
--- So it leaves the input sides.
+-- It also leaves the input sides as they were.
 pub deposit_reading : (live : List (Option LiveVersion)) (jobs jobs' : List (Option Job)) (n address word : ℕ)
     (reply : Reply) → AreReading live jobs
     → (reply ≡ Done → (there : Job) × (slot jobs n ≡ Some there)
@@ -86,7 +86,7 @@ deposit_reading live jobs jobs' n address word reply reading done refused = ⊎_
     (λ not. subst (AreReading live) (sym (refused not)) reading)
     (is_done reply)
 
-module _ (d : DiskState) (map : VolumeCore) (failed : Bool) (jobs jobs' : List (Option Job)) (n address word : ℕ)
+module _ (d : DiskState) (map : MemoryMap) (failed : Bool) (jobs jobs' : List (Option Job)) (n address word : ℕ)
     (reply : Reply) where
   pub deposit_answered : failed ≡ false → AreKeyed map.pending jobs → AreReading map.live jobs
       → reply ≡ deposit_of address (slot jobs n)
@@ -119,8 +119,8 @@ module _ (d : DiskState) (map : VolumeCore) (failed : Bool) (jobs jobs' : List (
       (λ serial files w. examine_row (pack_of d) jobs n address serial files w reply
       (slot jobs n) refl answer) serves old is
 
--- words in a row that are shown, each as an event would be told it
-module _ (d : DiskState) (map : VolumeCore) (failed : Bool) (jobs : List (Option Job)) (n first count : ℕ) where
+-- words in a row that are shown, each as an event would show it
+module _ (d : DiskState) (map : MemoryMap) (failed : Bool) (jobs : List (Option Job)) (n first count : ℕ) where
   pub all_answered : failed ≡ false → AreKeyed map.pending jobs → AreReading map.live jobs
       → {W : Type 0} (view : W → List ℕ) (result : Option W)
       → IfSome result (λ words. (i : ℕ) → i < count

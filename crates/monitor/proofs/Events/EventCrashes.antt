@@ -12,14 +12,14 @@ use Rattle.spec_machine.specs.declared.call.Event.TheVariants.{Call as Calls}
 use Rattle.spec_machine.specs.declared.call.Reply.{Reply}
 use Rattle.spec_machine.specs.declared.call.Reply.TheVariants.{Done, Value, Refused, Stopped, NoChannel, AddressCheck}
 use Rattle.spec_machine.specs.declared.call.Reply.TheVariants.{NoJob, NoMemory, Device, Failed, DateRange}
-use Rattle.volume.specs.Common.{VolumeCore}
+use Rattle.volume.specs.Common.{MemoryMap}
 use Rattle.monitor.specs.Common.{CallCrashes, IsIdle, OfCall, IsState}
 use Rattle.monitor.specs.declared.job.Job.{Job}
 use Rattle.monitor.proofs.common.Untouched.{untouched_leaves}
 use Rattle.spec_machine.proofs.SerialLaws as serials
 
 -- whatever a crash may leave stands for the files of the state that the monitor stands for
-pub state_stands : (d : DiskState) (map : VolumeCore) (jobs : List (Option Job)) (s : State) → IsState d map jobs s
+pub state_stands : (d : DiskState) (map : MemoryMap) (jobs : List (Option Job)) (s : State) → IsState d map jobs s
     → (c : Contents) → MayLeave d c → StandsForState (pack_of d) s c
 state_stands d map jobs s is c left = rest_settles d (λ x. SettledStandsOn (pack_of d) x (without_serials s.files))
     is.files c left
@@ -27,7 +27,7 @@ state_stands d map jobs s is c left = rest_settles d (λ x. SettledStandsOn (pac
 -- an event that leaves the disk alone
 pub untouched_event : {D : Type 0} (state : D → DiskState) → ((disk : D) (contents : Contents) → (state disk).honest
     → (state disk).left_since (state disk).clock contents → MayLeave (state disk) contents)
-    → (old new : D) → new ≡ old → (map : VolumeCore) (jobs : List (Option Job)) (event : Event) (reply : Reply)
+    → (old new : D) → new ≡ old → (map : MemoryMap) (jobs : List (Option Job)) (event : Event) (reply : Reply)
     → (state new).honest → (s : State) → IsState (state old) map jobs s
     → LeavesOnly (state old) (state new) (StandsForEither (pack_of (state old)) s event reply)
 untouched_event state only_now old new same map jobs event reply honest s is =
@@ -35,7 +35,7 @@ untouched_event state only_now old new same map jobs event reply honest s is =
     (λ c left. inl (state_stands (state old) map jobs s is c left))
 
 -- a call that may have changed the files, whatever serial it chose
-pub changing_event : (d d' : DiskState) (map : VolumeCore) (jobs : List (Option Job)) (n : ℕ) (call : Call)
+pub changing_event : (d d' : DiskState) (map : MemoryMap) (jobs : List (Option Job)) (n : ℕ) (call : Call)
     (moment : Moment) (reply : Reply) → IsTrue (may_change reply) → CallCrashes d d' map jobs n call moment
     → d'.honest → (s : State) → IsState d map jobs s
     → LeavesOnly d d' (StandsForEither (pack_of d) s (Calls n call moment) reply)
@@ -50,7 +50,7 @@ changing_event d d' map jobs n call moment reply may crash honest s is =
 
 module _ {D : Type 0} (state : D → DiskState) (only_now : (disk : D) (contents : Contents) → (state disk).honest
     → (state disk).left_since (state disk).clock contents → MayLeave (state disk) contents)
-    (old new : D) (map : VolumeCore) (jobs : List (Option Job)) (n : ℕ) (call : Call) (moment : Moment)
+    (old new : D) (map : MemoryMap) (jobs : List (Option Job)) (n : ℕ) (call : Call) (moment : Moment)
     (crash : CallCrashes (state old) (state new) map jobs n call moment) (honest : (state new).honest) (s : State)
     (is : IsState (state old) map jobs s) where
   abbrev Leaves : Reply → Type 0
@@ -77,6 +77,6 @@ module _ {D : Type 0} (state : D → DiskState) (only_now : (disk : D) (contents
   call_event Failed idle serves = absurd (serves refl)
   call_event DateRange idle serves = still DateRange (idle tt)
 
--- What is said of an event is said of one that is the same.
+-- What holds for an event holds for one that is the same.
 pub of_other : (P : ℕ → Call → Moment → Type 0) (event other : Event) → event ≡ other → OfCall other P → OfCall event P
 of_other P event other is p = subst (λ e. OfCall e P) (sym is) p

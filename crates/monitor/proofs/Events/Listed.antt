@@ -1,4 +1,4 @@
--- A list of events goes on by one event.
+-- A list of events continues by one event.
 use Rattle.std.proofs.Common.{◌≡◌, ◌⊎◌, inl, inr, ⊎_elim, true, List, [], ◌∷◌, ◌++◌, refl, sym, ap, subst, ◌∙◌}
 use Rattle.std.specs.List.{AllByRecursion}
 use Rattle.blockdisk.specs.Common.{DiskState, LeavesOnly, SameDisk, one_more}
@@ -73,7 +73,7 @@ module _ {D : Type 0} (state : D → DiskState) where
   IsPackKept first now Broken = Unit {0}
   IsPackKept first now (Serving s) = pack_of (state now.disk) ≡ pack_of (state first.disk)
 
-  -- the run of these events from the value `first` on, by way of these services, which has led to the value `now`
+  -- the run of these events from the value `first`, through these services, which has led to the value `now`
   abbrev pub RunsTo : MonitorState D → MonitorState D → State → List Event → List Reply → List Service → Type 0
   RunsTo first now s events replies services =
       RunsOn (pack_of (state first.disk)) (state now.disk) (state first.disk).clock (Serving s) events replies

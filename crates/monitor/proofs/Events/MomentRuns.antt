@@ -1,4 +1,4 @@
--- A run, moment by moment, goes on by one event.
+-- A run, moment by moment, continues by one event.
 use Rattle.std.proofs.Common.{◌≡◌, List, [], ◌∷◌, ◌++◌, refl, sym, subst, ◌∙◌}
 use Rattle.blockdisk.specs.Common.{DiskState, LeavesOnly}
 use Rattle.spec_machine.specs.Common.{StandsForEither, State, Service, Serving, Broken, Answers, AnswersAll}
@@ -16,7 +16,7 @@ last_more old [] after = refl
 last_more old (service ∷ services) after = last_more service services after
 
 module _ (pack : Pack) where
-  -- a run by way of services is a run
+  -- a run through services is a run
   pub through_run : (old : Service) (events : List Event) (replies : List Reply) (services : List Service)
       → RunsThrough pack old events replies services → AnswersAll pack old events replies (last_of old services)
   through_run old [] [] [] r = refl
@@ -53,7 +53,7 @@ module _ (pack : Pack) where
   through_stay (e ∷ events) (reply ∷ replies) (Serving s ∷ services) event r = absurd r.0
 
 module _ {D : Type 0} (state : D → DiskState) (pack : Pack) where
-  -- it is a run by way of these services
+  -- it is a run through these services
   pub by_through : (d end : D) (old : Service) (events : List Event) (replies : List Reply) (services : List Service)
       → RunsBy state pack d old events replies services end → RunsThrough pack old events replies services
   by_through d end Broken events replies services r = r.1
@@ -98,7 +98,7 @@ module _ {D : Type 0} (state : D → DiskState) (pack : Pack) where
     by_more d (Serving s) (e ∷ events) (q ∷ replies) (x ∷ services) r last =
         (r.0, r.1, r.2, r.3, by_more r.1 x events replies services r.4 last)
 
-  -- After a fault of the disk it is asked for nothing, and each event answers Failed.
+  -- After a fault of the disk it isn't called, and each event answers Failed.
   pub by_stay : (d now : D) (old : Service) (events : List Event) (replies : List Reply) (services : List Service)
       (event : Event)
       → RunsBy state pack d old events replies services now → last_of old services ≡ Broken

@@ -1,4 +1,4 @@
--- Where nobody is logged in nothing is being written, and nothing is read.
+-- If nobody is logged in, nothing is being written, and nothing is read.
 use Rattle.std.proofs.Common.{◌≡◌, ℕ, zero, suc, List, [], Option, Some, None, refl, sym, ap, subst, ◌∙◌}
 use Rattle.std.specs.Prelude.{IfSome, replicate}
 use Rattle.std.specs.List.{AllByRecursion}
@@ -7,12 +7,12 @@ use Rattle.spec_image.specs.Common.{File, Files}
 use Rattle.spec_machine.specs.Common.{State, slot, IsStart}
 use Rattle.spec_image.proofs.Common.{some_none}
 use Rattle.spec_machine.proofs.Common.{start_sound}
-use Rattle.volume.specs.Common.{VolumeCore, pending_at, IsFirstRead, slot as version_at, RestsAt}
+use Rattle.volume.specs.Common.{MemoryMap, pending_at, IsFirstRead, slot as version_at, RestsAt}
 use Rattle.volume.specs.declared.live.LiveVersion.{LiveVersion}
 use Rattle.volume.specs.declared.pending.PendingVersion.{PendingVersion}
 use Rattle.monitor.specs.Common.{readers_of, IsState, AreKeyed, AreReading, jobs_of, no_jobs}
 use Rattle.monitor.specs.declared.job.Job.{Job}
-use Rattle.monitor.proofs.common.Answering.{nothing}
+use Rattle.monitor.proofs.common.EventAnswers.{nothing}
 use Rattle.monitor.proofs.common.ReadStays.{reads_start}
 use Rattle.monitor.proofs.common.SideSums.{all_at}
 
@@ -44,7 +44,7 @@ start_reading live jobs read nobody = subst (AreReading live) (sym nobody) (reco
     by key None is = sym (ap readers_of is)
     by key (Some v) is = sym (ap readers_of is ∙ (all_at IsFirstRead live key v read is).unread)
 
-pub started : (d : DiskState) (map : VolumeCore) (jobs : List (Option Job)) (s : State) (found : Files File)
+pub started : (d : DiskState) (map : MemoryMap) (jobs : List (Option Job)) (s : State) (found : Files File)
     → RestsAt d found → AllByRecursion (λ o. IfSome o IsFirstRead) map.live → map.pending ≡ [] → jobs ≡ no_jobs
     → IsStart found s → IsState d map jobs s
 started d map jobs s found rests read none nobody start = record {

@@ -4,7 +4,8 @@ use Rattle.std.proofs.Common.{Some, refl, ap, subst, ⊎_elim, arith}
 use Rattle.std.specs.Prelude.{◌||◌, is_none, nat_lt}
 use Rattle.words36.specs.declared.moment.Moment.{Moment}
 use Rattle.spec_machine.specs.Common.{SpareAll, in_answer, in_done, core_filled, words_ahead, body_read, lacks_header}
-use Rattle.spec_machine.specs.Common.{reads, Channel, Job, Input, State, channel_at, job_at, with_job, stopped_in}
+use Rattle.spec_machine.specs.Common.{reads, Channel, SpecJob, SpecInput, State, channel_at, job_at, with_job}
+use Rattle.spec_machine.specs.Common.{stopped_in}
 use Rattle.spec_machine.specs.Common.{Service, Serving, Broken, Answers, AnswersAll, step, last_date, on_job}
 use Rattle.spec_machine.specs.Common.{on_channel, of_job}
 use Rattle.spec_image.specs.Common.{Pack, words_from}
@@ -43,7 +44,7 @@ not_device e = cc
 
 module _ (pack : Pack) (between : List Event) (second : List Reply) (n ch e a : ℕ) (early late : Moment)
     (spared : SpareAll n ch between) where
-  -- where the service had failed, no answer is Done
+  -- if the service had failed, no answer is Done
   by_services : (found looked read left : Service) → Answers pack found (Calls n (Lookup ch e) early) Done looked
       → AnswersAll pack looked between second read
       → Answers pack read (Calls n (In ch a) late) Done left → ReadsWhatWasFound found read left n ch e a
@@ -91,11 +92,11 @@ or_left : (a b : Bool) → (a || b) ≡ false → a ≡ false
 or_left true b e = let wrong = e in cc
 or_left false b e = refl
 
-abbrev Fills : Job → Channel → ℕ → Reply × Job → Type 0
-Fills job c a r = r.0 ≡ Done → (side : Input) × (c.input ≡ Some side)
+abbrev Fills : SpecJob → Channel → ℕ → Reply × SpecJob → Type 0
+Fills job c a r = r.0 ≡ Done → (side : SpecInput) × (c.input ≡ Some side)
     × (r.1.core ≡ core_filled job c a (words_from (body_read side c.output) side.next))
 
-row_fills : (job : Job) (ch : ℕ) (c : Channel) (a : ℕ) → Fills job c a (reads job ch c a)
+row_fills : (job : SpecJob) (ch : ℕ) (c : Channel) (a : ℕ) → Fills job c a (reads job ch c a)
 row_fills job ch c a = settled_by (Fills job c a) (in_answer job c a) (in_done job ch c a) (stopped_in job ch c)
     (λ is done.
     let on = passed_test (is_none c.input || lacks_header c.mode c.input_header) (Refused 5) _ (λ x. cc) is in
@@ -106,7 +107,7 @@ row_fills job ch c a = settled_by (Fills job c a) (in_answer job c a) (in_done j
 abbrev Moves : State → ℕ → ℕ → ℕ → Reply × State → Type 0
 Moves s n ch a r = r.0 ≡ Done → ReadsItsBody (Serving s) (Serving r.1) n ch a
 
-moves_on_channel : (s : State) (n : ℕ) (job : Job) (ch a : ℕ) → job_at s n ≡ Some job → (o : Option Channel)
+moves_on_channel : (s : State) (n : ℕ) (job : SpecJob) (ch a : ℕ) → job_at s n ≡ Some job → (o : Option Channel)
     → channel_at job ch ≡ o → Moves s n ch a (on_channel s o (λ c. of_job s n (reads job ch c a)))
 moves_on_channel s n job ch a there None f done = let wrong = done in cc
 moves_on_channel s n job ch a there (Some c) f done =
@@ -127,7 +128,7 @@ moves_on_channel s n job ch a there (Some c) f done =
       core_is = filled.2;
     }
 
-moves_on_job : (s : State) (n ch a : ℕ) (o : Option Job) → job_at s n ≡ o
+moves_on_job : (s : State) (n ch a : ℕ) (o : Option SpecJob) → job_at s n ≡ o
     → Moves s n ch a (on_job s o (λ job. on_channel s (channel_at job ch) (λ c. of_job s n (reads job ch c a))))
 moves_on_job s n ch a None f done = let wrong = done in cc
 moves_on_job s n ch a (Some job) f done = moves_on_channel s n job ch a f (channel_at job ch) refl done
@@ -142,7 +143,7 @@ in_moves : (pack : Pack) (serial : ℕ) (s : State) (n ch a : ℕ) (moment : Mom
 in_moves pack serial s n ch a moment =
     moves_if s n ch a (nat_lt (last_date pack.layout) moment.date) _ (moves_on_job s n ch a (job_at s n) refl)
 
--- where the service had failed, no answer is Done
+-- if the service had failed, no answer is Done
 in_service : (pack : Pack) (read left : Service) (n ch a : ℕ) (moment : Moment)
     → Answers pack read (Calls n (In ch a) moment) Done left → ReadsItsBody read left n ch a
 in_service pack Broken Broken n ch a moment answer = absurd (not_failed answer)

@@ -9,44 +9,44 @@ use Rattle.spec_machine.specs.Common.{after_writes, State, slot, channel_at, wit
 use Rattle.spec_machine.specs.Common.{with_attributes, size_word, lookup, lookup_answer, lookup_done, looked_up}
 use Rattle.spec_machine.specs.Common.{settled, clean, refused_at, Service, Serving, Answers, step, on_channel, of_job}
 use Rattle.spec_machine.specs.Common.{last_date}
-use Rattle.spec_image.specs.Common.{Place, times, Version, file_at, with_protection, place_of, pack_of}
+use Rattle.spec_image.specs.Common.{Place, times, SpecVersion, file_at, with_protection, place_of, pack_of}
 use Rattle.spec_machine.specs.declared.call.Call.TheVariants.{Lookup}
 use Rattle.spec_machine.specs.declared.call.Event.TheVariants.{Call as Calls}
 use Rattle.spec_machine.specs.declared.call.Reply.{Reply}
 use Rattle.spec_machine.specs.declared.call.Reply.TheVariants.{Done}
 use Rattle.spec_image.proofs.Common.{times_head}
 use Rattle.spec_machine.proofs.Common.{filter_map-set}
-use Rattle.volume.specs.Common.{VolumeCore, pending_at, IsSoundCore}
+use Rattle.volume.specs.Common.{MemoryMap, pending_at, IsSoundMemory}
 use Rattle.monitor.specs.Common.{IsKnown, looking, IsLookingUp, IsLookedUp, IsLookupRow, readers_of, AreRead}
 use Rattle.monitor.specs.Common.{KeepsReading, AreKeyed, AreReading, IsState, Serves, IsTimely, UnderKeys, side_of}
 use Rattle.monitor.specs.Common.{sides_in, reader_of, readers_in, readers, input_of, channel_of, job_of, jobs_of}
 use Rattle.monitor.specs.Common.{state_of}
-use Rattle.monitor.specs.declared.channel.Channel.{Channel}
+use Rattle.monitor.specs.declared.channel.OpenChannel.{OpenChannel}
 use Rattle.monitor.specs.declared.input.Input.{Input}
 use Rattle.monitor.specs.declared.job.Job.{Job}
-use Rattle.monitor.proofs.common.Answering.{state_is, slot_of, job_set, called, goes_on, same_files, settled_with}
-use Rattle.monitor.proofs.common.Answering.{in_state, is_done}
-use Rattle.monitor.proofs.common.Calling.{channel_is, channel_set, job_same}
+use Rattle.monitor.proofs.common.EventAnswers.{state_is, slot_of, job_set, called, goes_on, same_files, settled_with}
+use Rattle.monitor.proofs.common.EventAnswers.{in_state, is_done}
+use Rattle.monitor.proofs.common.CallRows.{channel_is, channel_set, job_same}
 use Rattle.monitor.proofs.common.Dropped.{same_or_not, leaves_none, job_keyed}
 use Rattle.monitor.proofs.common.ReaderLists.{held, held-append, held-cons_option}
-use Rattle.monitor.proofs.common.ReadingJobs.{keeps_reading, reads_left}
+use Rattle.monitor.proofs.common.JobReaders.{keeps_reading, reads_left}
 use Rattle.monitor.proofs.common.Dates.{attributes_in, version_dated}
 use Rattle.monitor.proofs.common.ReadsPinned.{with_read, with_read_same, with_read_other, read_again, reads_pinned}
 use Rattle.spec_machine.specs.Jobs as machine
 
 -- Another version is read under one key.
 
-abbrev pub with_version : UnderKeys → ℕ → Version → UnderKeys
+abbrev pub with_version : UnderKeys → ℕ → SpecVersion → UnderKeys
 with_version w key x = record w { read = with_read w.read key x }
 
-module _ (w : UnderKeys) (key : ℕ) (x : Version) where
+module _ (w : UnderKeys) (key : ℕ) (x : SpecVersion) where
   -- jobs that don't read under it are the same,
   input_same : (i : Input) → held key (i ∷ []) ≡ 0 → input_of (with_version w key x) i ≡ input_of w i
   input_same i none =
-      ap (λ (v : Version). input_at v) (with_read_other w.read key x i.pin.key (λ same. let head = times_head key [] in
+      ap (λ (v : SpecVersion). input_at v) (with_read_other w.read key x i.pin.key (λ same. let head = times_head key [] in
       let at = subst (λ (k : ℕ). times key (k ∷ []) ≡ 0) same none in absurd (omega arith)))
     where
-      input_at : Version → machine.Input
+      input_at : SpecVersion → machine.SpecInput
       input_at v = record {
         place = place_of i.ppn i.file;
         version = with_protection v i.protection;
@@ -58,7 +58,7 @@ module _ (w : UnderKeys) (key : ℕ) (x : Version) where
   side_same None none = refl
   side_same (Some i) none = ap Some (input_same i none)
 
-  channels_same : (cs : List (Option Channel)) → held key (filter_map reader_of cs) ≡ 0
+  channels_same : (cs : List (Option OpenChannel)) → held key (filter_map reader_of cs) ≡ 0
       → map (option_map (channel_of (with_version w key x))) cs ≡ map (option_map (channel_of w)) cs
   channels_same [] none = refl
   channels_same (None ∷ cs) none = ap (λ ds. None ∷ ds) (channels_same cs none)
@@ -83,7 +83,7 @@ module _ (w : UnderKeys) (key : ℕ) (x : Version) where
       let rest = unread_same jobs (omega arith) in
       λ i. here i ∷ rest i
 
-  -- and all are where it was this very version
+  -- and all are if it was this very version
   pub again_same : (jobs : List (Option Job)) → w.read key ≡ x → jobs_of (with_version w key x) jobs ≡ jobs_of w jobs
   again_same jobs was = ap (λ u. jobs_of u jobs) (λ i. record w { read = λ k. at_key k i })
     where
@@ -93,12 +93,12 @@ module _ (w : UnderKeys) (key : ℕ) (x : Version) where
 
 -- An input side is opened.
 
-module _ (d : DiskState) (map between map' : VolumeCore) (jobs jobs' : List (Option Job)) (n : ℕ) (job job' : Job)
-    (ch e : ℕ) (moment : Moment) (c : Channel) (input : Input)
+module _ (d : DiskState) (map between map' : MemoryMap) (jobs jobs' : List (Option Job)) (n : ℕ) (job job' : Job)
+    (ch e : ℕ) (moment : Moment) (c : OpenChannel) (input : Input)
     (there : slot jobs n ≡ Some job) (set : jobs' ≡ slice_set jobs n (Some job'))
     (looks : IsLookingUp map between map' job job' ch e c input) (keyed : AreKeyed map'.pending jobs')
     (reading : AreReading map'.live jobs') where
-  module _ (sound : IsSoundCore d map false) (timely : moment.date ≤ last_date (pack_of d).layout) (s : State)
+  module _ (sound : IsSoundMemory d map false) (timely : moment.date ≤ last_date (pack_of d).layout) (s : State)
       (state : IsState d map jobs s)
       (known : IsKnown d map s) (found : IsLookedUp d.contents between.live s job job' e input)
       (row : (s : State) → IsKnown d map s → (w : UnderKeys)
@@ -169,7 +169,7 @@ module _ (d : DiskState) (map between map' : VolumeCore) (jobs jobs' : List (Opt
           })),
         )) (sym (attributes_in (pack_of d).layout job.core e found.version.file
         (version_dated d s.files state.files place found.version found.there)))
-        ∙ ap (λ (y : machine.Input). (
+        ∙ ap (λ (y : machine.SpecInput). (
           Done,
           with_channel (record (job_of w job) { core = words }) ch
               (Some (record (clean (channel_of w c)) { input = Some y })),
@@ -187,7 +187,7 @@ module _ (d : DiskState) (map between map' : VolumeCore) (jobs jobs' : List (Opt
     reads =
         reads_left d between map' s.files w.read looks.closed.leaves
         (reads_pinned d map s.files state.under.read state.read sound.whole place found.version found.there
-        between key state.serials looks.holds.pinned looks.holds.others looks.holds.core looks.holds.at found.held)
+        between key state.serials looks.holds.pinned looks.holds.others looks.holds.map looks.holds.at found.held)
 
     pub looked_leads : (failed : Bool) → failed ≡ false → map'.pending ≡ map.pending → (new : Service)
         × Serves d map' failed jobs' new × Answers (pack_of d) (Serving s) (Calls n (Lookup ch e) moment) Done new
@@ -211,7 +211,7 @@ module _ (d : DiskState) (map between map' : VolumeCore) (jobs jobs' : List (Opt
 
 -- No input side is opened.
 
-module _ (d : DiskState) (map : VolumeCore) (jobs jobs' : List (Option Job)) (n : ℕ) (job job' : Job)
+module _ (d : DiskState) (map : MemoryMap) (jobs jobs' : List (Option Job)) (n : ℕ) (job job' : Job)
     (ch e : ℕ) (moment : Moment) (reply : Reply)
     (there : slot jobs n ≡ Some job) (set : jobs' ≡ slice_set jobs n (Some job')) (not_done : reply ≡ Done
     → ⊥) (keyed : AreKeyed map.pending jobs') (reading : AreReading map.live jobs') where
@@ -256,12 +256,12 @@ module _ (d : DiskState) (map : VolumeCore) (jobs jobs' : List (Option Job)) (n 
 
 -- LOOKUP by the job of a number, whatever it is answered with.
 
-module _ (d d' : DiskState) (map map' : VolumeCore) (jobs jobs' : List (Option Job)) (n : ℕ) (job job' : Job)
+module _ (d d' : DiskState) (map map' : MemoryMap) (jobs jobs' : List (Option Job)) (n : ℕ) (job job' : Job)
     (ch e : ℕ) (moment : Moment) (reply : Reply)
     (there : slot jobs n ≡ Some job) (set : jobs' ≡ slice_set jobs n (Some job')) (keyed : AreKeyed map.pending jobs)
     (reading : AreReading map.live jobs) (pending : map'.pending ≡ map.pending)
     (keeps : KeepsReading map.live map'.live job job')
-    (looked : reply ≡ Done → (c : Channel) × (input : Input) × (between : VolumeCore)
+    (looked : reply ≡ Done → (c : OpenChannel) × (input : Input) × (between : MemoryMap)
     × IsLookingUp map between map' job job' ch e c input × (d'.honest → (s : State) → IsKnown d map s
     → IsLookedUp d.contents between.live s job job' e input))
     (kept : (reply ≡ Done → ⊥) → (map' ≡ map) × (job' ≡ record job { core = job'.core })) where
@@ -281,7 +281,7 @@ module _ (d d' : DiskState) (map map' : VolumeCore) (jobs jobs' : List (Option J
   lookup_reading = subst (AreReading map'.live) (sym set)
       (keeps_reading map.live map'.live jobs n job job' reading there keeps)
 
-  pub lookup_answered : (failed : Bool) → failed ≡ false → IsSoundCore d map false → d.honest → d'.honest
+  pub lookup_answered : (failed : Bool) → failed ≡ false → IsSoundMemory d map false → d.honest → d'.honest
       → IsTimely d moment
       → ((s : State) → IsState d map jobs s → IsKnown d map s)
       → ((s : State) → IsKnown d map s → (w : UnderKeys)

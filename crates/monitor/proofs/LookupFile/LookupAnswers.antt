@@ -7,7 +7,8 @@ use Rattle.std.specs.Cmp.{nat_cmp_total}
 use Rattle.words36.specs.declared.names.FileName.{FileName}
 use Rattle.words36.specs.Common.{IsPpn}
 use Rattle.blockdisk.specs.Common.{Contents, DiskState}
-use Rattle.spec_image.specs.Common.{number_of, blocks_of, File, Files, Directory, Place, map_directory, get, Version}
+use Rattle.spec_image.specs.Common.{number_of, blocks_of, File, Files, Directory, Place, map_directory, get}
+use Rattle.spec_image.specs.Common.{SpecVersion}
 use Rattle.spec_image.specs.Common.{without_serials, file_in, file_at, StoredFile, StoredDirectory, directory_of}
 use Rattle.spec_machine.specs.Common.{lies_outside, State, digit_for_directory, digit_for_version, lookup_answer}
 use Rattle.spec_machine.specs.Common.{directory_digit, file_digit, may_look, may_read}
@@ -15,13 +16,13 @@ use Rattle.spec_image.specs.declared.code.ErrorCode.{ErrorCode}
 use Rattle.spec_machine.specs.declared.call.Reply.{Reply}
 use Rattle.spec_machine.specs.declared.call.Reply.TheVariants.{Done, Refused, AddressCheck}
 use Rattle.spec_image.proofs.Common.{some_same, some_none, get-map_values, name_total}
-use Rattle.volume.specs.Common.{Known, as_known, VolumeCore, slot, IsVersionOf, IsFilePinned, IsPinAnswer}
-use Rattle.volume.specs.Common.{protection_answer, IsShown, IsFileAnswer, IsLookAnswer, IsSoundCore}
+use Rattle.volume.specs.Common.{CurrentMap, as_known, MemoryMap, slot, IsVersionOf, IsFilePinned, IsPinAnswer}
+use Rattle.volume.specs.Common.{protection_answer, IsShown, IsFileAnswer, IsLookAnswer, IsSoundMemory}
 use Rattle.volume.specs.declared.error.CallError.{CallError}
 use Rattle.volume.specs.declared.file_facts.FileFacts.{FileFacts}
 use Rattle.volume.specs.declared.handles.Pin.{Pin}
 use Rattle.volume.specs.declared.live.LiveVersion.{LiveVersion}
-use Rattle.volume.proofs.common.Answering.{Holds, rest_holds}
+use Rattle.volume.proofs.common.Answers.{Holds, rest_holds}
 use Rattle.monitor.specs.Common.{IsKnown, HasShortFacts, named_in, digit_for, read_answer, IsReadAnswer, UnderKeys}
 use Rattle.monitor.specs.Common.{job_of}
 use Rattle.monitor.specs.declared.job.Job.{Job}
@@ -62,8 +63,8 @@ read who owner name (Some d) p facts there look named looked may = by (get d.fil
           (file, at, shown),
         )
 
--- What the machine answers in a directory, where the channel has no output side and the words are there.
-abbrev asked : machine.Job → ℕ → FileName → Option (Directory Version) → Reply
+-- What the machine answers in a directory, if the channel has no output side and the words are there.
+abbrev asked : machine.SpecJob → ℕ → FileName → Option (Directory SpecVersion) → Reply
 asked job owner name o =
     if is_none o then Refused 1
     else if not (may_look (digit_for_directory job owner o)) then Refused 2
@@ -71,12 +72,12 @@ asked job owner name o =
     else if not (may_read (digit_for_version job owner (file_in o name))) then Refused 2
     else Done
 
--- It goes by the files alone.
-asked_is : (job : machine.Job) (owner : ℕ) (name : FileName) (o : Option (Directory Version))
-    → asked job owner name o ≡ read_answer job.ppn owner name (option_map (map_directory (λ (v : Version). v.file)) o)
+-- It depends on the files alone.
+asked_is : (job : machine.SpecJob) (owner : ℕ) (name : FileName) (o : Option (Directory SpecVersion))
+    → asked job owner name o ≡ read_answer job.ppn owner name (option_map (map_directory (λ (v : SpecVersion). v.file)) o)
 asked_is job owner name None = refl
 asked_is job owner name (Some d) = by (get d.files name)
-    ∙ ap answer_for (sym (get-map_values name_total (λ (v : Version). v.file) d.files name))
+    ∙ ap answer_for (sym (get-map_values name_total (λ (v : SpecVersion). v.file) d.files name))
   where
     answer_for : Option File → Reply
     answer_for was =
@@ -85,27 +86,27 @@ asked_is job owner name (Some d) = by (get d.files name)
         else if not (may_read (digit_for job.ppn owner was)) then Refused 2
         else Done
 
-    answer_by : Option Version → Reply
+    answer_by : Option SpecVersion → Reply
     answer_by was =
         if not (may_look (directory_digit d.protection job.ppn owner)) then Refused 2
         else if (name.name == 0) || is_none was then Refused 0
         else if not (may_read (digit_for_version job owner was)) then Refused 2
         else Done
 
-    by : (was : Option Version) → answer_by was ≡ answer_for (option_map (λ (v : Version). v.file) was)
+    by : (was : Option SpecVersion) → answer_by was ≡ answer_for (option_map (λ (v : SpecVersion). v.file) was)
     by None = refl
     by (Some v) = refl
 
--- The version whose file it is.
-pub version_in : (o : Option (Directory Version)) (name : FileName) (file : File)
-    → named_in (option_map (map_directory (λ (v : Version). v.file)) o) name ≡ Some file
-    → (x : Version) × (file_in o name ≡ Some x) × (x.file ≡ file)
+-- The version of that file.
+pub version_in : (o : Option (Directory SpecVersion)) (name : FileName) (file : File)
+    → named_in (option_map (map_directory (λ (v : SpecVersion). v.file)) o) name ≡ Some file
+    → (x : SpecVersion) × (file_in o name ≡ Some x) × (x.file ≡ file)
 version_in None name file is = absurd (some_none (sym is))
 version_in (Some d) name file is = by (get d.files name) refl
-    (sym (get-map_values name_total (λ (v : Version). v.file) d.files name) ∙ is)
+    (sym (get-map_values name_total (λ (v : SpecVersion). v.file) d.files name) ∙ is)
   where
-    by : (was : Option Version) → get d.files name ≡ was → option_map (λ (v : Version). v.file) was ≡ Some file
-        → (x : Version) × (get d.files name ≡ Some x) × (x.file ≡ file)
+    by : (was : Option SpecVersion) → get d.files name ≡ was → option_map (λ (v : SpecVersion). v.file) was ≡ Some file
+        → (x : SpecVersion) × (get d.files name ≡ Some x) × (x.file ≡ file)
     by None at shown = absurd (some_none (sym shown))
     by (Some v) at shown = (v, at, some_same shown)
 
@@ -114,7 +115,7 @@ few_blocks : (n : ℕ) → n ≤ 16384 * 128 → blocks_of n < 2 ^ 18
 few_blocks n few = omega arith
 
 -- A file of a disk has short facts.
-short_facts : (d : DiskState) (k : Known) (files : Files File) → Holds d k files
+short_facts : (d : DiskState) (k : CurrentMap) (files : Files File) → Holds d k files
     → (ppn : ℕ) (name : FileName) (file : File) → named_in (get files ppn) name ≡ Some file → HasShortFacts file
 short_facts d k files holds ppn name file is =
     by (get holds.map.directories ppn) refl
@@ -135,7 +136,7 @@ short_facts d k files holds ppn name file is =
     by (Some stored) at named = in_stored stored at (get stored.files name) refl
         (sym (get-map_values name_total (λ (f : StoredFile). f.file) stored.files name) ∙ named)
 
--- The version that is held is that of the file; and it can be held.
+-- The version that is pinned is that of the file; and it can be pinned.
 pub held_version : (contents : Contents) (live : List (Option LiveVersion)) (name : FileName) (pin : Pin)
     (o : Option (Directory File)) (file : File) → IsPinAnswer contents live name (Ok pin) o
     → named_in o name ≡ Some file
@@ -152,7 +153,7 @@ not_refused contents live name error None file answer is = some_none (sym is)
 not_refused contents live name error (Some d) file answer is = let there = subst
     (IsFilePinned contents live (Err error)) is answer in cc there.1
 
-module _ (d : DiskState) (map : VolumeCore) (s : State) (known : IsKnown d map s) (sound : IsSoundCore d map false)
+module _ (d : DiskState) (map : MemoryMap) (s : State) (known : IsKnown d map s) (sound : IsSoundMemory d map false)
     (honest : d.honest) (w : UnderKeys) (job : Job) (c : machine.Channel) (e : ℕ) (free : c.output
     ≡ None) (inside : lies_outside job.core e 4 ≡ false) where
   answer_is : (place : Place) → lookup_answer s (job_of w job) c e place
@@ -180,7 +181,7 @@ module _ (d : DiskState) (map : VolumeCore) (s : State) (known : IsKnown d map s
 
     pub held : (live : List (Option LiveVersion)) (pin : Pin)
         → IsPinAnswer d.contents live place.name (Ok pin) (get (without_serials s.files) place.ppn)
-        → (x : Version) × (file_at s.files place ≡ Some x) × IsShown x.file facts × HasShortFacts x.file
+        → (x : SpecVersion) × (file_at s.files place ≡ Some x) × IsShown x.file facts × HasShortFacts x.file
         × (v : LiveVersion) × (slot live pin.key ≡ Some v) × IsVersionOf d.contents (as_known v) x.file
     held live pin answer =
         let file = may.1.0 in

@@ -7,12 +7,12 @@ use Rattle.std.proofs.lemmas.Bool.Decides.{nat_tests}
 use Rattle.words36.specs.Common.{left, right}
 use Rattle.blockdisk.specs.Common.{DiskState}
 use Rattle.spec_machine.specs.Common.{lies_outside, State, make_answer, system, booked, exceeds_room, is_plain}
-use Rattle.spec_image.specs.Common.{directory_cost, Files, get, size, Version, without_serials, growth, pack_of}
+use Rattle.spec_image.specs.Common.{directory_cost, Files, get, size, SpecVersion, without_serials, growth, pack_of}
 use Rattle.spec_machine.specs.declared.call.Reply.{Reply}
 use Rattle.spec_machine.specs.declared.call.Reply.TheVariants.{Done, Refused, AddressCheck}
 use Rattle.alloctab.specs.Common.{space}
-use Rattle.volume.specs.Common.{VolumeCore, IsWholeCore}
-use Rattle.volume.proofs.common.Answering.{Holds}
+use Rattle.volume.specs.Common.{MemoryMap, IsWholeMemory}
+use Rattle.volume.proofs.common.Answers.{Holds}
 use Rattle.monitor.specs.Common.{asked_owner, early_answer, IsAbsent, IsCrowded, IsRefusedBy, UnderKeys, job_of}
 use Rattle.monitor.specs.Common.{state_of}
 use Rattle.monitor.specs.declared.job.Job.{Job}
@@ -54,8 +54,8 @@ pick_other false true c rest reply is other = is
 pick_other false false true rest reply is other = is
 pick_other false false false rest reply is other = absurd (other (sym is))
 
-module _ (d : DiskState) (c : VolumeCore) (files : Files Version) (w : UnderKeys) (jobs : List (Option Job))
-    (whole : IsWholeCore d.size c) (holds : Holds d c.known (without_serials files))
+module _ (d : DiskState) (c : MemoryMap) (files : Files SpecVersion) (w : UnderKeys) (jobs : List (Option Job))
+    (whole : IsWholeMemory d.size c) (holds : Holds d c.known (without_serials files))
     (books : booked (state_of files w jobs) ≡ c.known.table.booked) (job : Job) (e : ℕ) where
   abbrev owner : ℕ
   owner = asked_owner job.core e
@@ -105,7 +105,7 @@ module _ (d : DiskState) (c : VolumeCore) (files : Files Version) (w : UnderKeys
       undecided is ∙ ap (λ o. rest (is_some o) crowded) (none_there d c files holds owner absent)
       ∙ ap (rest false) (test_is ∙ not_less (space d.size) _ (λ past. fits (omega (arith, past))))
 
-  -- where directories are looked at, the answer isn't one that is found before memory and the disk are needed
+  -- if directories are checked, the answer isn't one that is found before memory and the disk are needed
   pub not_plain : early_answer job.ppn job.core e ≡ Done → is_plain (make_answer (pack_of d) t (job_of w job) e owner)
       ≡ false
   not_plain is = ap is_plain (undecided is) ∙ by (is_some (get files owner)) crowded

@@ -9,22 +9,22 @@ use Rattle.blockdisk.specs.Common.{DiskState}
 use Rattle.spec_machine.specs.Common.{with_right, State, slot, make_answer, directory_made, settled, refused_at}
 use Rattle.spec_machine.specs.Common.{booked, HaveDistinctSerials, is_plain, step, of_files, last_date}
 use Rattle.spec_image.specs.Common.{Files, Directory, Place, map_directory, name_cmp, get, insert, empty, map_values}
-use Rattle.spec_image.specs.Common.{from_entries, Version, without_serials, file_in, file_at, pack_of}
+use Rattle.spec_image.specs.Common.{from_entries, SpecVersion, without_serials, file_in, file_at, pack_of}
 use Rattle.spec_machine.specs.declared.call.Call.TheVariants.{MakeDir}
 use Rattle.spec_machine.specs.declared.call.Event.TheVariants.{Call as Calls}
 use Rattle.spec_machine.specs.declared.call.Reply.{Reply}
 use Rattle.spec_machine.specs.declared.call.Reply.TheVariants.{Done, Refused}
 use Rattle.spec_image.proofs.Common.{same_or_other, entries-empty, get-empty, get-insert_same, get-insert_other}
 use Rattle.spec_image.proofs.Common.{map_values-insert}
-use Rattle.volume.specs.Common.{VolumeCore, pending_at, IsWholeCore, files_made, prime_at, IsSoundCore, RestsAt}
+use Rattle.volume.specs.Common.{MemoryMap, pending_at, IsWholeMemory, files_made, prime_at, IsSoundMemory, RestsAt}
 use Rattle.volume.specs.Common.{KeepsRead, KeepsEachWritten}
 use Rattle.volume.specs.declared.pending.PendingVersion.{PendingVersion}
-use Rattle.volume.proofs.common.Answering.{Holds, rest_holds}
+use Rattle.volume.proofs.common.Answers.{Holds, rest_holds}
 use Rattle.monitor.specs.Common.{asked_owner, directory_protection_asked, early_answer, IsAbsent, IsCrowded}
 use Rattle.monitor.specs.Common.{IsRefusedBy, AreKeyed, AreReading, IsState, UnderKeys, job_of, state_of}
 use Rattle.monitor.specs.declared.job.Job.{Job}
-use Rattle.monitor.proofs.common.Answering.{state_is, job_set, called, settled_with, settled_reply}
-use Rattle.monitor.proofs.common.Knowing.{known}
+use Rattle.monitor.proofs.common.EventAnswers.{state_is, job_set, called, settled_with, settled_reply}
+use Rattle.monitor.proofs.common.KnownState.{known}
 use Rattle.monitor.proofs.MakeDir.Calls.{decided, refused_by, may_make, not_plain}
 use Rattle.monitor.proofs.common.Changes.{versions_made, none_in, none_there}
 use Rattle.monitor.proofs.common.ReadStays.{reads_made}
@@ -32,20 +32,20 @@ use Rattle.monitor.proofs.common.WrittenStays.{writing_stays}
 use Rattle.spec_machine.specs.Sound as machine_states
 
 -- the files with one directory more, as the volume has them
-pub shown_made : (files : Files Version) (owner protection : ℕ)
+pub shown_made : (files : Files SpecVersion) (owner protection : ℕ)
     → without_serials (insert files owner (record { protection = protection; quota = 0; files = empty }))
     ≡ files_made (without_serials files) owner protection
 shown_made files owner protection =
-    map_values-insert nat_cmp_total nat_cmp-IsAntisymmetric (map_directory (λ (v : Version). v.file)) files owner
+    map_values-insert nat_cmp_total nat_cmp-IsAntisymmetric (map_directory (λ (v : SpecVersion). v.file)) files owner
     (record { protection = protection; quota = 0; files = empty })
     ∙ ap (λ fs. insert (without_serials files) owner (record { protection = protection; quota = 0; files = fs })) none
   where
-    none : map_values (λ (v : Version). v.file) (empty {R = name_cmp}) ≡ empty
-    none = ap (λ es. from_entries (map (λ e. (e.0, e.1.file)) es)) (entries-empty name_cmp Version)
+    none : map_values (λ (v : SpecVersion). v.file) (empty {R = name_cmp}) ≡ empty
+    none = ap (λ es. from_entries (map (λ e. (e.0, e.1.file)) es)) (entries-empty name_cmp SpecVersion)
 
 -- The machine's row.
-module _ (d : DiskState) (c : VolumeCore) (files : Files Version) (w : UnderKeys) (jobs : List (Option Job))
-    (whole : IsWholeCore d.size c) (holds : Holds d c.known (without_serials files))
+module _ (d : DiskState) (c : MemoryMap) (files : Files SpecVersion) (w : UnderKeys) (jobs : List (Option Job))
+    (whole : IsWholeMemory d.size c) (holds : Holds d c.known (without_serials files))
     (books : booked (state_of files w jobs) ≡ c.known.table.booked)
     (n : ℕ) (job : Job) (there : slot jobs n ≡ Some job) (e : ℕ) (moment : Moment)
     (timely : moment.date ≤ last_date (pack_of d).layout) where
@@ -53,7 +53,7 @@ module _ (d : DiskState) (c : VolumeCore) (files : Files Version) (w : UnderKeys
   t = state_of files w jobs
 
   -- the files with the directory
-  abbrev pub made : Files Version
+  abbrev pub made : Files SpecVersion
   made = insert files (asked_owner job.core e) (directory_made (job_of w job) e)
 
   -- the row, by its answer
@@ -109,18 +109,18 @@ module _ (d : DiskState) (c : VolumeCore) (files : Files Version) (w : UnderKeys
       ∙ not_plain d c files w jobs whole holds books job e early
 
 -- a file that isn't there isn't in the new directory
-made_elsewhere : (files : Files Version) (owner : ℕ) (v : Directory Version) (q : Place) → v.files ≡ empty
+made_elsewhere : (files : Files SpecVersion) (owner : ℕ) (v : Directory SpecVersion) (q : Place) → v.files ≡ empty
     → file_at files q ≡ None → file_at (insert files owner v) q ≡ None
 made_elsewhere files owner v q bare none =
     ⊎_elim
     (λ here. ap (λ o. file_in o q.name) (ap (get (insert files owner v)) here
-    ∙ get-insert_same nat_cmp_total files owner v) ∙ ap (λ fs. get fs q.name) bare ∙ get-empty name_cmp Version q.name)
+    ∙ get-insert_same nat_cmp_total files owner v) ∙ ap (λ fs. get fs q.name) bare ∙ get-empty name_cmp SpecVersion q.name)
     (λ other. ap (λ o. file_in o q.name)
     (get-insert_other nat_cmp_total nat_cmp-IsAntisymmetric files owner v q.ppn other) ∙ none)
     (same_or_other nat_cmp_total nat_cmp-IsAntisymmetric q.ppn owner)
 
 -- The state that the monitor stands for.
-module _ (d : DiskState) (c : VolumeCore) (jobs : List (Option Job)) (job : Job) (e : ℕ) (sound : IsSoundCore d c false)
+module _ (d : DiskState) (c : MemoryMap) (jobs : List (Option Job)) (job : Job) (e : ℕ) (sound : IsSoundMemory d c false)
     (honest : d.honest) (s : State) (state : IsState d c jobs s) where
   abbrev pub before : State
   before = state_of s.files state.under jobs
@@ -135,7 +135,7 @@ module _ (d : DiskState) (c : VolumeCore) (jobs : List (Option Job)) (job : Job)
   books = subst (λ y. booked y ≡ c.known.table.booked) before_is (known d c jobs s state sound honest).booked_is
 
   -- the files with the directory, as the machine and as the volume have them
-  abbrev pub files' : Files Version
+  abbrev pub files' : Files SpecVersion
   files' = insert s.files (asked_owner job.core e) (directory_made (job_of state.under job) e)
 
   pub shown : without_serials files'
@@ -143,7 +143,7 @@ module _ (d : DiskState) (c : VolumeCore) (jobs : List (Option Job)) (job : Job)
   shown = shown_made s.files (asked_owner job.core e) (directory_protection_asked job.core e)
 
   -- The directory is made.
-  module _ (d' : DiskState) (c' : VolumeCore) (jobs' : List (Option Job)) (keyed : AreKeyed c'.pending jobs')
+  module _ (d' : DiskState) (c' : MemoryMap) (jobs' : List (Option Job)) (keyed : AreKeyed c'.pending jobs')
       (reading : AreReading c'.live jobs') (live : c'.live ≡ c.live) (pending : c'.pending ≡ c.pending)
       (primes : (ppn : ℕ) (name : FileName) (m : ℕ) → prime_at c ppn name ≡ Some m → prime_at c' ppn name
       ≡ Some m) (readers : KeepsRead d.contents d'.contents c) (writers : KeepsEachWritten d.contents d'.contents c)

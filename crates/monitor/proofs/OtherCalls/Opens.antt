@@ -14,13 +14,13 @@ use Rattle.retrieval.specs.Common.{mode_number}
 use Rattle.retrieval.specs.declared.mode.Mode.{Mode}
 use Rattle.monitor.specs.Common.{IsRow, KeepsSides, KeepsReading, improper_at, opened_at, rings_opened, UnderKeys}
 use Rattle.monitor.specs.Common.{side_of, reader_of, channel_of, job_of, IsSide}
-use Rattle.monitor.specs.declared.channel.Channel.{Channel}
+use Rattle.monitor.specs.declared.channel.OpenChannel.{OpenChannel}
 use Rattle.monitor.specs.declared.job.Job.{Job}
 use Rattle.volume.specs.declared.live.LiveVersion.{LiveVersion}
 use Rattle.volume.specs.declared.pending.PendingVersion.{PendingVersion}
 use Rattle.std.specs.List.{AllByRecursion}
-use Rattle.monitor.proofs.common.Answering.{settled_other}
-use Rattle.monitor.proofs.common.Calling.{channel_is, channel_set, job_same, keeps_channel, reads_channel}
+use Rattle.monitor.proofs.common.EventAnswers.{settled_other}
+use Rattle.monitor.proofs.common.CallRows.{channel_is, channel_set, job_same, keeps_channel, reads_channel}
 use Rattle.monitor.proofs.common.ReaderLists.{held}
 use Rattle.monitor.proofs.common.SideLists.{count}
 use Rattle.spec_machine.proofs.Common.{is_some-map}
@@ -95,7 +95,7 @@ module _ (job : Job) (number a : ℕ) where
       }
 
 -- a channel that is opened writes nothing
-pub keeps_opened : (pending : List (Option PendingVersion)) (job : Job) (number : ℕ) (c : Channel)
+pub keeps_opened : (pending : List (Option PendingVersion)) (job : Job) (number : ℕ) (c : OpenChannel)
     → is_some (slot job.channels number) ≡ false → c.output ≡ None
     → KeepsSides pending pending job (record job { channels = slice_set job.channels number (Some c) })
 keeps_opened pending job number c free none =
@@ -103,18 +103,18 @@ keeps_opened pending job number c free none =
     ∙ by key (slot job.channels number) free)
     (λ all. subst (λ o. AllByRecursion (IsSide pending) (option_to_list o)) (sym none) tt)
   where
-    by : (key : ℕ) (o : Option Channel) → is_some o ≡ false → 0 ≡ count key (option_to_list (side_of o))
+    by : (key : ℕ) (o : Option OpenChannel) → is_some o ≡ false → 0 ≡ count key (option_to_list (side_of o))
     by key None e = refl
     by key (Some x) e = cc e
 
 -- and reads nothing
-pub reads_opened : (live : List (Option LiveVersion)) (job : Job) (number : ℕ) (c : Channel)
+pub reads_opened : (live : List (Option LiveVersion)) (job : Job) (number : ℕ) (c : OpenChannel)
     → is_some (slot job.channels number) ≡ false → c.input ≡ None
     → KeepsReading live live job (record job { channels = slice_set job.channels number (Some c) })
 reads_opened live job number c free none =
     reads_channel live job number c (λ key. ap (λ o. held key (option_to_list o)) none
     ∙ by key (slot job.channels number) free) (λ has i is. absurd (some_none (sym is ∙ none)))
   where
-    by : (key : ℕ) (o : Option Channel) → is_some o ≡ false → 0 ≡ held key (option_to_list (reader_of o))
+    by : (key : ℕ) (o : Option OpenChannel) → is_some o ≡ false → 0 ≡ held key (option_to_list (reader_of o))
     by key None e = refl
     by key (Some x) e = cc e

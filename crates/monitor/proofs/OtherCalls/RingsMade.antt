@@ -8,12 +8,12 @@ use Rattle.spec_machine.specs.declared.call.Reply.{Reply}
 use Rattle.spec_machine.specs.declared.call.Reply.TheVariants.{Done, Refused, NoChannel, AddressCheck}
 use Rattle.retrieval.specs.Common.{mode_number}
 use Rattle.monitor.specs.Common.{UnderKeys, channel_of, job_of, IsRow}
-use Rattle.monitor.specs.declared.channel.Channel.{Channel}
+use Rattle.monitor.specs.declared.channel.OpenChannel.{OpenChannel}
 use Rattle.monitor.specs.declared.job.Job.{Job}
-use Rattle.monitor.proofs.common.Calling.{channel_set, on_row, on_none}
+use Rattle.monitor.proofs.common.CallRows.{channel_set, on_row, on_none}
 use Rattle.spec_machine.specs.Jobs as machine
 
--- what is so at Ok is so where there is no error
+-- what holds at Ok holds if there is no error
 pub ok_gives : {X E P : Type 0} (r : Result X E) → OnOk r P → is_err r ≡ false → P
 ok_gives (Ok x) p e = p
 ok_gives (Err x) p e = cc e
@@ -22,9 +22,9 @@ pub ring_there : (mode header : ℕ) (b : Bool) → b ≡ is_buffered mode → b
     → has_no_ring mode header ≡ false
 ring_there mode header b is buffered some = ap (λ x. not x || (header == 0)) (sym is ∙ buffered) ∙ some
 
-module _ (job : Job) (number : ℕ) (c : Channel) (header count : ℕ) (w : UnderKeys) where
+module _ (job : Job) (number : ℕ) (c : OpenChannel) (header count : ℕ) (w : UnderKeys) where
   -- by whether there is no ring, and by the core that has it
-  abbrev made : Bool → Option (List ℕ) → Reply × machine.Job
+  abbrev made : Bool → Option (List ℕ) → Reply × machine.SpecJob
   made none found = settled (if none then Refused 5 else found_or_not found)
       (machine.with_channel (record (job_of w job) { core = core_or job.core found }) number
       (Some (clean (channel_of w c))))
@@ -62,7 +62,7 @@ module _ (job : Job) (number count : ℕ) where
   outbuf_none none pack serial s n w moment at = on_none s n w job number
       (λ c. of_job s n (sets_up (job_of w job) number c c.output_header count)) none at
 
-  module _ (c : Channel) (there : slot job.channels number ≡ Some c) (job' : Job) (reply : Reply) where
+  module _ (c : OpenChannel) (there : slot job.channels number ≡ Some c) (job' : Job) (reply : Reply) where
     pub inbuf_row : ((w : UnderKeys) → sets_up (job_of w job) number (channel_of w c) c.input_header count
         ≡ (reply, job_of w job')) → IsRow job job' (Inbuf number count) reply
     inbuf_row row pack serial s n w moment at = on_row s n w job job' number c reply

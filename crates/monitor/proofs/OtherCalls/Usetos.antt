@@ -13,10 +13,10 @@ use Rattle.volume.specs.declared.live.LiveVersion.{LiveVersion}
 use Rattle.volume.specs.declared.pending.PendingVersion.{PendingVersion}
 use Rattle.monitor.specs.Common.{IsRow, KeepsSides, KeepsReading, IsSide, UnderKeys, side_of, reader_of, output_of}
 use Rattle.monitor.specs.Common.{channel_of, job_of}
-use Rattle.monitor.specs.declared.channel.Channel.{Channel}
+use Rattle.monitor.specs.declared.channel.OpenChannel.{OpenChannel}
 use Rattle.monitor.specs.declared.output.Output.{Output}
 use Rattle.monitor.specs.declared.job.Job.{Job}
-use Rattle.monitor.proofs.common.Calling.{channel_set, keeps_channel, reads_channel, on_row, on_none}
+use Rattle.monitor.proofs.common.CallRows.{channel_set, keeps_channel, reads_channel, on_row, on_none}
 use Rattle.monitor.proofs.common.ReaderLists.{held}
 use Rattle.monitor.proofs.common.SideLists.{count, each-side}
 use Rattle.spec_machine.specs.Jobs as machine
@@ -28,13 +28,13 @@ module _ (job : Job) (number block : ℕ) where
   useto_none none pack serial s n w moment at = on_none s n w job number
       (λ c. of_job s n (useto (job_of w job) number c block)) none at
 
-  module _ (c : Channel) (there : slot job.channels number ≡ Some c) where
+  module _ (c : OpenChannel) (there : slot job.channels number ≡ Some c) where
     -- the row, by its answer and by what it leaves
-    abbrev by_answer : (UnderKeys) → Reply → machine.Channel → Reply × machine.Job
+    abbrev by_answer : (UnderKeys) → Reply → machine.Channel → Reply × machine.SpecJob
     by_answer w reply done = settled reply (with_channel (job_of w job) number (Some done))
         (stopped_in (job_of w job) number (channel_of w c))
 
-    abbrev answer_for : (UnderKeys) → Option machine.Output → Bool → Reply
+    abbrev answer_for : (UnderKeys) → Option machine.SpecOutput → Bool → Reply
     answer_for w o zero = if is_none o then Refused 5 else if zero then reports (channel_of w c) block_too_large
         else Done
 
@@ -81,7 +81,7 @@ module _ (job : Job) (number block : ℕ) where
 
     -- what it keeps
 
-    same_count : (x : Channel) → ((key : ℕ) → count key (option_to_list x.output) ≡ count key (option_to_list c.output))
+    same_count : (x : OpenChannel) → ((key : ℕ) → count key (option_to_list x.output) ≡ count key (option_to_list c.output))
         → (key : ℕ) → count key (option_to_list (side_of (Some x)))
         ≡ count key (option_to_list (side_of (slot job.channels number)))
     same_count x same key = same key ∙ ap (λ p. count key (option_to_list (side_of p))) (sym there)

@@ -13,18 +13,18 @@ use Rattle.spec_machine.specs.declared.call.Reply.{Reply}
 use Rattle.spec_machine.specs.declared.call.Reply.TheVariants.{Done, Value, Refused, Stopped, NoChannel, AddressCheck}
 use Rattle.spec_machine.specs.declared.call.Reply.TheVariants.{NoJob, NoMemory, Device, Failed, DateRange}
 use Rattle.spec_machine.proofs.Common.{set-slot}
-use Rattle.volume.specs.Common.{as_known, VolumeCore, IsVersionOf, version_under, RestsAt}
+use Rattle.volume.specs.Common.{as_known, MemoryMap, IsVersionOf, version_under, RestsAt}
 use Rattle.retrieval.specs.Common.{VersionState}
 use Rattle.monitor.specs.Common.{handle_read, IsIn, IsAtInput, Ingoing, IsRow, IsState, Serves, AreKeyed, AreReading}
 use Rattle.monitor.specs.Common.{IsTimely, input_of, output_of, job_of, state_of}
 use Rattle.monitor.specs.declared.job.Job.{Job}
 use Rattle.monitor.specs.declared.output.Output.{Output}
-use Rattle.monitor.proofs.common.Answering.{in_state, state_is, row, goes_on, same_files, contrary}
+use Rattle.monitor.proofs.common.EventAnswers.{in_state, state_is, row, goes_on, same_files, contrary}
 use Rattle.monitor.proofs.common.Dropped.{leaves_none, job_live, keeps_keyed}
 use Rattle.monitor.proofs.WriteOut.Outs.{version_there}
 use Rattle.monitor.proofs.ReadIn.Calls.{in_none, in_refused, in_unlisted, row_read, row_ended, row_goes, undecided}
-use Rattle.monitor.proofs.common.ReadingJobs.{job_held, keeps_reading}
-use Rattle.monitor.proofs.common.Serving.{row_is}
+use Rattle.monitor.proofs.common.JobReaders.{job_held, keeps_reading}
+use Rattle.monitor.proofs.common.ServedCalls.{row_is}
 use Rattle.monitor.proofs.ReadIn.Words.{version_held, in_reads, in_keeps}
 use Rattle.monitor.proofs.common.Refusals.{alive_after}
 
@@ -33,7 +33,7 @@ module _ (d d' : DiskState) (reads : OnlyReads d d') (rests : (f : Files File) �
   contents_are : d'.contents ≡ d.contents
   contents_are = same_contents d.contents d'.contents reads.still.contents
 
-  pub state_read : (map : VolumeCore) (jobs : List (Option Job)) (s : State) → IsState d map jobs s
+  pub state_read : (map : MemoryMap) (jobs : List (Option Job)) (s : State) → IsState d map jobs s
       → IsState d' map jobs s
   state_read map jobs s state = record {
     files = rests (without_serials s.files) state.files;
@@ -70,7 +70,7 @@ module _ (d d' : DiskState) (reads : OnlyReads d d') (rests : (f : Files File) �
   quiet_read only_now f at = leaves_still d d' (λ c. StandsOn (pack_of d) c f) only_now reads.still
       (λ c left. rest_settles d (λ x. SettledStandsOn (pack_of d) x f) at c left)
 
-module _ (d d' : DiskState) (map : VolumeCore) (failed : Bool) (jobs : List (Option Job)) (n ch a : ℕ)
+module _ (d d' : DiskState) (map : MemoryMap) (failed : Bool) (jobs : List (Option Job)) (n ch a : ℕ)
     (moment : Moment) (serves : failed ≡ false) (timely : IsTimely d moment) (keyed : AreKeyed map.pending jobs)
     (reading : AreReading map.live jobs) where
   module _ (job job' : Job) (there : slot jobs n ≡ Some job) (jobs' : List (Option Job)) (set : jobs'
@@ -84,7 +84,7 @@ module _ (d d' : DiskState) (map : VolumeCore) (failed : Bool) (jobs : List (Opt
       in_reading = subst (AreReading map.live) (sym set) (keeps_reading map.live map.live jobs n job job' reading there
           (in_reads d d' map job job' ch a reply is map.live))
 
-    -- the disk as it was before, in core as it is after
+    -- from the disk and the jobs as they were before to the jobs as they are after
     abbrev Leads : Reply → Type 0
     Leads reply = (old : Service) → Serves d map failed jobs old → (new : Service) × Serves d map failed jobs' new
         × Answers (pack_of d) old (Calls n (In ch a) moment) reply new
@@ -99,7 +99,7 @@ module _ (d d' : DiskState) (map : VolumeCore) (failed : Bool) (jobs : List (Opt
         ∙ ap (λ j. slice_set jobs n (Some j)) same) here) serves
 
     module _ (honest : d'.honest) (before : d.honest) where
-      -- What a channel reads stands on the disk, as the version that it writes or as the one that is held for it.
+      -- What a channel reads is on the disk, as the version that it writes or as the one that is pinned for it.
       module _ (at : IsAtInput job ch) (s : State) (state : IsState d map jobs s) where
         abbrev body_of : Option Output → List ℕ
         body_of o = body_read (input_of state.under at.input) (option_map (output_of state.under) o)
@@ -123,7 +123,7 @@ module _ (d d' : DiskState) (map : VolumeCore) (failed : Bool) (jobs : List (Opt
                 let written = state.versions o.pending.key found.0 found.1 in
                 (found.0.version, ap (option_map (λ x. x.version)) found.1, written.words, written.body)
 
-      -- a call that the machine goes on from, in the same files
+      -- a call after which the machine continues, with the same files
       goes : (reply : Reply) (is : IsIn d d' map job job' ch a reply) (s : State) (state : IsState d map jobs s)
           → ((serial : ℕ) → step (pack_of d) serial (state_of s.files state.under jobs) (Calls n (In ch a) moment)
           ≡ (reply, state_of s.files state.under jobs'))
@@ -199,7 +199,7 @@ module _ (d d' : DiskState) (map : VolumeCore) (failed : Bool) (jobs : List (Opt
       in_leads DateRange is device lies = absurd is
 
       -- the disk was only read meanwhile
-      module _ (map' : VolumeCore) (failed' : Bool) (core : map' ≡ map) (reads : OnlyReads d d')
+      module _ (map' : MemoryMap) (failed' : Bool) (core : map' ≡ map) (reads : OnlyReads d d')
           (rests : (f : Files File) → RestsAt d f → RestsAt d' f) where
         abbrev Answered : Reply → Service → Type 0
         Answered reply old = (new : Service) × Serves d' map' failed' jobs' new

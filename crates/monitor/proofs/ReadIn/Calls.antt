@@ -9,7 +9,7 @@ use Rattle.spec_machine.specs.Common.{dump_in_answer, ring_in_answer, areas_or_n
 use Rattle.spec_machine.specs.Common.{moved_on, State, slot, with_channel, cleared, end_of_file, settled, clean}
 use Rattle.spec_machine.specs.Common.{stopped_in, is_buffered, byte_size, data_words, in_ready, is_plain, step}
 use Rattle.spec_machine.specs.Common.{on_channel, of_job, last_date}
-use Rattle.spec_image.specs.Common.{blocks_of, Files, pack_of, Version}
+use Rattle.spec_image.specs.Common.{blocks_of, Files, pack_of, SpecVersion}
 use Rattle.spec_machine.specs.declared.area.Area.{Area}
 use Rattle.spec_machine.specs.declared.call.Call.TheVariants.{In}
 use Rattle.spec_machine.specs.declared.call.Event.TheVariants.{Call as Calls}
@@ -18,12 +18,12 @@ use Rattle.spec_machine.specs.declared.call.Reply.TheVariants.{Done, Refused, St
 use Rattle.retrieval.specs.Common.{mode_number}
 use Rattle.monitor.specs.Common.{Asked, areas_asked, buffer_asked, names_none, asked_at, read_on, IsRow, UnderKeys}
 use Rattle.monitor.specs.Common.{input_of, output_of, channel_of, job_of, state_of}
-use Rattle.monitor.specs.declared.channel.Channel.{Channel}
+use Rattle.monitor.specs.declared.channel.OpenChannel.{OpenChannel}
 use Rattle.monitor.specs.declared.input.Input.{Input}
 use Rattle.monitor.specs.declared.job.Job.{Job}
-use Rattle.monitor.proofs.common.Answering.{job_set, called, settled_reply}
-use Rattle.monitor.proofs.ReadIn.Asking.{asked_of, none_of, asks_areas, asks_buffer}
-use Rattle.monitor.proofs.common.Calling.{channel_is, channel_set, on_row, on_none}
+use Rattle.monitor.proofs.common.EventAnswers.{job_set, called, settled_reply}
+use Rattle.monitor.proofs.ReadIn.AskedWords.{asked_of, none_of, asks_areas, asks_buffer}
+use Rattle.monitor.proofs.common.CallRows.{channel_is, channel_set, on_row, on_none}
 use Rattle.spec_machine.specs.Jobs as machine
 
 -- there are words
@@ -57,14 +57,14 @@ module _ (job : Job) (ch a : ℕ) where
   in_none none pack serial s n w moment at = on_none s n w job ch (λ c. of_job s n (reads (job_of w job) ch c a))
       none at
 
-  module _ (c : Channel) (there : slot job.channels ch ≡ Some c) where
+  module _ (c : OpenChannel) (there : slot job.channels ch ≡ Some c) where
     -- the channel, with these sides
-    abbrev with_sides : UnderKeys → Option machine.Input → Option machine.Output → machine.Channel
+    abbrev with_sides : UnderKeys → Option machine.SpecInput → Option machine.SpecOutput → machine.Channel
     with_sides w i o = record (channel_of w c) { input = i; output = o }
 
     -- the row, by its sides, the core and the count of words that it asks for, and its answer
-    abbrev by_answer : UnderKeys → Option machine.Input → Option machine.Output → List ℕ → ℕ → Reply
-        → Reply × machine.Job
+    abbrev by_answer : UnderKeys → Option machine.SpecInput → Option machine.SpecOutput → List ℕ → ℕ → Reply
+        → Reply × machine.SpecJob
     by_answer w i o core count reply =
         settled reply
         (with_channel (record (job_of w job) { core = core }) ch
@@ -74,8 +74,8 @@ module _ (job : Job) (ch a : ℕ) where
         (stopped_in (job_of w job) ch (channel_of w c))
 
     -- by whether it lacks a header, whether it has buffers, its ring and what the list names
-    abbrev by_core : UnderKeys → Option machine.Input → Option machine.Output → Bool → Bool → Option (List ℕ)
-        → Option (List Area) → Reply × machine.Job
+    abbrev by_core : UnderKeys → Option machine.SpecInput → Option machine.SpecOutput → Bool → Bool → Option (List ℕ)
+        → Option (List Area) → Reply × machine.SpecJob
     by_core w i o lacks buffered ready listed =
         by_answer w i o
         (if buffered then buffer_filled job.core (channel_of w c) ready (words_ahead i o)
@@ -94,7 +94,7 @@ module _ (job : Job) (ch a : ℕ) where
     abbrev ready : Option (List ℕ)
     ready = in_ready job.core c.input_header (byte_size (mode_number c.mode))
 
-    abbrev side_out : UnderKeys → Option machine.Output
+    abbrev side_out : UnderKeys → Option machine.SpecOutput
     side_out w = option_map (output_of w) c.output
 
     pub in_refused : (c.input ≡ None) ⊎ (lacks ≡ true) → IsRow job job (In ch a) (Refused 5)
@@ -109,14 +109,14 @@ module _ (job : Job) (ch a : ℕ) where
             none
             ∙ without (option_map (input_of w) c.input)
           where
-            without : (i : Option machine.Input) → by_core w i (side_out w) true buffered ready (dump_list job.core a)
+            without : (i : Option machine.SpecInput) → by_core w i (side_out w) true buffered ready (dump_list job.core a)
                 ≡ (Refused 5, job_of w job)
             without None = refl
             without (Some i) = refl
 
     module _ (i : Input) (side : c.input ≡ Some i) (has : lacks ≡ false) where
       -- the row of a channel with an input side
-      abbrev by_mode : UnderKeys → Bool → Option (List ℕ) → Option (List Area) → Reply × machine.Job
+      abbrev by_mode : UnderKeys → Bool → Option (List ℕ) → Option (List Area) → Reply × machine.SpecJob
       by_mode w b ring listed = by_core w (Some (input_of w i)) (side_out w) false b ring listed
 
       on_side : (w : UnderKeys) → reads (job_of w job) ch (channel_of w c) a
@@ -143,14 +143,14 @@ module _ (job : Job) (ch a : ℕ) where
 
       -- Core has what is asked for; what the channel reads may be what its output side writes.
       module _ (k : Asked) (asks : asked_at job.core c a ≡ Some k) (w : UnderKeys) where
-        abbrev side_in : Option machine.Input
+        abbrev side_in : Option machine.SpecInput
         side_in = Some (input_of w i)
 
         abbrev ahead : List ℕ
         ahead = words_ahead side_in (side_out w)
 
         -- the row, by what is asked for
-        abbrev by_asked : Asked → Reply × machine.Job
+        abbrev by_asked : Asked → Reply × machine.SpecJob
         by_asked x = by_answer w side_in (side_out w) (x.filled ahead) x.count
             (asked_answer (channel_of w c) x.none ahead)
 
@@ -224,7 +224,7 @@ module _ (job : Job) (ch a : ℕ) where
             ∙ answer_undecided (channel_of w c) k.none ahead
 
         module _ (d : DiskState) (jobs : List (Option Job)) (n : ℕ) (here : slot jobs n ≡ Some job) (moment : Moment)
-            (timely : moment.date ≤ last_date (pack_of d).layout) (serial : ℕ) (files : Files Version) where
+            (timely : moment.date ≤ last_date (pack_of d).layout) (serial : ℕ) (files : Files SpecVersion) where
           abbrev t : State
           t = state_of files w jobs
 

@@ -9,12 +9,12 @@ use Rattle.spec_machine.specs.declared.area.Area.{Area}
 use Rattle.spec_machine.specs.Common.{placed, dealt, word_count}
 use Rattle.spec_image.specs.Common.{block_start, words_from}
 use Rattle.retrieval.specs.Common.{VersionState}
-use Rattle.volume.specs.Common.{VolumeCore, version_under, IsReadable}
+use Rattle.volume.specs.Common.{MemoryMap, version_under, IsReadable}
 use Rattle.volume.specs.declared.handles.VersionHandle.{VersionHandle}
 use Rattle.volume.specs.declared.handles.VersionHandle.TheVariants.{Pinned, Pending}
 
 -- what may be read is there
-pub version_there : (c : VolumeCore) (handle : VersionHandle) → IsReadable c handle
+pub version_there : (c : MemoryMap) (handle : VersionHandle) → IsReadable c handle
     → (v : VersionState) × (version_under c handle ≡ Some v)
 version_there c (Pinned pin) (v, there, some) = (v.version, ap (option_map (λ x. x.version)) there)
 version_there c (Pending pending) (p, there) = (p.version, ap (option_map (λ x. x.version)) there)
@@ -43,7 +43,7 @@ no_area (area ∷ areas) some none =
     let first : 0 < area.count = All-head (λ area. 0 < area.count) area areas some in
     absurd (omega (arith, first, none))
 
--- What was read of a body, of so many words at most from a block on.
+-- What was read of a body: at most this many words, from a block.
 module _ (most : ℕ) (body : List ℕ) (words block : ℕ) (long : length body ≡ words) where
   -- as many words as the body has there
   pub as_many_read : (n : ℕ) → n ≡ min most (words - block_start block) → n ≡ min most (length (words_from body block))
@@ -51,6 +51,6 @@ module _ (most : ℕ) (body : List ℕ) (words block : ℕ) (long : length body 
       is ∙ ap (λ m. min most (m - block_start block)) (sym long)
       ∙ ap (min most) (sym (length-drop (block_start block) body))
 
-  -- where some are asked for and there are none, the body has none
+  -- if some are asked for and there are none, the body has none
   pub ends_before : 0 < most → min most (words - block_start block) ≡ 0 → words_from body block ≡ []
   ends_before some none = drop_all (block_start block) body (omega (arith, long, some, none))

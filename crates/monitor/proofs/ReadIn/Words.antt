@@ -15,7 +15,7 @@ use Rattle.spec_machine.specs.declared.call.Reply.TheVariants.{Done, Value, Refu
 use Rattle.spec_machine.specs.declared.call.Reply.TheVariants.{NoJob, NoMemory, Device, Failed, DateRange}
 use Rattle.spec_image.proofs.Common.{some_same, some_none, times_head}
 use Rattle.retrieval.specs.Common.{VersionState}
-use Rattle.volume.specs.Common.{IsWholeVersion, VolumeCore, as_known, pending_at, IsWholePending, IsWholeCore}
+use Rattle.volume.specs.Common.{IsWholeVersion, MemoryMap, as_known, pending_at, IsWholePending, IsWholeMemory}
 use Rattle.volume.specs.Common.{slot as version_at, version_under, IsReadable}
 use Rattle.volume.specs.declared.handles.VersionHandle.{VersionHandle}
 use Rattle.volume.specs.declared.handles.VersionHandle.TheVariants.{Pinned, Pending}
@@ -24,22 +24,22 @@ use Rattle.volume.specs.declared.pending.PendingVersion.{PendingVersion}
 use Rattle.monitor.specs.Common.{Asked, handle_read, read_on, IsIn, readers_of, KeepsSides, KeepsReading, present}
 use Rattle.monitor.specs.Common.{HasReaders, IsReader, IsSide, side_of, sides_in, keys_of, reader_of, readers_in}
 use Rattle.monitor.specs.Common.{pins_of}
-use Rattle.monitor.specs.declared.channel.Channel.{Channel}
+use Rattle.monitor.specs.declared.channel.OpenChannel.{OpenChannel}
 use Rattle.monitor.specs.declared.input.Input.{Input}
 use Rattle.monitor.specs.declared.output.Output.{Output}
 use Rattle.monitor.specs.declared.job.Job.{Job}
 use Rattle.monitor.specs.declared.read_in.ReadIn.{ReadIn}
-use Rattle.monitor.proofs.common.Calling.{keeps_same, keeps_channel, reads_same}
+use Rattle.monitor.proofs.common.CallRows.{keeps_same, keeps_channel, reads_same}
 use Rattle.monitor.proofs.common.Dropped.{same_or_not}
 use Rattle.monitor.proofs.WriteOut.Outs.{version_there}
 use Rattle.monitor.proofs.common.ReaderLists.{held, held-channel}
-use Rattle.monitor.proofs.common.ReadingJobs.{slot_set, length-slice_set}
+use Rattle.monitor.proofs.common.JobReaders.{slot_set, length-slice_set}
 use Rattle.monitor.proofs.common.SideLists.{count, each-side}
 use Rattle.monitor.proofs.common.SideSums.{all_at}
 use Rattle.monitor.specs.declared.read_in.ReadIn.TheVariants as read_in
 
 -- A channel with an input side.
-module _ (live : List (Option LiveVersion)) (job : Job) (number : ℕ) (c : Channel) (there : slot job.channels number
+module _ (live : List (Option LiveVersion)) (job : Job) (number : ℕ) (c : OpenChannel) (there : slot job.channels number
     ≡ Some c) (i : Input) (side : c.input ≡ Some i) where
   side_is : reader_of (slot job.channels number) ≡ Some i
   side_is = ap reader_of there ∙ side
@@ -63,8 +63,8 @@ module _ (live : List (Option LiveVersion)) (job : Job) (number : ℕ) (c : Chan
   pub next_first : HasReaders job → 0 < i.next
   next_first has = has.each number c there i side
 
--- The version that it reads: what its output side writes while that is open, else the one that is held.
-module _ (core : VolumeCore) (job : Job) (number : ℕ) (c : Channel) (there : slot job.channels number ≡ Some c)
+-- The version that it reads: what its output side writes while that is open, else the one that is pinned.
+module _ (core : MemoryMap) (job : Job) (number : ℕ) (c : OpenChannel) (there : slot job.channels number ≡ Some c)
     (i : Input) (side : c.input ≡ Some i)
     (held : (key : ℕ) → times key (pins_of (readers_in (Some job))) ≤ readers_of (version_at core.live key))
     (live : (key : ℕ) → times key (keys_of (sides_in (Some job))) ≤ present (pending_at core.pending key)) where
@@ -76,7 +76,7 @@ module _ (core : VolumeCore) (job : Job) (number : ℕ) (c : Channel) (there : s
       by (Some o) writes = version_there core.pending job number c there o writes live
 
 -- a version has no more words than a file
-pub few_words : (size : ℕ) (core : VolumeCore) (handle : VersionHandle) → IsWholeCore size core → (v : VersionState)
+pub few_words : (size : ℕ) (core : MemoryMap) (handle : VersionHandle) → IsWholeMemory size core → (v : VersionState)
     → version_under core handle ≡ Some v → v.words ≤ most_blocks * 128
 few_words size core (Pinned pin) whole v there = by (version_at core.live pin.key) refl there
   where
@@ -99,7 +99,7 @@ pub read_fits : (words next n : ℕ) → 0 < next → next < 2 ^ 32 → words �
 read_fits words next zero first small few fits = omega arith
 read_fits words next (suc n) first small few fits = grind arith
 
--- the words from a block on, by how many the body has
+-- the words from a block, by how many the body has
 pub words_left : (words next : ℕ) → length (words_from (replicate words 0) next) ≡ words - block_start next
 words_left words next = length-drop (block_start next) (replicate words 0)
     ∙ ap (λ m. m - block_start next) (length-replicate words 0)
@@ -119,7 +119,7 @@ few_named core a areas listed = by (areas_from core 512 a) listed
     by None listed = absurd (some_none (sym listed))
     by (Some found) listed = below found areas (nat_lt 131072 (word_count found)) refl listed
 
--- core has what is asked for, where that isn't what is answered
+-- core has what is asked for, unless AddressCheck is the answer
 pub is_asked : (result other : ReadIn) (asked : Option Asked) → result ≡ other
     → (other ≡ read_in.AddressCheck → ⊥) → (result ≡ read_in.AddressCheck) ↔ (asked ≡ None)
     → (k : Asked) × (asked ≡ Some k)
@@ -129,8 +129,8 @@ is_asked result other (Some k) is differs exact = (k, refl)
 -- What the call leaves of its job.
 
 -- a channel is another one, which writes the same version or none
-keeps_sides : (pending : List (Option PendingVersion)) (job : Job) (number : ℕ) (c : Channel)
-    → slot job.channels number ≡ Some c → (x : Channel) (core : List ℕ) → c.output ≡ x.output
+keeps_sides : (pending : List (Option PendingVersion)) (job : Job) (number : ℕ) (c : OpenChannel)
+    → slot job.channels number ≡ Some c → (x : OpenChannel) (core : List ℕ) → c.output ≡ x.output
     → KeepsSides pending pending job (record job { core = core; channels = slice_set job.channels number (Some x) })
 keeps_sides pending job number c there x core same =
     let keeps = keeps_channel pending job number (Some x)
@@ -141,8 +141,8 @@ keeps_sides pending job number c there x core same =
     record { once = keeps.once; known = keeps.known; each = keeps.each }
 
 -- a channel is another one, which reads the same version
-reads_channel : (live : List (Option LiveVersion)) (job : Job) (number : ℕ) (c : Channel)
-    → slot job.channels number ≡ Some c → (x : Channel) (core : List ℕ)
+reads_channel : (live : List (Option LiveVersion)) (job : Job) (number : ℕ) (c : OpenChannel)
+    → slot job.channels number ≡ Some c → (x : OpenChannel) (core : List ℕ)
     → ((key : ℕ) → held key (option_to_list x.input) ≡ held key (option_to_list c.input)) → (IsReader c → IsReader x)
     → KeepsReading live live job (record job { core = core; channels = slice_set job.channels number (Some x) })
 reads_channel live job number c there x core same still = record {
@@ -159,8 +159,8 @@ reads_channel live job number c there x core same still = record {
   };
 }
 
--- once words are read
-module _ (job : Job) (number : ℕ) (c : Channel) (there : slot job.channels number ≡ Some c) (i : Input) (side : c.input
+-- after words are read
+module _ (job : Job) (number : ℕ) (c : OpenChannel) (there : slot job.channels number ≡ Some c) (i : Input) (side : c.input
     ≡ Some i) (count : ℕ) where
   still_reads : IsReader c → IsReader (read_on c i count)
   still_reads was j is =
@@ -176,7 +176,7 @@ module _ (job : Job) (number : ℕ) (c : Channel) (there : slot job.channels num
       (λ key. ap (λ o. held key (option_to_list o)) (sym side)) still_reads
 
 -- by its answer
-module _ (d d' : DiskState) (map : VolumeCore) (job job' : Job) (number a : ℕ) where
+module _ (d d' : DiskState) (map : MemoryMap) (job job' : Job) (number a : ℕ) where
   pub in_reads : (reply : Reply) → IsIn d d' map job job' number a reply → (live : List (Option LiveVersion))
       → KeepsReading live live job job'
   in_reads Done (read, moved, core, is, moves) live =

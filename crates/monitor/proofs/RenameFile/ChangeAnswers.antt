@@ -1,4 +1,4 @@
--- A job may change a file, or is refused, as the machine says of the old place of a RENAME.
+-- A job may change a file, or is refused, as by the machine at the old place of a RENAME.
 use Rattle.std.proofs.Common.{◌≡◌, ◌<◌, ℕ, Bool, true, false, Option, None, Some, Result, Ok, Err, refl, sym, ap}
 use Rattle.std.proofs.Common.{subst, ◌∙◌, arith}
 use Rattle.std.proofs.lemmas.Bool.Decides.{nat_tests}
@@ -6,7 +6,7 @@ use Rattle.std.specs.Prelude.{◌==◌, ◌&&◌, ◌||◌, not, if◌then◌els
 use Rattle.std.specs.Cmp.{nat_cmp_total}
 use Rattle.words36.specs.declared.names.FileName.{FileName}
 use Rattle.blockdisk.specs.Common.{DiskState}
-use Rattle.spec_image.specs.Common.{IsFileEntry, items, File, Files, Directory, Place, map_directory, get, Version}
+use Rattle.spec_image.specs.Common.{IsFileEntry, items, File, Files, Directory, Place, map_directory, get, SpecVersion}
 use Rattle.spec_image.specs.Common.{without_serials, file_in, file_at, Pack, StoredFile, StoredDirectory}
 use Rattle.spec_image.specs.Common.{directory_of, place_of}
 use Rattle.spec_machine.specs.Common.{State, place_at, has_no_directory, is_absent, digit_for_directory}
@@ -18,18 +18,18 @@ use Rattle.spec_image.specs.declared.code.ErrorCode.TheVariants.{NotFound, Prote
 use Rattle.spec_machine.specs.declared.call.Reply.{Reply}
 use Rattle.spec_machine.specs.declared.call.Reply.TheVariants.{Done, Refused}
 use Rattle.spec_image.proofs.Common.{some_none, get-map_values, get-from_entries, name_total, name_exact}
-use Rattle.volume.specs.Common.{claims, Known, VolumeCore, IsSoundCore}
-use Rattle.volume.proofs.common.Answering.{Holds, rest_holds, all_at_place}
+use Rattle.volume.specs.Common.{claims, CurrentMap, MemoryMap, IsSoundMemory}
+use Rattle.volume.proofs.common.Answers.{Holds, rest_holds, all_at_place}
 use Rattle.volume.proofs.common.Lookups.{first_place}
 use Rattle.monitor.specs.Common.{may_become, is_other, changes_file, allowed_change, asked_protection, change_answer}
 use Rattle.monitor.specs.Common.{IsChangeAnswer, IsKnown, found_file, found_in, named_in}
 use Rattle.monitor.specs.declared.found.Found.{Found}
 use Rattle.monitor.proofs.common.Growths.{shown_at}
-use Rattle.monitor.proofs.common.HeldRooms.{positive}
+use Rattle.monitor.proofs.common.PinnedRooms.{positive}
 use Rattle.spec_machine.specs.Jobs as machine
 
 -- A file of a disk has a name.
-named_file : (d : DiskState) (k : Known) (files : Files File) → Holds d k files → (ppn : ℕ) (name : FileName)
+named_file : (d : DiskState) (k : CurrentMap) (files : Files File) → Holds d k files → (ppn : ℕ) (name : FileName)
     (file : File) → named_in (get files ppn) name ≡ Some file → 0 < name.name
 named_file d k files holds ppn name file is =
     by (get holds.map.directories ppn) refl
@@ -68,7 +68,7 @@ forbids false protects deletes own p = refl
 forbids true protects true own p = refl
 forbids true protects false own p = twice (not (own == p) && not protects)
 
--- what the machine asks of a file that there is
+-- what the machine checks of a file that is there
 abbrev asked_of : Bool → Bool → Reply
 asked_of forbidden claimed = if forbidden then Refused 2 else if claimed then Refused 3 else Done
 
@@ -81,7 +81,7 @@ of_file true true = refl
 of_file true false = refl
 
 -- and of a place, by whether names may be looked up there
-abbrev asked_in : machine.Job → ℕ → ℕ → Bool → Bool → Option Version → Reply
+abbrev asked_in : machine.SpecJob → ℕ → ℕ → Bool → Bool → Option SpecVersion → Reply
 asked_in job e owner claimed look was =
     if not look then Refused 2
     else if is_none was then Refused 0
@@ -100,10 +100,10 @@ allowed_is : (p who owner : ℕ) (is_zero : Bool) (protection : Option ℕ) (cla
 allowed_is p who owner is_zero protection claimed None = refl
 allowed_is p who owner is_zero protection claimed (Some f) = refl
 
-in_directory : (job : machine.Job) (e owner : ℕ) (is_zero claimed look : Bool) (was : Option Version)
-    → ((x : Version) → was ≡ Some x → is_zero ≡ false)
+in_directory : (job : machine.SpecJob) (e owner : ℕ) (is_zero claimed look : Bool) (was : Option SpecVersion)
+    → ((x : SpecVersion) → was ≡ Some x → is_zero ≡ false)
     → IsChangeAnswer (allowed_in job.ppn owner is_zero (asked_protection job e) claimed look
-    (option_map (λ (v : Version). v.file) was)) (asked_in job e owner claimed look was)
+    (option_map (λ (v : SpecVersion). v.file) was)) (asked_in job e owner claimed look was)
 in_directory job e owner is_zero claimed false None named = refl
 in_directory job e owner is_zero claimed false (Some v) named = refl
 in_directory job e owner is_zero claimed true None named = refl
@@ -118,16 +118,16 @@ in_directory job e owner is_zero claimed true (Some v) named =
     (subst (λ b. IsChangeAnswer (changes_or_not may claimed) (asked_of b claimed)) (sym forbidden)
     (of_file may claimed))
 
--- by what there is of a directory
-abbrev asked : machine.Job → ℕ → ℕ → FileName → Bool → Option (Directory Version) → Reply
+-- by the directory, if there is one
+abbrev asked : machine.SpecJob → ℕ → ℕ → FileName → Bool → Option (Directory SpecVersion) → Reply
 asked job e owner name claimed o = if is_none o then Refused 1
     else asked_in job e owner claimed (may_look (digit_for_directory job owner o)) (file_in o name)
 
-abbrev shown : Directory Version → Directory File
+abbrev shown : Directory SpecVersion → Directory File
 shown d = map_directory (λ v. v.file) d
 
-asked_is : (job : machine.Job) (e owner : ℕ) (name : FileName) (claimed : Bool) (o : Option (Directory Version))
-    → ((x : Version) → file_in o name ≡ Some x → (name.name == 0) ≡ false)
+asked_is : (job : machine.SpecJob) (e owner : ℕ) (name : FileName) (claimed : Bool) (o : Option (Directory SpecVersion))
+    → ((x : SpecVersion) → file_in o name ≡ Some x → (name.name == 0) ≡ false)
     → IsChangeAnswer (allowed_change (found_in (option_map shown o) name) job.ppn owner (name.name == 0)
     (asked_protection job e) claimed) (asked job e owner name claimed o)
 asked_is job e owner name claimed None named = refl
@@ -135,21 +135,21 @@ asked_is job e owner name claimed (Some d) named =
     let look = may_look (directory_digit d.protection job.ppn owner) in
     subst (λ r. IsChangeAnswer r (asked job e owner name claimed (Some d)))
     (sym (ap (λ f. allowed_change (found_file d.protection f) job.ppn owner (name.name == 0)
-    (asked_protection job e) claimed) (get-map_values name_total (λ (v : Version). v.file) d.files name)
+    (asked_protection job e) claimed) (get-map_values name_total (λ (v : SpecVersion). v.file) d.files name)
     ∙ allowed_is d.protection job.ppn owner (name.name == 0) (asked_protection job e) claimed
-    (option_map (λ (v : Version). v.file) (get d.files name))))
+    (option_map (λ (v : SpecVersion). v.file) (get d.files name))))
     (in_directory job e owner (name.name == 0) claimed look (get d.files name) named)
 
 -- a file as it is shown
-file_shown : (o : Option (Directory Version)) (name : FileName) (x : Version) → file_in o name ≡ Some x
+file_shown : (o : Option (Directory SpecVersion)) (name : FileName) (x : SpecVersion) → file_in o name ≡ Some x
     → named_in (option_map shown o) name ≡ Some x.file
 file_shown None name x is = absurd (some_none (sym is))
-file_shown (Some d) name x is = get-map_values name_total (λ (v : Version). v.file) d.files name
-    ∙ ap (option_map (λ (v : Version). v.file)) is
+file_shown (Some d) name x is = get-map_values name_total (λ (v : SpecVersion). v.file) d.files name
+    ∙ ap (option_map (λ (v : SpecVersion). v.file)) is
 
-pub change_answered : (d : DiskState) (map : VolumeCore) (s : State) → IsKnown d map s → IsSoundCore d map false
+pub change_answered : (d : DiskState) (map : MemoryMap) (s : State) → IsKnown d map s → IsSoundMemory d map false
     → d.honest
-    → (job : machine.Job) (e ppn : ℕ) (name : FileName)
+    → (job : machine.SpecJob) (e ppn : ℕ) (name : FileName)
     → IsChangeAnswer (allowed_change (found_in (get (without_serials s.files) ppn) name) job.ppn ppn (name.name == 0)
     (asked_protection job e) (claims map.pending (place_of ppn name))) (change_answer s job e (place_of ppn name))
 change_answered d map s known sound honest job e ppn name =
@@ -164,9 +164,9 @@ change_answered d map s known sound honest job e ppn name =
     x.file (ap (λ o. named_in o name) (shown_at s.files ppn) ∙ file_shown (get s.files ppn) name x is)))))
 
 -- The same of what is found, and asked for.
-pub found_answered : (d : DiskState) (map : VolumeCore) (s : State) → IsKnown d map s → IsSoundCore d map false
+pub found_answered : (d : DiskState) (map : MemoryMap) (s : State) → IsKnown d map s → IsSoundMemory d map false
     → d.honest
-    → (job : machine.Job) (e ppn : ℕ) (name : FileName) (who word : ℕ) (protection : Option ℕ) (found : Found)
+    → (job : machine.SpecJob) (e ppn : ℕ) (name : FileName) (who word : ℕ) (protection : Option ℕ) (found : Found)
     (claimed : Bool) (result : Result (Unit {0}) ErrorCode)
     → result ≡ allowed_change found who ppn (word == 0) protection claimed
     → found ≡ found_in (get (without_serials s.files) ppn) name → job.ppn ≡ who → word ≡ name.name
@@ -178,7 +178,7 @@ found_answered d map s known sound honest job e ppn name who word protection fou
     (sym (is ∙ (λ i. allowed_change (seen i) (sym same i) ppn (zero i == 0) (asks i) (claims_it i))))
     (change_answered d map s known sound honest job e ppn name)
 
--- What a RENAME answers begins so.
+-- The answer of a RENAME begins in this way.
 
 goes_on : (a b c d e : Bool) (next : Reply)
     → (if a then Refused 1 else if b then Refused 2 else if c then Refused 0 else if d then Refused 2
@@ -212,7 +212,7 @@ no_longer_absent false true c d e is = cc is
 no_longer_absent false false true d e is = cc is
 no_longer_absent false false false d e is = refl
 
-module _ (s : State) (job : machine.Job) (e : ℕ) (old : Place) where
+module _ (s : State) (job : machine.SpecJob) (e : ℕ) (old : Place) where
   pub rename_goes_on : (pack : Pack) → change_answer s job e old ≡ Done → rename_from pack s job e old
       ≡ (if deletes_at job e then Done else move_answer pack s job old (place_at job e))
   rename_goes_on pack = goes_on (has_no_directory s old) (not (may_look (directory_digit_at s job old)))
@@ -226,11 +226,11 @@ module _ (s : State) (job : machine.Job) (e : ℕ) (old : Place) where
       (if deletes_at job e then Done else move_answer pack s job old (place_at job e)) code
 
   -- the file is there
-  pub changed_there : change_answer s job e old ≡ Done → (x : Version) × (file_at s.files old ≡ Some x)
+  pub changed_there : change_answer s job e old ≡ Done → (x : SpecVersion) × (file_at s.files old ≡ Some x)
   changed_there is = by (file_at s.files old) (no_longer_absent (has_no_directory s old)
       (not (may_look (directory_digit_at s job old))) (is_absent s old) (is_forbidden s job e old)
       (is_claimed s old) is)
     where
-      by : (was : Option Version) → is_none was ≡ false → (x : Version) × (was ≡ Some x)
+      by : (was : Option SpecVersion) → is_none was ≡ false → (x : SpecVersion) × (was ≡ Some x)
       by None none = cc none
       by (Some x) none = (x, refl)

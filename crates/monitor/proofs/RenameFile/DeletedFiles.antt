@@ -4,7 +4,7 @@ use Rattle.std.specs.Prelude.{option_map}
 use Rattle.std.specs.Cmp.{nat_cmp_total}
 use Rattle.std.specs.FinMap.{nat_cmp-IsAntisymmetric}
 use Rattle.spec_image.specs.Common.{File, Files, Directory, Place, map_directory, get, insert, remove, values}
-use Rattle.spec_image.specs.Common.{map_values, Version, without_serials, file_in, file_at, without_file}
+use Rattle.spec_image.specs.Common.{map_values, SpecVersion, without_serials, file_in, file_at, without_file}
 use Rattle.spec_image.specs.Common.{without_file_in}
 use Rattle.spec_machine.specs.Common.{has_serial, HaveDistinctSerials}
 use Rattle.spec_image.proofs.Common.{same_or_other, get-insert_same, get-insert_other, get-remove_other}
@@ -12,20 +12,20 @@ use Rattle.spec_image.proofs.Common.{map_values-insert, map_values-remove, sum-i
 use Rattle.spec_image.proofs.Common.{name_total, name_exact, directory_of_file}
 use Rattle.volume.specs.Common.{files_without, files_removed}
 use Rattle.monitor.proofs.common.Growths.{shown_at}
-use Rattle.monitor.proofs.common.HeldSerials.{counts_one}
+use Rattle.monitor.proofs.common.PinnedSerials.{counts_one}
 use Rattle.monitor.proofs.common.Copies.{with_serial, copies, none_copies, copies_none, distinct_few, few_distinct}
 use Rattle.monitor.proofs.common.Copies.{versions_in, copies-files}
 
 -- The files alone.
 
-abbrev shown : Directory Version → Directory File
+abbrev shown : Directory SpecVersion → Directory File
 shown d = map_directory (λ v. v.file) d
 
-pub files_left : (files : Files Version) (place : Place)
+pub files_left : (files : Files SpecVersion) (place : Place)
     → without_serials (without_file files place) ≡ files_removed (without_serials files) place.ppn place.name
 files_left files place = by (get files place.ppn) refl
   where
-    by : (o : Option (Directory Version)) → get files place.ppn ≡ o → without_serials (without_file_in o files place)
+    by : (o : Option (Directory SpecVersion)) → get files place.ppn ≡ o → without_serials (without_file_in o files place)
         ≡ files_without (get (without_serials files) place.ppn) (without_serials files) place.ppn place.name
     by None is = ap (λ o. files_without o (without_serials files) place.ppn place.name)
         (sym (shown_at files place.ppn ∙ ap (option_map shown) is))
@@ -36,21 +36,21 @@ files_left files place = by (get files place.ppn) refl
         (λ i. record {
           protection = d.protection;
           quota = d.quota;
-          files = map_values-remove name_total name_exact (λ (x : Version). x.file) d.files place.name i;
+          files = map_values-remove name_total name_exact (λ (x : SpecVersion). x.file) d.files place.name i;
         })
         ∙ ap (λ o. files_without o (without_serials files) place.ppn place.name)
         (sym (shown_at files place.ppn ∙ ap (option_map shown) is))
 
 -- another place
-pub left_elsewhere : (files : Files Version) (place q : Place) → (q ≡ place → ⊥)
+pub left_elsewhere : (files : Files SpecVersion) (place q : Place) → (q ≡ place → ⊥)
     → file_at (without_file files place) q ≡ file_at files q
 left_elsewhere files place q apart = by (get files place.ppn) refl
   where
-    by : (o : Option (Directory Version)) → get files place.ppn ≡ o → file_at (without_file_in o files place) q
+    by : (o : Option (Directory SpecVersion)) → get files place.ppn ≡ o → file_at (without_file_in o files place) q
         ≡ file_at files q
     by None is = refl
     by (Some d) is =
-        let new : Directory Version = record d { files = remove d.files place.name } in
+        let new : Directory SpecVersion = record d { files = remove d.files place.name } in
         ⊎_elim
         (λ here.
         ap (λ o. file_in o q.name) (ap (get (insert files place.ppn new)) here
@@ -64,18 +64,18 @@ left_elsewhere files place q apart = by (get files place.ppn) refl
 
 -- Serials.
 
-module _ (files : Files Version) (place : Place) (x : Version) (at : file_at files place ≡ Some x) where
-  -- each stands there as often as before, but for that of the file
+module _ (files : Files SpecVersion) (place : Place) (x : SpecVersion) (at : file_at files place ≡ Some x) where
+  -- each occurs there as often as before, except that of the file
   pub copies_left : (k : ℕ) → copies k (versions_in (without_file files place)) + with_serial k x
       ≡ copies k (versions_in files)
   copies_left k =
       let d = directory_of_file files place x at in
-      let new : Directory Version = record d.0 { files = remove d.0.files place.name } in
+      let new : Directory SpecVersion = record d.0 { files = remove d.0.files place.name } in
       let left : copies k (versions_in (without_file files place))
       ≡ copies k (versions_in (insert files place.ppn new)) =
       ap (λ o. copies k (versions_in (without_file_in o files place))) d.1 in
       let in_files = sum-insert_over nat_cmp_total nat_cmp-IsAntisymmetric
-      (λ (z : Directory Version). copies k (values z.files)) files place.ppn new d.0 d.1 in
+      (λ (z : Directory SpecVersion). copies k (values z.files)) files place.ppn new d.0 d.1 in
       let in_names = sum-remove name_total name_exact (with_serial k) d.0.files place.name x d.2 in
       let all = copies-files k files in
       let all' = copies-files k (insert files place.ppn new) in
@@ -96,7 +96,7 @@ module _ (files : Files Version) (place : Place) (x : Version) (at : file_at fil
       let zero = none_copies (versions_in files) k none in
       copies_none (versions_in (without_file files place)) k (omega arith)
 
-  -- and that of the file is none's any more
+  -- no version has the serial of the file any more
   pub serial_gone : HaveDistinctSerials (versions_in files)
       → has_serial x.serial (versions_in (without_file files place)) ≡ false
   serial_gone distinct =

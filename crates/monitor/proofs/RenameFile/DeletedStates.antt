@@ -1,4 +1,4 @@
--- The state that the monitor stands for once a file is deleted.
+-- The state that the monitor stands for after a file is deleted.
 use Rattle.std.proofs.Common.{◌≡◌, ℕ, false, List, Option, Some, refl, sym, ap, subst, ◌∙◌, ⊎_elim, slice_set}
 use Rattle.std.proofs.lemmas.Bool.{cases_eq}
 use Rattle.std.specs.Prelude.{is_none, slice_get}
@@ -6,44 +6,44 @@ use Rattle.std.specs.Ordering.{nat_cmp}
 use Rattle.words36.specs.declared.names.FileName.{FileName}
 use Rattle.blockdisk.specs.Common.{DiskState}
 use Rattle.spec_image.specs.declared.put.Put.{Put}
-use Rattle.spec_image.specs.Common.{MasterEntry, Files, Place, name_cmp, remove, get, from_entries, Version}
+use Rattle.spec_image.specs.Common.{SpecMasterEntry, Files, Place, name_cmp, remove, get, from_entries, SpecVersion}
 use Rattle.spec_image.specs.Common.{without_serials, file_at, without_file, place_of}
 use Rattle.spec_machine.specs.Common.{State, slot}
 use Rattle.spec_image.proofs.Common.{some_same, get-remove_other, get-from_entries, name_total, name_exact}
 use Rattle.directory.specs.Common.{StandsAt}
-use Rattle.volume.specs.Common.{is_absent, claims, KnownDirectory, VolumeCore, pending_at, IsWholeCore, IsPlaced}
+use Rattle.volume.specs.Common.{is_absent, claims, CurrentDirectory, MemoryMap, pending_at, IsWholeMemory, IsPlaced}
 use Rattle.volume.specs.Common.{files_removed, RemovesFile, RestsAt, KeepsRead, KeepsEachWritten}
 use Rattle.volume.specs.declared.live.LiveVersion.{LiveVersion}
 use Rattle.volume.specs.declared.pending.PendingVersion.{PendingVersion}
 use Rattle.monitor.specs.Common.{OnlyDrops, AreKeyed, ArePlaced, AreReading, IsState, UnderKeys, state_of}
 use Rattle.monitor.specs.declared.job.Job.{Job}
 use Rattle.monitor.proofs.RenameFile.DeletedFiles.{files_left, left_elsewhere, distinct_left}
-use Rattle.monitor.proofs.common.Placing.{unclaimed}
+use Rattle.monitor.proofs.common.PlacedVersions.{unclaimed}
 use Rattle.monitor.proofs.CloseChannel.PublishedStates.{kept_keyed}
 use Rattle.monitor.proofs.CloseChannel.Publications.{IsBehind}
 use Rattle.monitor.proofs.common.ReadsDeleted.{reads_deleted}
-use Rattle.monitor.proofs.common.ReadingJobs.{keeps_reading, reads_left}
+use Rattle.monitor.proofs.common.JobReaders.{keeps_reading, reads_left}
 use Rattle.monitor.proofs.common.WrittenStays.{writing_stays}
 use Rattle.volume.proofs.common.Lists.{set_there}
 use Rattle.volume.proofs.RenameAcross.Places.{set_elsewhere}
 use Rattle.spec_machine.specs.Sound as machine_states
 
 -- another name is in a directory where it was
-still_absent : (d d' : KnownDirectory) (name other : FileName) → from_entries {R = name_cmp} d'.chain.entries
+still_absent : (d d' : CurrentDirectory) (name other : FileName) → from_entries {R = name_cmp} d'.chain.entries
     ≡ remove (from_entries d.chain.entries) name → (other ≡ name → ⊥) → is_absent other d' ≡ is_absent other d
 still_absent d d' name other names apart =
     ap is_none (sym (get-from_entries name_total d'.chain.entries other) ∙ ap (λ m. get m other) names
     ∙ get-remove_other name_total name_exact (from_entries d.chain.entries) name other apart
     ∙ get-from_entries name_total d.chain.entries other)
 
-module _ (size : ℕ) (c c' : VolumeCore) (ppn : ℕ) (name : FileName) (key : ℕ) (v : LiveVersion) (puts : List Put)
+module _ (size : ℕ) (c c' : MemoryMap) (ppn : ℕ) (name : FileName) (key : ℕ) (v : LiveVersion) (puts : List Put)
     (is : RemovesFile size c c' ppn name key v puts) where
   -- A version of another place may be published as before.
   other_placed : (q : PendingVersion) → (q.prime.ppn ≡ ppn → q.prime.file ≡ name → ⊥) → IsPlaced c q → IsPlaced c' q
   other_placed q apart placed =
       let removed = is.removed in
       let there = placed.there in
-      let stands = subst (λ (es : List MasterEntry). StandsAt nat_cmp es q.prime.ppn there.1 there.0)
+      let stands = subst (λ (es : List SpecMasterEntry). StandsAt nat_cmp es q.prime.ppn there.1 there.0)
       (ap (λ m. m.entries) (sym removed.master)) there.2 in
       ⊎_elim
       (λ (same : there.0 ≡ removed.place).
@@ -92,8 +92,8 @@ module _ (size : ℕ) (c c' : VolumeCore) (ppn : ℕ) (name : FileName) (key : �
       was : (k : ℕ) (p : PendingVersion) → pending_at c'.pending k ≡ Some p → pending_at c.pending k ≡ Some p
       was k p at = ap (λ ps. pending_at ps k) (sym is.pending) ∙ at
 
--- The file is gone, and what the caller's channel read of it, or of another version, is let go behind it.
-module _ (d d' : DiskState) (c b c' : VolumeCore) (jobs : List (Option Job)) (n : ℕ) (job job' : Job)
+-- The file is gone, and what the caller's channel read of it, or of another version, is unpinned after it.
+module _ (d d' : DiskState) (c b c' : MemoryMap) (jobs : List (Option Job)) (n : ℕ) (job job' : Job)
     (there : slot jobs n ≡ Some job) (ppn : ℕ) (name : FileName) (key : ℕ) (v : LiveVersion) (puts : List Put)
     (is : RemovesFile d.size c b ppn name key v puts) (behind : IsBehind c b c' job job') where
   abbrev place : Place
@@ -109,7 +109,7 @@ module _ (d d' : DiskState) (c b c' : VolumeCore) (jobs : List (Option Job)) (n 
   pub deleted_reading : AreReading c.live jobs → AreReading c'.live (slice_set jobs n (Some job'))
   deleted_reading reading = keeps_reading c.live c'.live jobs n job job' reading there behind.reads
 
-  module _ (s : State) (state : IsState d c jobs s) (whole : IsWholeCore d.size c) (x : Version)
+  module _ (s : State) (state : IsState d c jobs s) (whole : IsWholeMemory d.size c) (x : SpecVersion)
       (at : file_at s.files place ≡ Some x) (free : claims c.pending place ≡ false)
       (rests : RestsAt d' (files_removed (without_serials s.files) ppn name))
       (readers : KeepsRead d.contents d'.contents c) (writers : KeepsEachWritten d.contents d'.contents c)
@@ -117,7 +117,7 @@ module _ (d d' : DiskState) (c b c' : VolumeCore) (jobs : List (Option Job)) (n 
     abbrev w : UnderKeys
     w = state.under
 
-    abbrev files' : Files Version
+    abbrev files' : Files SpecVersion
     files' = without_file s.files place
 
     -- a version that is being written has another place

@@ -9,7 +9,7 @@ use Rattle.std.specs.FinMap.Entries.{find}
 use Rattle.words36.specs.declared.moment.Moment.{Moment}
 use Rattle.words36.specs.declared.names.FileName.{FileName}
 use Rattle.blockdisk.specs.Common.{Contents, DiskState, MayLeave}
-use Rattle.spec_image.specs.Common.{pack_of, number_of, Directory, Place, name_cmp, get, Version, without_serials}
+use Rattle.spec_image.specs.Common.{pack_of, number_of, Directory, Place, name_cmp, get, SpecVersion, without_serials}
 use Rattle.spec_image.specs.Common.{file_in, file_at, without_file, place_of}
 use Rattle.spec_image.specs.declared.code.ErrorCode.{ErrorCode}
 use Rattle.spec_image.specs.declared.code.ErrorCode.TheVariants.{NoDirectory, NotFound}
@@ -20,34 +20,34 @@ use Rattle.spec_machine.specs.declared.call.Call.TheVariants.{Rename}
 use Rattle.spec_machine.specs.declared.call.Event.TheVariants.{Call as Calls}
 use Rattle.spec_machine.specs.declared.call.Reply.{Reply}
 use Rattle.spec_image.proofs.Common.{some_none}
-use Rattle.volume.specs.Common.{IsDirectoryOf, claims, KnownDirectory, ChangesFiles, DeviceAnswer, VolumeCore}
-use Rattle.volume.specs.Common.{files_removed, RemovesFile, IsSoundCore, RestsAt}
+use Rattle.volume.specs.Common.{IsDirectoryOf, claims, CurrentDirectory, ChangesFiles, DeviceAnswer, MemoryMap}
+use Rattle.volume.specs.Common.{files_removed, RemovesFile, IsSoundMemory, RestsAt}
 use Rattle.volume.specs.declared.error.CallError.{CallError}
 use Rattle.volume.specs.declared.error.CallError.TheVariants.{Refused, Device, Failed, NoMemory}
 use Rattle.volume.specs.declared.live.LiveVersion.{LiveVersion}
-use Rattle.volume.proofs.common.Answering.{Holds, rest_holds}
+use Rattle.volume.proofs.common.Answers.{Holds, rest_holds}
 use Rattle.monitor.specs.Common.{change_answer, with_input_closed, CloseAfter, changed_reply, changed_job, Closes}
 use Rattle.monitor.specs.Common.{IsKnown, IsAmong, IsServing, with_code, ArePlaced, IsState, IsTimely, UnderKeys}
 use Rattle.monitor.specs.Common.{job_of, state_of}
-use Rattle.monitor.specs.declared.channel.Channel.{Channel}
+use Rattle.monitor.specs.declared.channel.OpenChannel.{OpenChannel}
 use Rattle.monitor.specs.declared.input.Input.{Input}
 use Rattle.monitor.specs.declared.job.Job.{Job}
-use Rattle.monitor.proofs.common.Answering.{state_is, contrary}
-use Rattle.monitor.proofs.EnterFile.Beginning.{home_of, listed}
+use Rattle.monitor.proofs.common.EventAnswers.{state_is, contrary}
+use Rattle.monitor.proofs.EnterFile.Begins.{home_of, listed}
 use Rattle.monitor.proofs.RenameFile.ChangeAnswers.{rename_goes_on, changed_there}
-use Rattle.monitor.proofs.common.ChangeServing.{told_serves, broken_serves, done_serves}
+use Rattle.monitor.proofs.common.ChangeServes.{told_serves, broken_serves, done_serves}
 use Rattle.monitor.proofs.RenameFile.DeletedFiles.{files_left}
 use Rattle.monitor.proofs.RenameFile.DeletedStates.{placed_deleted, deleted_keyed, deleted_reading, deleted_state}
 use Rattle.monitor.proofs.common.InputsClosed.{input_behind}
-use Rattle.monitor.proofs.common.Knowing.{known}
+use Rattle.monitor.proofs.common.KnownState.{known}
 use Rattle.monitor.proofs.LookupFile.Lookups.{placed_still}
 use Rattle.monitor.proofs.common.ReadsDeleted.{readers_left}
 use Rattle.monitor.proofs.common.Refusals.{same_code}
 use Rattle.monitor.proofs.RenameFile.Rows.{row_done}
 use Rattle.spec_machine.specs.declared.call.Reply.TheVariants as replies
 
--- What a volume says of a deletion; `Same` is that disk and core are as they were.
-pub record Deletes (d d' : DiskState) (c b : VolumeCore) (Same : Type 0) (failed failed' : Bool) (ppn : ℕ)
+-- What a volume states of a deletion; `Same` states that disk and memory are as they were.
+pub record Deletes (d d' : DiskState) (c b : MemoryMap) (Same : Type 0) (failed failed' : Bool) (ppn : ℕ)
     (name : FileName) (result : Result (Unit {0}) CallError) : Type 0 where
   pub files : ChangesFiles d d' c (λ f. files_removed f ppn name) result
   pub removed : OnOk result ((key : ℕ) × (v : LiveVersion) × (puts : List Put)
@@ -56,24 +56,24 @@ pub record Deletes (d d' : DiskState) (c b : VolumeCore) (Same : Type 0) (failed
   pub given_up : IsErrOf result Failed → failed ≡ true
   pub no_directory : failed ≡ false
       → (IsErrOf result (Refused NoDirectory) ↔ (find nat_cmp ppn c.known.master.entries ≡ None))
-  pub not_found : failed ≡ false → (IsErrOf result (Refused NotFound) ↔ ((x : KnownDirectory) × IsDirectoryOf c ppn x
+  pub not_found : failed ≡ false → (IsErrOf result (Refused NotFound) ↔ ((x : CurrentDirectory) × IsDirectoryOf c ppn x
       × (find name_cmp name x.chain.entries ≡ None)))
   pub codes : (code : ErrorCode) → IsErrOf result (Refused code) → (code ≡ NoDirectory) ⊎ (code ≡ NotFound)
   pub memory : IsErrOf result NoMemory → ⊥
   pub answer : DeviceAnswer d d' failed failed' result
 
 -- A file that is there is not refused.
-not_refused : (d : DiskState) (c : VolumeCore) (s : State) → IsSoundCore d c false
-    → Holds d c.known (without_serials s.files) → (ppn : ℕ) (name : FileName) (x : Version)
+not_refused : (d : DiskState) (c : MemoryMap) (s : State) → IsSoundMemory d c false
+    → Holds d c.known (without_serials s.files) → (ppn : ℕ) (name : FileName) (x : SpecVersion)
     → file_at s.files (place_of ppn name) ≡ Some x
     → (result : Result (Unit {0}) CallError) (code : ErrorCode)
     → (IsErrOf result (Refused NoDirectory) ↔ (find nat_cmp ppn c.known.master.entries ≡ None))
-    → (IsErrOf result (Refused NotFound) ↔ ((k : KnownDirectory) × IsDirectoryOf c ppn k
+    → (IsErrOf result (Refused NotFound) ↔ ((k : CurrentDirectory) × IsDirectoryOf c ppn k
     × (find name_cmp name k.chain.entries ≡ None)))
     → (code ≡ NoDirectory) ⊎ (code ≡ NotFound) → IsErrOf result (Refused code) → ⊥
 not_refused d c s sound holds ppn name x at result code gone absent which is = by (get s.files ppn) refl
   where
-    by : (was : Option (Directory Version)) → get s.files ppn ≡ was → ⊥
+    by : (was : Option (Directory SpecVersion)) → get s.files ppn ≡ was → ⊥
     by None there = some_none (sym at ∙ ap (λ o. file_in o name) there)
     by (Some D) there = ⊎_elim
         (λ no. listed d c s.files holds sound.whole.map ppn D there (gone.0 (is ∙ ap (λ e. Err (Refused e)) no)))
@@ -86,10 +86,10 @@ not_refused d c s sound holds ppn name x at result code gone absent which is = b
 
 module _ {D : Type 0} (state : D → DiskState) (only_now : (disk : D) (contents : Contents) → (state disk).honest
     → (state disk).left_since (state disk).clock contents → MayLeave (state disk) contents) (disk disk' : D)
-    (c b c' : VolumeCore) (failed failed' : Bool) (alive : failed ≡ false) (job : Job) (number e : ℕ)
-    (channel : Channel) (input : Input) (is_open : slot job.channels number ≡ Some channel)
+    (c b c' : MemoryMap) (failed failed' : Bool) (alive : failed ≡ false) (job : Job) (number e : ℕ)
+    (channel : OpenChannel) (input : Input) (is_open : slot job.channels number ≡ Some channel)
     (side : channel.input ≡ Some input) (free : channel.output ≡ None) (inside : lies_outside job.core e 4 ≡ false)
-    (zero : slice_index job.core e ≡ 0) (sound : IsSoundCore (state disk) c false) (placed : ArePlaced c)
+    (zero : slice_index job.core e ≡ 0) (sound : IsSoundMemory (state disk) c false) (placed : ArePlaced c)
     (unclaimed : claims c.pending (place_of input.ppn input.file) ≡ false)
     (may : (state disk).honest → (s : State) → IsKnown (state disk) c s → (w : UnderKeys)
     → change_answer s (job_of w job) e (place_of input.ppn input.file) ≡ replies.Done)
@@ -127,7 +127,7 @@ module _ {D : Type 0} (state : D → DiskState) (only_now : (disk : D) (contents
     allowed = subst (λ t. change_answer t (job_of w job) e place ≡ replies.Done) before_is
         (may honest s (known d c jobs s state_s sound honest) w)
 
-    there : (x : Version) × (file_at s.files place ≡ Some x)
+    there : (x : SpecVersion) × (file_at s.files place ≡ Some x)
     there = changed_there before (job_of w job) e place allowed
 
     deletes : deletes_at (job_of w job) e ≡ true
@@ -165,7 +165,7 @@ module _ {D : Type 0} (state : D → DiskState) (only_now : (disk : D) (contents
   ServesAfter r = IsServing state disk disk' c c' failed' jobs
       (slice_set jobs n (Some (changed_job r job number e channel))) n (Rename number e) moment (changed_reply r)
 
-  -- It is done, and the channel's input side is closed behind it.
+  -- It is done, and the channel's input side is closed after it.
   done : result ≡ Ok tt → Closes b c' [] (input.pin.key ∷ []) → c'.pending ≡ b.pending → ServesAfter (Ok tt)
   unfolding row
   done ok closes pending =
@@ -223,7 +223,7 @@ module _ {D : Type 0} (state : D → DiskState) (only_now : (disk : D) (contents
   by_result (Err Device) at after = broken at
   by_result (Err Failed) at after = absurd (contrary alive (is.given_up at))
 
-  -- The call's answer, and what it leaves of the job; behind the deletion disk and volume are left alone.
+  -- The call's answer, and what it leaves of the job; after the deletion disk and volume are left alone.
   pub deleting_serves : (disk'' : D) (failed'' : Bool) (job' : Job) (reply : Reply)
       → (disk'' ≡ disk') × (failed'' ≡ failed') → CloseAfter result b c' input → reply ≡ changed_reply result
       → job' ≡ changed_job result job number e channel

@@ -12,7 +12,7 @@ use Rattle.spec_machine.specs.Common.{exceeds_left, State, place_at, has_no_dire
 use Rattle.spec_machine.specs.Common.{deletes_at, is_forbidden, crowds, overfills, move_answer, rename_from, may_look}
 use Rattle.spec_machine.specs.Common.{may_create, names_in, is_claimed, entry_count, booked, has_no_room, is_plain}
 use Rattle.spec_machine.specs.Common.{present_cost}
-use Rattle.spec_image.specs.Common.{number_of, Directory, Place, map_directory, name_cmp, get, Version}
+use Rattle.spec_image.specs.Common.{number_of, Directory, Place, map_directory, name_cmp, get, SpecVersion}
 use Rattle.spec_image.specs.Common.{without_serials, file_in, file_at, same_place, Pack, growth, place_of, pack_of}
 use Rattle.spec_image.specs.declared.code.ErrorCode.{ErrorCode}
 use Rattle.spec_image.specs.declared.code.ErrorCode.TheVariants.{NoDirectory, NotFound, NameExists, NoRoom}
@@ -20,25 +20,25 @@ use Rattle.spec_machine.specs.declared.call.Reply.{Reply}
 use Rattle.spec_image.proofs.Common.{get-map_values, name_total, directory_of_file}
 use Rattle.spec_machine.proofs.Common.{same_place-equal, grows_by_one, is_there}
 use Rattle.alloctab.specs.Common.{space}
-use Rattle.volume.specs.Common.{entries_with, IsDirectoryOf, IsOver, KnownDirectory, cost_of_version, VolumeCore}
-use Rattle.volume.specs.Common.{HasFile, HasNoRoom, IsSoundCore}
+use Rattle.volume.specs.Common.{entries_with, IsDirectoryOf, IsOver, CurrentDirectory, cost_of_version, MemoryMap}
+use Rattle.volume.specs.Common.{HasFile, HasNoRoom, IsSoundMemory}
 use Rattle.volume.specs.declared.error.CallError.{CallError}
 use Rattle.volume.specs.declared.error.CallError.TheVariants.{Refused}
-use Rattle.volume.proofs.common.Answering.{Holds, rest_holds}
+use Rattle.volume.proofs.common.Answers.{Holds, rest_holds}
 use Rattle.volume.proofs.BeginVersion.BegunFiles.{IsFileKnown, file_known}
 use Rattle.monitor.specs.Common.{arrival_answer, change_answer, IsKnown}
-use Rattle.monitor.proofs.EnterFile.Beginning.{IsHome, home, home_of, listed}
+use Rattle.monitor.proofs.EnterFile.Begins.{IsHome, home, home_of, listed}
 use Rattle.monitor.proofs.RenameFile.ChangeAnswers.{rename_goes_on, changed_there}
 use Rattle.monitor.proofs.common.Numbers.{less}
 use Rattle.monitor.proofs.common.Growths.{shown_at}
 use Rattle.monitor.proofs.common.Limits.{AllowsMove, LimitsAre, limits_are}
-use Rattle.directory.proofs.EntryReading.{some_number}
+use Rattle.directory.proofs.AddedEntries.{some_number}
 use Rattle.spec_machine.specs.Jobs as machine
 use Rattle.spec_machine.specs.declared.call.Reply.TheVariants as replies
 
 -- The answer, by its tests.
 
--- what is asked of the old place, and then this
+-- what is checked at the old place, and then this
 abbrev asked_of : Bool → Bool → Bool → Bool → Bool → Reply → Reply
 asked_of homeless hidden absent forbidden claimed rest =
     if homeless then replies.Refused 1
@@ -57,7 +57,7 @@ asked_plain false false false true e rest is = refl
 asked_plain false false false false true rest is = refl
 asked_plain false false false false false rest is = is
 
--- what is asked of the new place, and then this
+-- what is checked at the new place, and then this
 abbrev comes_to : Bool → Bool → Bool → Bool → Reply → Reply
 comes_to homeless kept_out taken claimed rest =
     if homeless then replies.Refused 1
@@ -102,7 +102,7 @@ if_plain : (deletes : Bool) (rest : Reply) → is_plain rest ≡ false
 if_plain true rest is = refl
 if_plain false rest is = is
 
-module _ (pack : Pack) (s : State) (job : machine.Job) (e : ℕ) (old new : Place) where
+module _ (pack : Pack) (s : State) (job : machine.SpecJob) (e : ℕ) (old new : Place) where
   abbrev answer : Reply
   answer = move_answer pack s job old new
 
@@ -146,7 +146,7 @@ module _ (pack : Pack) (s : State) (job : machine.Job) (e : ℕ) (old new : Plac
         else replies.Done) none
 
 -- the answer of a RENAME of what a channel reads isn't one that is found before memory and the disk are needed
-pub rename_late : (pack : Pack) (s : State) (job : machine.Job) (e : ℕ) (old : Place)
+pub rename_late : (pack : Pack) (s : State) (job : machine.SpecJob) (e : ℕ) (old : Place)
     → is_plain (rename_from pack s job e old) ≡ false
 rename_late pack s job e old =
     let new = place_at job e in
@@ -158,12 +158,12 @@ rename_late pack s job e old =
     (not (same_place new old) && not (is_absent s new)) (not (same_place new old) && is_claimed s new)
     (crowds pack s old new || overfills s old new)))
 
--- What a volume answers to a move, where it hasn't failed.
-pub record IsMoveAnswer (size : ℕ) (c : VolumeCore) (ppn : ℕ) (name : FileName) (to_ppn : ℕ) (to : FileName)
+-- What a volume answers to a move, if it hasn't failed.
+pub record IsMoveAnswer (size : ℕ) (c : MemoryMap) (ppn : ℕ) (name : FileName) (to_ppn : ℕ) (to : FileName)
     (answer : Result (Unit {0}) CallError) : Type 0 where
   pub no_directory : (answer ≡ Err (Refused NoDirectory)) ↔ ((find nat_cmp ppn c.known.master.entries ≡ None)
       ⊎ (HasFile c ppn name × (find nat_cmp to_ppn c.known.master.entries ≡ None)))
-  pub not_found : (answer ≡ Err (Refused NotFound)) ↔ ((d : KnownDirectory) × IsDirectoryOf c ppn d
+  pub not_found : (answer ≡ Err (Refused NotFound)) ↔ ((d : CurrentDirectory) × IsDirectoryOf c ppn d
       × (find name_cmp name d.chain.entries ≡ None))
   pub exists : (answer ≡ Err (Refused NameExists)) ↔ (HasFile c ppn name × ((to_ppn ≡ ppn) × (to ≡ name) → ⊥)
       × HasFile c to_ppn to)
@@ -195,8 +195,8 @@ all_three true b c is = cc is
 all_three false true c is = cc is
 all_three false false c is = (refl, refl, is)
 
-module _ (d : DiskState) (c : VolumeCore) (s : State) (known : IsKnown d c s) (sound : IsSoundCore d c false)
-    (honest : d.honest) (job : machine.Job) (e : ℕ) (ppn : ℕ) (name : FileName) (to_ppn : ℕ) (to : FileName)
+module _ (d : DiskState) (c : MemoryMap) (s : State) (known : IsKnown d c s) (sound : IsSoundMemory d c false)
+    (honest : d.honest) (job : machine.SpecJob) (e : ℕ) (ppn : ℕ) (name : FileName) (to_ppn : ℕ) (to : FileName)
     (place : place_of to_ppn to ≡ place_at job e) (moves : deletes_at job e ≡ false)
     (changes : change_answer s job e (place_of ppn name) ≡ replies.Done)
     (comes : arrival_answer s job (place_of ppn name) (place_of to_ppn to) ≡ replies.Done) where
@@ -214,13 +214,13 @@ module _ (d : DiskState) (c : VolumeCore) (s : State) (known : IsKnown d c s) (s
 
   -- What the machine has there.
 
-  pub moves_from : (x : Version) × (file_at s.files old ≡ Some x)
+  pub moves_from : (x : SpecVersion) × (file_at s.files old ≡ Some x)
   moves_from = changed_there s job e old changes
 
-  pub moves_home : (home : Directory Version) × (get s.files to_ppn ≡ Some home)
+  pub moves_home : (home : Directory SpecVersion) × (get s.files to_ppn ≡ Some home)
   moves_home = is_there (get s.files to_ppn) (arrival_there pack s job e old new comes).0
 
-  old_home : (home : Directory Version) × (get s.files ppn ≡ Some home)
+  old_home : (home : Directory SpecVersion) × (get s.files ppn ≡ Some home)
   old_home = let found = directory_of_file s.files old moves_from.0 moves_from.1 in (found.0, found.1)
 
   pub moves_free : new ≢ old → file_at s.files new ≡ None
@@ -230,7 +230,7 @@ module _ (d : DiskState) (c : VolumeCore) (s : State) (known : IsKnown d c s) (s
 
   -- What the volume has.
 
-  abbrev home_at : (ppn : ℕ) (name : FileName) (x : Directory Version) → get s.files ppn ≡ Some x
+  abbrev home_at : (ppn : ℕ) (name : FileName) (x : Directory SpecVersion) → get s.files ppn ≡ Some x
       → IsHome c s.files ppn name x
   home_at ppn name x is = home d c s.files holds sound.whole.map ppn name x is
 
@@ -240,18 +240,18 @@ module _ (d : DiskState) (c : VolumeCore) (s : State) (known : IsKnown d c s) (s
       let in_home = sym (ap (λ o. file_in o name) old_home.1) ∙ moves_from.1 in
       (h.known, h.there, λ none. let absent = ap is_none (sym none) ∙ h.absent ∙ ap is_none in_home in cc absent)
 
-  listed_at : (ppn : ℕ) (x : Directory Version) → get s.files ppn ≡ Some x
+  listed_at : (ppn : ℕ) (x : Directory SpecVersion) → get s.files ppn ≡ Some x
       → find nat_cmp ppn c.known.master.entries ≡ None → ⊥
   listed_at ppn x is = listed d c s.files holds sound.whole.map ppn x is
 
-  -- a directory that the volume knows has this name where the files have it
-  entered_at : (ppn : ℕ) (name : FileName) (x : KnownDirectory) → IsDirectoryOf c ppn x
+  -- a directory that the volume knows has this name if the files have it
+  entered_at : (ppn : ℕ) (name : FileName) (x : CurrentDirectory) → IsDirectoryOf c ppn x
       → is_none (find name_cmp name x.chain.entries) ≡ is_none (file_at s.files (place_of ppn name))
   entered_at ppn name x there =
       let h = home_of d c s.files holds sound.whole.map ppn name x there in
       h.absent ∙ ap (λ o. is_none (file_in o name)) (sym h.there)
 
-  counted_at : (x : KnownDirectory) → IsDirectoryOf c to_ppn x → entry_count s to_ppn ≡ entries_with c x to_ppn
+  counted_at : (x : CurrentDirectory) → IsDirectoryOf c to_ppn x → entry_count s to_ppn ≡ entries_with c x to_ppn
   counted_at x there =
       let h = home_of d c s.files holds sound.whole.map to_ppn to x there in
       λ i. (ap names_in h.there ∙ h.entries) i + known.creations to_ppn i
@@ -294,16 +294,16 @@ module _ (d : DiskState) (c : VolumeCore) (s : State) (known : IsKnown d c s) (s
 
   -- The quota of the new directory.
 
-  from_files : (x : Version) → file_at s.files old ≡ Some x → IsFileKnown c ppn name x.file
+  from_files : (x : SpecVersion) → file_at s.files old ≡ Some x → IsFileKnown c ppn name x.file
   from_files x there =
       let at = directory_of_file s.files old x there in
       file_known d c false sound honest refl (without_serials s.files) known.files ppn name
-      (map_directory (λ (v : Version). v.file) at.0) (shown_at s.files ppn
-      ∙ ap (option_map (map_directory (λ (v : Version). v.file))) at.1) x.file
-      (get-map_values name_total (λ (v : Version). v.file) at.0.files name
-      ∙ ap (option_map (λ (v : Version). v.file)) at.2)
+      (map_directory (λ (v : SpecVersion). v.file) at.0) (shown_at s.files ppn
+      ∙ ap (option_map (map_directory (λ (v : SpecVersion). v.file))) at.1) x.file
+      (get-map_values name_total (λ (v : SpecVersion). v.file) at.0.files name
+      ∙ ap (option_map (λ (v : SpecVersion). v.file)) at.2)
 
-  -- so many blocks the file needs there
+  -- the number of blocks that the file needs there
   abbrev needs : ℕ
   needs = present_cost (file_at s.files old) + growth (entry_count s to_ppn)
 
@@ -347,7 +347,7 @@ module _ (d : DiskState) (c : VolumeCore) (s : State) (known : IsKnown d c s) (s
         either false b is = ap (λ t. if t then replies.Refused 0o14 else replies.Done) is
 
   module _ (answer : Result (Unit {0}) CallError) (is : IsMoveAnswer d.size c ppn name to_ppn to answer) where
-    -- what isn't refused for want of room isn't by the machine
+    -- what isn't refused for lack of room isn't refused for it by the machine
     pub moves_done : (answer ≡ Err (Refused NoRoom) → ⊥) → (allows : Bool) → allows ≡ true
         → AllowsMove c ppn name to_ppn allows → rename_from pack s job e old ≡ replies.Done
     moves_done fits allows so quota = from_room ∙ ⊎_elim
@@ -357,7 +357,7 @@ module _ (d : DiskState) (c : VolumeCore) (s : State) (known : IsKnown d c s) (s
         λ i. if room i || left i then replies.Refused 0o14 else replies.Done)
         (cases_Bool (crowds pack s old new))
 
-    -- and it is for nothing else
+    -- and it is refused for nothing else
     pub moves_refused : (code : ErrorCode) → answer ≡ Err (Refused code)
         → rename_from pack s job e old ≡ replies.Refused (number_of code)
     moves_refused code refused = ⊎_elim

@@ -1,4 +1,4 @@
--- What a move of a file does to core, within a directory or to another one, and which versions that are being written
+-- What a move of a file does to memory, within a directory or to another one, and which versions that are being written
 -- may still be published.
 use Rattle.std.proofs.Common.{◌≡◌, ◌≢◌, ℕ, true, List, Some, slice_get, slice_set, sym, ap, ◌∙◌, ⊎_elim, subst}
 use Rattle.std.specs.Prelude.{is_none}
@@ -7,10 +7,10 @@ use Rattle.std.specs.Ordering.{nat_cmp}
 use Rattle.std.specs.FinMap.Entries.{find}
 use Rattle.words36.specs.declared.names.FileName.{FileName}
 use Rattle.spec_image.specs.declared.put.Put.{Put}
-use Rattle.spec_image.specs.Common.{MasterEntry, name_cmp}
+use Rattle.spec_image.specs.Common.{SpecMasterEntry, name_cmp}
 use Rattle.retrieval.specs.declared.prime.Prime.{Prime}
 use Rattle.directory.specs.Common.{StandsAt}
-use Rattle.volume.specs.Common.{IsDirectoryOf, KnownDirectory, VolumeCore, pending_at, as_known, slot, IsPrimeMoved}
+use Rattle.volume.specs.Common.{IsDirectoryOf, CurrentDirectory, MemoryMap, pending_at, as_known, slot, IsPrimeMoved}
 use Rattle.volume.specs.Common.{MovesWithin, MovesAcross, prime_at}
 use Rattle.volume.specs.declared.live.LiveVersion.{LiveVersion}
 use Rattle.volume.specs.declared.pending.PendingVersion.{PendingVersion}
@@ -20,8 +20,9 @@ use Rattle.volume.proofs.common.Lists.{set_there}
 use Rattle.volume.proofs.RenameWithin.Places.{moved_before, moved_here, moved_elsewhere}
 use Rattle.monitor.specs.Common.{ArePlaced}
 
--- The file's version stays under its key and in its blocks; its prime block says the new place and the new protection.
-pub record MovesFile (c c' : VolumeCore) (ppn : ℕ) (name : FileName) (to_ppn : ℕ) (to : FileName)
+-- The file's version stays under its key and in its blocks; its prime block states the new place and the new
+-- protection.
+pub record MovesFile (c c' : MemoryMap) (ppn : ℕ) (name : FileName) (to_ppn : ℕ) (to : FileName)
     (protection : ℕ) : Type 0 where
   pub key : ℕ
   pub version : LiveVersion
@@ -38,7 +39,7 @@ pub record MovesFile (c c' : VolumeCore) (ppn : ℕ) (name : FileName) (to_ppn :
   pub elsewhere : (q : ℕ) (n : FileName) → ((q ≡ ppn) × (n ≡ name) → ⊥) → ((q ≡ to_ppn) × (n ≡ to) → ⊥)
       → prime_at c' q n ≡ prime_at c q n
   -- each directory stays, with such entries as it has then
-  pub directories : (q : ℕ) (d : KnownDirectory) → IsDirectoryOf c q d → (e : KnownDirectory) × IsDirectoryOf c' q e
+  pub directories : (q : ℕ) (d : CurrentDirectory) → IsDirectoryOf c q d → (e : CurrentDirectory) × IsDirectoryOf c' q e
 
 -- a list with another element at one place has some at each place that had some
 still_some : {X : Type 0} (xs : List X) (i j : ℕ) (x y : X) → slice_get xs j ≡ Some x → (z : X)
@@ -50,7 +51,7 @@ still_some xs i j x y is = ⊎_elim
     ))
     (λ apart. (x, set_elsewhere xs i j y apart ∙ is)) (cases_eq j i)
 
-module _ (size : ℕ) (c c' : VolumeCore) (ppn : ℕ) (name to : FileName) (protection key : ℕ) (v : LiveVersion)
+module _ (size : ℕ) (c c' : MemoryMap) (ppn : ℕ) (name to : FileName) (protection key : ℕ) (v : LiveVersion)
     (words : List ℕ) (puts : List Put) (is : MovesWithin size c c' ppn name to protection key v words puts) where
   pub moves_within : MovesFile c c' ppn name ppn to protection
   moves_within = record {
@@ -80,10 +81,10 @@ module _ (size : ℕ) (c c' : VolumeCore) (ppn : ℕ) (name to : FileName) (prot
     where
       stands : (q : ℕ) (w : ℕ × ℕ) (i : ℕ) → StandsAt nat_cmp c.known.master.entries q w i
           → StandsAt nat_cmp c'.known.master.entries q w i
-      stands q w i at = subst (λ (es : List MasterEntry). StandsAt nat_cmp es q w i)
+      stands q w i at = subst (λ (es : List SpecMasterEntry). StandsAt nat_cmp es q w i)
           (sym (ap (λ m. m.entries) is.moved.master)) at
 
-module _ (size : ℕ) (c c' : VolumeCore) (ppn : ℕ) (name : FileName) (to_ppn : ℕ) (to : FileName) (protection key : ℕ)
+module _ (size : ℕ) (c c' : MemoryMap) (ppn : ℕ) (name : FileName) (to_ppn : ℕ) (to : FileName) (protection key : ℕ)
     (v : LiveVersion) (words : List ℕ) (puts : List Put)
     (is : MovesAcross size c c' ppn name to_ppn to protection key v words puts) where
   pub moves_across : MovesFile c c' ppn name to_ppn to protection
@@ -116,14 +117,14 @@ module _ (size : ℕ) (c c' : VolumeCore) (ppn : ℕ) (name : FileName) (to_ppn 
     where
       stands : (q : ℕ) (w : ℕ × ℕ) (i : ℕ) → StandsAt nat_cmp c.known.master.entries q w i
           → StandsAt nat_cmp c'.known.master.entries q w i
-      stands q w i at = subst (λ (es : List MasterEntry). StandsAt nat_cmp es q w i)
+      stands q w i at = subst (λ (es : List SpecMasterEntry). StandsAt nat_cmp es q w i)
           (sym (ap (λ m. m.entries) is.moved.master)) at
 
 -- Versions that are being written for other places.
-module _ (c c' : VolumeCore) (ppn : ℕ) (name : FileName) (to_ppn : ℕ) (to : FileName) (protection : ℕ)
+module _ (c c' : MemoryMap) (ppn : ℕ) (name : FileName) (to_ppn : ℕ) (to : FileName) (protection : ℕ)
     (is : MovesFile c c' ppn name to_ppn to protection) where
   -- what an entry of a directory has
-  entry_of : (x : VolumeCore) (q : ℕ) (n : FileName) (d : KnownDirectory) → IsDirectoryOf x q d
+  entry_of : (x : MemoryMap) (q : ℕ) (n : FileName) (d : CurrentDirectory) → IsDirectoryOf x q d
       → prime_at x q n ≡ find name_cmp n d.chain.entries
   entry_of x q n d there = prime_of_place x.known.master.entries x.known.directories there.0 q n there.1 d there.2
       there.3

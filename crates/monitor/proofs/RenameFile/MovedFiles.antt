@@ -6,7 +6,8 @@ use Rattle.std.specs.Prelude.{is_some, option_map}
 use Rattle.std.specs.Cmp.{nat_cmp_total}
 use Rattle.std.specs.FinMap.{nat_cmp-IsAntisymmetric}
 use Rattle.spec_image.specs.Common.{File, Files, Directory, Place, map_directory, get, insert, remove, values}
-use Rattle.spec_image.specs.Common.{Version, without_serials, file_in, file_at, with_file, with_file_in, without_file}
+use Rattle.spec_image.specs.Common.{SpecVersion, without_serials, file_in, file_at, with_file, with_file_in}
+use Rattle.spec_image.specs.Common.{without_file}
 use Rattle.spec_image.specs.Common.{without_file_in, with_protection}
 use Rattle.spec_machine.specs.Common.{files_moved, has_serial, HaveDistinctSerials}
 use Rattle.spec_image.proofs.Common.{same_or_other, get-insert_same, get-removed, get-map_values, sum-values}
@@ -19,34 +20,34 @@ use Rattle.monitor.proofs.CloseChannel.PublishedFiles.{files_with, put_elsewhere
 use Rattle.monitor.proofs.common.Copies.{with_serial, copies, none_copies, copies_none, distinct_few, few_distinct}
 use Rattle.monitor.proofs.common.Copies.{copies-files, versions_in}
 use Rattle.spec_machine.proofs.Common.{at_there}
-use Rattle.volume.specs.Renaming as volume
+use Rattle.volume.specs.RenameFile as volume
 
 -- The files alone.
 
-abbrev shown : Directory Version → Directory File
+abbrev shown : Directory SpecVersion → Directory File
 shown d = map_directory (λ v. v.file) d
 
 -- what a place has is shown
-pub shown_file : (files : Files Version) (place : Place)
+pub shown_file : (files : Files SpecVersion) (place : Place)
     → volume.file_in (get (without_serials files) place.ppn) place.name
-    ≡ option_map (λ (v : Version). v.file) (file_at files place)
+    ≡ option_map (λ (v : SpecVersion). v.file) (file_at files place)
 shown_file files place = ap (λ o. volume.file_in o place.name) (shown_at files place.ppn)
     ∙ by (get files place.ppn)
   where
-    by : (o : Option (Directory Version)) → volume.file_in (option_map shown o) place.name
-        ≡ option_map (λ (v : Version). v.file) (file_in o place.name)
+    by : (o : Option (Directory SpecVersion)) → volume.file_in (option_map shown o) place.name
+        ≡ option_map (λ (v : SpecVersion). v.file) (file_in o place.name)
     by None = refl
-    by (Some d) = get-map_values name_total (λ (v : Version). v.file) d.files place.name
+    by (Some d) = get-map_values name_total (λ (v : SpecVersion). v.file) d.files place.name
 
 -- The volume moves it as the machine does.
-pub shown_moved : (files : Files Version) (old new : Place) (protection : ℕ) (x : Version) → file_at files old ≡ Some x
+pub shown_moved : (files : Files SpecVersion) (old new : Place) (protection : ℕ) (x : SpecVersion) → file_at files old ≡ Some x
     → without_serials (files_moved files old new protection (Some x))
     ≡ volume.files_moved (without_serials files) old.ppn old.name new.ppn new.name protection
 shown_moved files old new protection x at =
     files_with (without_file files old) new (with_protection x protection)
     ∙ ap (λ fs. files_published fs new.ppn new.name (volume.file_protected x.file protection)) (files_left files old)
     ∙ ap (λ o. volume.files_moved_as o (without_serials files) old.ppn old.name new.ppn new.name protection)
-    (sym (shown_file files old ∙ ap (option_map (λ (v : Version). v.file)) at))
+    (sym (shown_file files old ∙ ap (option_map (λ (v : SpecVersion). v.file)) at))
 
 -- What a place has.
 
@@ -59,40 +60,40 @@ same_or_another p q = ⊎_elim
     (λ apart. inr (λ same. apart (ap (λ (r : Place). r.ppn) same)))
     (same_or_other nat_cmp_total nat_cmp-IsAntisymmetric p.ppn q.ppn)
 
--- where a directory is there, a file that is put into it is found,
-put_there : (files : Files Version) (place : Place) (d : Directory Version) (v : Version) → get files place.ppn ≡ Some d
+-- if a directory is there, a file that is put into it is found,
+put_there : (files : Files SpecVersion) (place : Place) (d : Directory SpecVersion) (v : SpecVersion) → get files place.ppn ≡ Some d
     → file_at (with_file files place v) place ≡ Some v
 put_there files place d v is =
-    let new : Directory Version = record d { files = insert d.files place.name v } in
+    let new : Directory SpecVersion = record d { files = insert d.files place.name v } in
     ap (λ o. file_at (with_file_in o files place v) place) is
     ∙ at_there (insert files place.ppn new) place new (get-insert_same nat_cmp_total files place.ppn new)
     ∙ get-insert_same name_total d.files place.name v
 
 -- and one that is taken away isn't
-out_there : (files : Files Version) (place : Place) → file_at (without_file files place) place ≡ None
+out_there : (files : Files SpecVersion) (place : Place) → file_at (without_file files place) place ≡ None
 out_there files place = by (get files place.ppn) refl
   where
-    by : (o : Option (Directory Version)) → get files place.ppn ≡ o → file_at (without_file_in o files place) place
+    by : (o : Option (Directory SpecVersion)) → get files place.ppn ≡ o → file_at (without_file_in o files place) place
         ≡ None
     by None is = ap (λ o. file_in o place.name) is
     by (Some d) is =
-        let thinner : Directory Version = record d { files = remove d.files place.name } in
+        let thinner : Directory SpecVersion = record d { files = remove d.files place.name } in
         at_there (insert files place.ppn thinner) place thinner (get-insert_same nat_cmp_total files place.ppn thinner)
         ∙ get-removed name_total d.files place.name
 
 -- Serials.
 
 -- a version is put where none is
-copies_new : (k : ℕ) (files : Files Version) (place : Place) (d : Directory Version) (v : Version)
+copies_new : (k : ℕ) (files : Files SpecVersion) (place : Place) (d : Directory SpecVersion) (v : SpecVersion)
     → get files place.ppn ≡ Some d → file_at files place ≡ None
     → copies k (versions_in (with_file files place v)) ≡ copies k (versions_in files) + with_serial k v
 copies_new k files place d v is none =
-    let new : Directory Version = record d { files = insert d.files place.name v } in
+    let new : Directory SpecVersion = record d { files = insert d.files place.name v } in
     let put : copies k (versions_in (with_file files place v)) ≡ copies k (versions_in (insert files place.ppn new)) =
     ap (λ o. copies k (versions_in (with_file_in o files place v))) is in
     let free : get d.files place.name ≡ None = sym (at_there files place d is) ∙ none in
     let in_files = sum-insert_over nat_cmp_total nat_cmp-IsAntisymmetric
-    (λ (x : Directory Version). copies k (values x.files)) files place.ppn new d is in
+    (λ (x : Directory SpecVersion). copies k (values x.files)) files place.ppn new d is in
     let in_names = sum-insert_new name_total name_exact (with_serial k) d.files place.name v free in
     let all = copies-files k files in
     let all' = copies-files k (insert files place.ppn new) in
@@ -101,15 +102,15 @@ copies_new k files place d v is none =
     omega arith
 
 -- The move.
-module _ (files : Files Version) (old new : Place) (protection : ℕ) (x : Version) (at : file_at files old ≡ Some x)
-    (d : Directory Version) (housed : get files new.ppn ≡ Some d) where
-  abbrev pub moved : Files Version
+module _ (files : Files SpecVersion) (old new : Place) (protection : ℕ) (x : SpecVersion) (at : file_at files old ≡ Some x)
+    (d : Directory SpecVersion) (housed : get files new.ppn ≡ Some d) where
+  abbrev pub moved : Files SpecVersion
   moved = files_moved files old new protection (Some x)
 
-  abbrev out : Files Version
+  abbrev out : Files SpecVersion
   out = without_file files old
 
-  still : (e : Directory Version) × (get out new.ppn ≡ Some e)
+  still : (e : Directory SpecVersion) × (get out new.ppn ≡ Some e)
   still = some_is (get out new.ppn) (keeps_without_file files old new.ppn (ap is_some housed))
 
   pub moved_here : file_at moved new ≡ Some (with_protection x protection)

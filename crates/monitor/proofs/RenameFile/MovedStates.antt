@@ -1,12 +1,12 @@
--- The state that the monitor stands for once a file has moved.
+-- The state that the monitor stands for after a file has moved.
 use Rattle.std.proofs.Common.{◌≡◌, ◌≢◌, ℕ, false, List, Option, Some, None, refl, sym, ap, subst, ◌∙◌, ⊎_elim}
 use Rattle.std.proofs.Common.{slice_set}
 use Rattle.std.proofs.lemmas.Bool.{cases_eq}
 use Rattle.words36.specs.declared.names.FileName.{FileName}
 use Rattle.blockdisk.specs.Common.{DiskState}
-use Rattle.spec_image.specs.Common.{Files, Directory, Place, get, Version, without_serials, file_at, place_of}
+use Rattle.spec_image.specs.Common.{Files, Directory, Place, get, SpecVersion, without_serials, file_at, place_of}
 use Rattle.spec_machine.specs.Common.{State, slot}
-use Rattle.volume.specs.Common.{claims, VolumeCore, pending_at, IsWholeCore, slot as version_at, RestsAt, KeepsRead}
+use Rattle.volume.specs.Common.{claims, MemoryMap, pending_at, IsWholeMemory, slot as version_at, RestsAt, KeepsRead}
 use Rattle.volume.specs.Common.{KeepsEachWritten}
 use Rattle.volume.specs.declared.pending.PendingVersion.{PendingVersion}
 use Rattle.volume.proofs.RenameWithin.Places.{unclaimed_place}
@@ -15,17 +15,17 @@ use Rattle.monitor.specs.declared.job.Job.{Job}
 use Rattle.monitor.proofs.LookupFile.Lookups.{placed_still}
 use Rattle.monitor.proofs.RenameFile.MovedCore.{MovesFile, placed_moved}
 use Rattle.monitor.proofs.RenameFile.MovedFiles.{moved, moved_elsewhere, distinct_moved, shown_moved, same_or_another}
-use Rattle.monitor.proofs.common.Placing.{unclaimed}
+use Rattle.monitor.proofs.common.PlacedVersions.{unclaimed}
 use Rattle.monitor.proofs.CloseChannel.Publications.{IsBehind}
 use Rattle.monitor.proofs.CloseChannel.PublishedStates.{kept_keyed}
-use Rattle.monitor.proofs.common.ReadingJobs.{keeps_reading, reads_left}
+use Rattle.monitor.proofs.common.JobReaders.{keeps_reading, reads_left}
 use Rattle.monitor.proofs.common.ReadsMoved.{with_protected, reads_moved}
 use Rattle.monitor.proofs.common.WrittenStays.{writing_stays}
 use Rattle.spec_machine.specs.Sound as machine_states
-use Rattle.volume.specs.Renaming as volume
+use Rattle.volume.specs.RenameFile as volume
 
 -- each version has as many readers as before
-pub readers_moved : (c c' : VolumeCore) (ppn : ℕ) (name : FileName) (to_ppn : ℕ) (to : FileName) (protection : ℕ)
+pub readers_moved : (c c' : MemoryMap) (ppn : ℕ) (name : FileName) (to_ppn : ℕ) (to : FileName) (protection : ℕ)
     → MovesFile c c' ppn name to_ppn to protection → (k : ℕ)
     → readers_of (version_at c'.live k) ≡ readers_of (version_at c.live k)
 readers_moved c c' ppn name to_ppn to protection is k = ⊎_elim
@@ -33,8 +33,8 @@ readers_moved c c' ppn name to_ppn to protection is k = ⊎_elim
     ∙ sym (ap readers_of (ap (version_at c.live) same ∙ is.there)))
     (λ apart. ap readers_of (is.others k apart)) (cases_eq k is.key)
 
--- The file has moved, and what the caller's channel read of it, or of another version, is let go behind it.
-module _ (c b c' : VolumeCore) (jobs : List (Option Job)) (n : ℕ) (job job' : Job) (there : slot jobs n ≡ Some job)
+-- The file has moved, and what the caller's channel read of it, or of another version, is unpinned after it.
+module _ (c b c' : MemoryMap) (jobs : List (Option Job)) (n : ℕ) (job job' : Job) (there : slot jobs n ≡ Some job)
     (ppn : ℕ) (name : FileName) (to_ppn : ℕ) (to : FileName) (protection : ℕ)
     (is : MovesFile c b ppn name to_ppn to protection) (behind : IsBehind c b c' job job') where
   abbrev old : Place
@@ -69,8 +69,8 @@ module _ (c b c' : VolumeCore) (jobs : List (Option Job)) (n : ℕ) (job job' : 
               (same_or_another new old),
         )) placed)
 
-    module _ (d d' : DiskState) (s : State) (state : IsState d c jobs s) (whole : IsWholeCore d.size c) (x : Version)
-        (at : file_at s.files old ≡ Some x) (home : Directory Version) (housed : get s.files to_ppn ≡ Some home)
+    module _ (d d' : DiskState) (s : State) (state : IsState d c jobs s) (whole : IsWholeMemory d.size c) (x : SpecVersion)
+        (at : file_at s.files old ≡ Some x) (home : Directory SpecVersion) (housed : get s.files to_ppn ≡ Some home)
         (absent : new ≢ old → file_at s.files new ≡ None)
         (rests : RestsAt d' (volume.files_moved (without_serials s.files) ppn name to_ppn to protection))
         (readers : KeepsRead d.contents d'.contents c) (writers : KeepsEachWritten d.contents d'.contents c)
@@ -81,7 +81,7 @@ module _ (c b c' : VolumeCore) (jobs : List (Option Job)) (n : ℕ) (job job' : 
       abbrev pub under_moved : UnderKeys
       under_moved = with_protected w is.key protection
 
-      abbrev files' : Files Version
+      abbrev files' : Files SpecVersion
       files' = moved s.files old new protection x at home housed
 
       -- a file that is being created has another place than both

@@ -11,7 +11,7 @@ use Rattle.monitor.specs.declared.job.Job.{Job}
 pub address_within : (core : List ℕ) (e : ℕ) → lies_outside core e 4 ≡ false → length core ≤ 0o400000 → e + 4 ≤ 0o400000
 address_within core e inside few = grind (arith, nat_tests)
 
--- The protection of the words is asked for where they have a name.
+-- The protection of the words is asked for if they have a name.
 pub asks_for : (w : UnderKeys) (job : Job) (e protection : ℕ) → (slice_index job.core e ≡ 0 → ⊥)
     → protection ≡ slice_index job.core (e + 2) / 2 ^ 27 → Some protection ≡ asked_protection (job_of w job) e
 asks_for w job e protection named is = ap Some is

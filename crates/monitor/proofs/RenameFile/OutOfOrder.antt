@@ -1,16 +1,16 @@
--- RENAME on a channel that reads nothing is out of order, as the machine has it.
+-- RENAME on a channel that reads nothing is out of order, as it is for the machine.
 use Rattle.std.proofs.Common.{◌≡◌, ℕ, Bool, true, false, Option, None, Some, ap, ◌∙◌}
 use Rattle.std.specs.Prelude.{if◌then◌else◌, option_map}
 use Rattle.spec_machine.specs.Common.{lies_outside, State, slot, channel_at, job_at, with_job, settled, refused_at}
 use Rattle.spec_machine.specs.Common.{renames, rename_sides, rename_done, files_renamed, on_channel, of_files}
-use Rattle.spec_image.specs.Common.{Files, Version, Pack}
+use Rattle.spec_image.specs.Common.{Files, SpecVersion, Pack}
 use Rattle.spec_machine.specs.declared.call.Call.TheVariants.{Rename}
 use Rattle.spec_machine.specs.declared.call.Reply.{Reply}
 use Rattle.spec_machine.specs.declared.call.Reply.TheVariants.{Refused, NoChannel, AddressCheck}
 use Rattle.monitor.specs.Common.{with_code, IsRow, UnderKeys, input_of, channel_of, job_of}
-use Rattle.monitor.specs.declared.channel.Channel.{Channel}
+use Rattle.monitor.specs.declared.channel.OpenChannel.{OpenChannel}
 use Rattle.monitor.specs.declared.job.Job.{Job}
-use Rattle.monitor.proofs.common.Calling.{channel_is, on_none}
+use Rattle.monitor.proofs.common.CallRows.{channel_is, on_none}
 use Rattle.spec_machine.specs.Jobs as machine
 
 module _ (job : Job) (number e : ℕ) where
@@ -18,9 +18,9 @@ module _ (job : Job) (number e : ℕ) where
   rename_none none pack serial s n w moment at = on_none s n w job number
       (λ c. of_files s n (renames pack s (job_of w job) number c e)) none at
 
-  module _ (c : Channel) (there : slot job.channels number ≡ Some c) where
+  module _ (c : OpenChannel) (there : slot job.channels number ≡ Some c) where
     -- by whether the words are not all there, and by the input side
-    abbrev renamed : Pack → State → UnderKeys → Bool → Option machine.Input → Reply × (machine.Job × Files Version)
+    abbrev renamed : Pack → State → UnderKeys → Bool → Option machine.SpecInput → Reply × (machine.SpecJob × Files SpecVersion)
     renamed pack s w outside side =
         settled (if outside then AddressCheck else rename_sides pack s (job_of w job) e side (channel_of w c).output) (
           rename_done (job_of w job) number (channel_of w c),

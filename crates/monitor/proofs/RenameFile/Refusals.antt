@@ -14,17 +14,17 @@ use Rattle.spec_machine.specs.declared.call.Call.TheVariants.{Rename}
 use Rattle.spec_machine.specs.declared.call.Event.TheVariants.{Call as Calls}
 use Rattle.spec_machine.specs.declared.call.Reply.{Reply}
 use Rattle.spec_machine.specs.declared.call.Reply.TheVariants.{Refused}
-use Rattle.volume.specs.Common.{VolumeCore, slot as version_at, IsSoundCore}
+use Rattle.volume.specs.Common.{MemoryMap, slot as version_at, IsSoundMemory}
 use Rattle.volume.specs.declared.live.LiveVersion.{LiveVersion}
 use Rattle.monitor.specs.Common.{asked_protection, IsKnown, IsAmong, IsServing, ServesJob, readers_of, with_code}
 use Rattle.monitor.specs.Common.{IsRow, ArePlaced, IsState, IsTimely, UnderKeys, job_of, state_of}
-use Rattle.monitor.specs.declared.channel.Channel.{Channel}
+use Rattle.monitor.specs.declared.channel.OpenChannel.{OpenChannel}
 use Rattle.monitor.specs.declared.input.Input.{Input}
 use Rattle.monitor.specs.declared.job.Job.{Job}
-use Rattle.monitor.proofs.common.Answering.{state_is}
-use Rattle.monitor.proofs.common.ChangeServing.{told_serves}
+use Rattle.monitor.proofs.common.EventAnswers.{state_is}
+use Rattle.monitor.proofs.common.ChangeServes.{told_serves}
 use Rattle.monitor.proofs.EnterFile.Readers.{reading_core}
-use Rattle.monitor.proofs.common.Knowing.{known}
+use Rattle.monitor.proofs.common.KnownState.{known}
 use Rattle.monitor.proofs.common.Changes.{keeps_core}
 use Rattle.monitor.proofs.common.Promised.{alone_serves}
 use Rattle.monitor.proofs.RenameFile.Rows.{row_refused}
@@ -34,7 +34,7 @@ use Rattle.monitor.proofs.common.Refusals.{same_code}
 pub address_fits : (core : List ℕ) (e : ℕ) → lies_outside core e 4 ≡ false → length core ≤ 0o400000 → e < 0o400000
 address_fits core e inside few = grind (arith, nat_tests)
 
--- no protection is asked for where a file is deleted
+-- no protection is asked for if a file is deleted
 pub asks_none : (w : UnderKeys) (job : Job) (e : ℕ) → slice_index job.core e ≡ 0
     → None ≡ asked_protection (job_of w job) e
 asks_none w job e zero = sym (ap (λ b. if b then None else Some (protection_at (job_of w job) e))
@@ -57,10 +57,10 @@ still_read live live' key stays read (Ok x) = by (version_at live key) refl read
 -- The place that was looked up, or the new one, is refused.
 module _ {D : Type 0} (state : D → DiskState) (only_now : (disk : D) (contents : Contents) → (state disk).honest
     → (state disk).left_since (state disk).clock contents → MayLeave (state disk) contents) (disk : D)
-    (c : VolumeCore) (failed : Bool) (alive : failed ≡ false) (job : Job) (number e : ℕ)
-    (channel : Channel) (input : Input) (is_open : slot job.channels number ≡ Some channel)
+    (c : MemoryMap) (failed : Bool) (alive : failed ≡ false) (job : Job) (number e : ℕ)
+    (channel : OpenChannel) (input : Input) (is_open : slot job.channels number ≡ Some channel)
     (side : channel.input ≡ Some input) (free : channel.output ≡ None) (inside : lies_outside job.core e 4 ≡ false)
-    (sound : IsSoundCore (state disk) c false) (placed : ArePlaced c) (code : ErrorCode)
+    (sound : IsSoundMemory (state disk) c false) (placed : ArePlaced c) (code : ErrorCode)
     (refuses : (state disk).honest → (s : State) → IsKnown (state disk) c s → (w : UnderKeys)
     → rename_from (pack_of (state disk)) s (job_of w job) e (place_of input.ppn input.file) ≡ Refused (number_of code))
     (moment : Moment) (timely : IsTimely (state disk) moment) (jobs : List (Option Job)) (n : ℕ)
@@ -101,7 +101,7 @@ module _ {D : Type 0} (state : D → DiskState) (only_now : (disk : D) (contents
 -- It is out of order, whatever there is on the disk.
 pub out_of_order : {D : Type 0} (state : D → DiskState) → ((disk : D) (contents : Contents) → (state disk).honest
     → (state disk).left_since (state disk).clock contents → MayLeave (state disk) contents)
-    → (disk : D) (c : VolumeCore) (failed : Bool) (job after : Job) (number e : ℕ) (moment : Moment) (reply : Reply)
+    → (disk : D) (c : MemoryMap) (failed : Bool) (job after : Job) (number e : ℕ) (moment : Moment) (reply : Reply)
     → failed ≡ false → ArePlaced c → IsTimely (state disk) moment
     → IsRow job (with_code job e 5) (Rename number e) (Refused 5)
     → after ≡ with_code job e 5 → reply ≡ Refused 5

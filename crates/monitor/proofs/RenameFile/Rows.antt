@@ -6,31 +6,31 @@ use Rattle.blockdisk.specs.Common.{DiskState}
 use Rattle.spec_machine.specs.Common.{lies_outside, State, slot, settled, refused_at, rename_from, rename_sides}
 use Rattle.spec_machine.specs.Common.{rename_done, files_from, files_renamed, renames, step, on_channel, of_files}
 use Rattle.spec_machine.specs.Common.{last_date}
-use Rattle.spec_image.specs.Common.{Files, Place, pack_of, Version, Pack, place_of}
+use Rattle.spec_image.specs.Common.{Files, Place, pack_of, SpecVersion, Pack, place_of}
 use Rattle.spec_machine.specs.declared.call.Call.TheVariants.{Rename}
 use Rattle.spec_machine.specs.declared.call.Event.TheVariants.{Call as Calls}
 use Rattle.spec_machine.specs.declared.call.Reply.{Reply}
 use Rattle.spec_machine.specs.declared.call.Reply.TheVariants.{Done, Refused, AddressCheck}
 use Rattle.monitor.specs.Common.{input_closed, with_input_closed, with_code, IsRow, UnderKeys, input_of, output_of}
 use Rattle.monitor.specs.Common.{channel_of, job_of, state_of}
-use Rattle.monitor.specs.declared.channel.Channel.{Channel}
+use Rattle.monitor.specs.declared.channel.OpenChannel.{OpenChannel}
 use Rattle.monitor.specs.declared.input.Input.{Input}
 use Rattle.monitor.specs.declared.output.Output.{Output}
 use Rattle.monitor.specs.declared.job.Job.{Job}
-use Rattle.monitor.proofs.common.Answering.{called, job_set, settled_reply}
-use Rattle.monitor.proofs.common.Calling.{channel_is, channel_set}
+use Rattle.monitor.proofs.common.EventAnswers.{called, job_set, settled_reply}
+use Rattle.monitor.proofs.common.CallRows.{channel_is, channel_set}
 use Rattle.spec_machine.specs.Jobs as machine
 
-module _ (d : DiskState) (files : Files Version) (w : UnderKeys) (jobs : List (Option Job)) (n : ℕ) (job : Job)
+module _ (d : DiskState) (files : Files SpecVersion) (w : UnderKeys) (jobs : List (Option Job)) (n : ℕ) (job : Job)
     (there : slot jobs n ≡ Some job) (number e : ℕ) (moment : Moment)
     (timely : moment.date ≤ last_date (pack_of d).layout)
-    (channel : Channel) (is_open : slot job.channels number ≡ Some channel) (input : Input)
+    (channel : OpenChannel) (is_open : slot job.channels number ≡ Some channel) (input : Input)
     (side : channel.input ≡ Some input) (free : channel.output ≡ None)
     (inside : lies_outside job.core e 4 ≡ false) where
   abbrev t : State
   t = state_of files w jobs
 
-  abbrev j : machine.Job
+  abbrev j : machine.SpecJob
   j = job_of w job
 
   -- the place that was looked up
@@ -38,14 +38,14 @@ module _ (d : DiskState) (files : Files Version) (w : UnderKeys) (jobs : List (O
   old = place_of input.ppn input.file
 
   -- the row, by its sides and by what it answers
-  abbrev by_sides : Bool → Option Input → Option Output → Reply × (machine.Job × Files Version)
+  abbrev by_sides : Bool → Option Input → Option Output → Reply × (machine.SpecJob × Files SpecVersion)
   by_sides outside i o = settled
       (if outside then AddressCheck else rename_sides (pack_of d) t j e (option_map (input_of w) i)
       (option_map (output_of w) o))
       (rename_done j number (channel_of w channel), files_renamed files j e (option_map (input_of w) i))
       (λ reply. (refused_at j e reply, files))
 
-  abbrev by_answer : Reply → Reply × (machine.Job × Files Version)
+  abbrev by_answer : Reply → Reply × (machine.SpecJob × Files SpecVersion)
   by_answer reply = settled reply (rename_done j number (channel_of w channel), files_from files j e old)
       (λ r. (refused_at j e r, files))
 
@@ -82,12 +82,12 @@ module _ (d : DiskState) (files : Files Version) (w : UnderKeys) (jobs : List (O
 
 -- A channel that writes, too, is out of order.
 
-busy : (pack : Pack) (s : State) (j : machine.Job) (e : ℕ) (i : Option machine.Input) (o : machine.Output)
+busy : (pack : Pack) (s : State) (j : machine.SpecJob) (e : ℕ) (i : Option machine.SpecInput) (o : machine.SpecOutput)
     → rename_sides pack s j e i (Some o) ≡ Refused 5
 busy pack s j e None o = refl
 busy pack s j e (Some i) o = refl
 
-pub rename_writing : (job : Job) (number e : ℕ) (channel : Channel) → slot job.channels number ≡ Some channel
+pub rename_writing : (job : Job) (number e : ℕ) (channel : OpenChannel) → slot job.channels number ≡ Some channel
     → (o : Output) → channel.output ≡ Some o → lies_outside job.core e 4 ≡ false
     → IsRow job (with_code job e 5) (Rename number e) (Refused 5)
 rename_writing job number e channel is_open o writes inside pack serial s n w moment at =

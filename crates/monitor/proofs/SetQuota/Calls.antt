@@ -4,7 +4,7 @@ use Rattle.std.proofs.Common.{◌∙◌, inl, inr}
 use Rattle.std.specs.Prelude.{◌==◌, is_none, option_map}
 use Rattle.blockdisk.specs.Common.{DiskState}
 use Rattle.spec_machine.specs.Common.{lies_outside, State, limit_answer, system}
-use Rattle.spec_image.specs.Common.{Files, Directory, map_directory, pack_of, get, Version, without_serials}
+use Rattle.spec_image.specs.Common.{Files, Directory, map_directory, pack_of, get, SpecVersion, without_serials}
 use Rattle.spec_machine.specs.declared.call.Reply.{Reply}
 use Rattle.spec_machine.specs.declared.call.Reply.TheVariants.{Done, Refused, AddressCheck}
 use Rattle.volume.specs.Common.{RestsAt}
@@ -17,7 +17,7 @@ abbrev pick : Bool → Bool → Bool → Bool → Reply
 pick outside first gone system = if outside then AddressCheck else if first then Refused 5 else if gone then Refused 1
     else if not system then Refused 2 else Done
 
-module _ (d : DiskState) (files : Files Version) (w : UnderKeys) (jobs : List (Option Job)) (owner : ℕ)
+module _ (d : DiskState) (files : Files SpecVersion) (w : UnderKeys) (jobs : List (Option Job)) (owner : ℕ)
     (honest : d.honest) (rests : RestsAt d (without_serials files)) (layout : ℕ) (same : layout ≡ (pack_of d).layout)
   where
     abbrev t : State
@@ -26,7 +26,7 @@ module _ (d : DiskState) (files : Files Version) (w : UnderKeys) (jobs : List (O
     none_of : IsNowhere d owner → is_none (get files owner) ≡ true
     none_of nowhere = by (get files owner) (sym (shown_at files owner) ∙ nowhere honest (without_serials files) rests)
       where
-        by : (was : Option (Directory Version)) → option_map (map_directory (λ (v : Version). v.file)) was ≡ None
+        by : (was : Option (Directory SpecVersion)) → option_map (map_directory (λ (v : SpecVersion). v.file)) was ≡ None
             → is_none was ≡ true
         by None is = refl
         by (Some x) is = cc is
@@ -34,9 +34,9 @@ module _ (d : DiskState) (files : Files Version) (w : UnderKeys) (jobs : List (O
     one_of : IsThere d owner → is_none (get files owner) ≡ false
     one_of there = by (get files owner) refl
       where
-        by : (was : Option (Directory Version)) → get files owner ≡ was → is_none was ≡ false
+        by : (was : Option (Directory SpecVersion)) → get files owner ≡ was → is_none was ≡ false
         by None is = absurd (there honest (without_serials files) rests (shown_at files owner
-            ∙ ap (option_map (map_directory (λ (v : Version). v.file))) is))
+            ∙ ap (option_map (map_directory (λ (v : SpecVersion). v.file))) is))
         by (Some x) is = refl
 
     layout_is : (b : Bool) → (layout == 1) ≡ b → ((pack_of d).layout == 1) ≡ b

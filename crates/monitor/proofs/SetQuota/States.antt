@@ -9,7 +9,7 @@ use Rattle.words36.specs.declared.moment.Moment.{Moment}
 use Rattle.words36.specs.declared.names.FileName.{FileName}
 use Rattle.blockdisk.specs.Common.{DiskState}
 use Rattle.spec_image.specs.Common.{Files, Directory, Place, map_directory, name_cmp, pack_of, with_quota}
-use Rattle.spec_image.specs.Common.{files_limited, FinMap, get, insert, entries, values, map_values, Version}
+use Rattle.spec_image.specs.Common.{files_limited, FinMap, get, insert, entries, values, map_values, SpecVersion}
 use Rattle.spec_image.specs.Common.{without_serials, file_at}
 use Rattle.spec_machine.specs.Common.{State, slot, limit_answer, settled, refused_at, HaveDistinctSerials, step}
 use Rattle.spec_machine.specs.Common.{of_files, last_date}
@@ -19,11 +19,11 @@ use Rattle.spec_machine.specs.declared.call.Reply.{Reply}
 use Rattle.spec_machine.specs.declared.call.Reply.TheVariants.{Done}
 use Rattle.spec_image.proofs.Common.{insert_same, get-map_values, entries-map_values, map_values-insert}
 use Rattle.spec_image.proofs.Common.{file_at-limited}
-use Rattle.volume.specs.Common.{VolumeCore, pending_at, prime_at, RestsAt, KeepsRead, KeepsEachWritten}
+use Rattle.volume.specs.Common.{MemoryMap, pending_at, prime_at, RestsAt, KeepsRead, KeepsEachWritten}
 use Rattle.volume.specs.declared.pending.PendingVersion.{PendingVersion}
 use Rattle.monitor.specs.Common.{asked_owner, asked_quota, AreKeyed, AreReading, IsState, UnderKeys, job_of, state_of}
 use Rattle.monitor.specs.declared.job.Job.{Job}
-use Rattle.monitor.proofs.common.Answering.{job_set, called, settled_with}
+use Rattle.monitor.proofs.common.EventAnswers.{job_set, called, settled_with}
 use Rattle.monitor.proofs.common.Growths.{shown_at}
 use Rattle.monitor.proofs.common.ReadBookings.{versions_of}
 use Rattle.monitor.proofs.common.ReadStays.{reads_go}
@@ -31,14 +31,14 @@ use Rattle.monitor.proofs.common.WrittenStays.{writing_stays}
 use Rattle.spec_machine.specs.Sound as machine_states
 
 -- The machine's row, by its answer.
-module _ (d : DiskState) (files : Files Version) (w : UnderKeys) (jobs : List (Option Job))
+module _ (d : DiskState) (files : Files SpecVersion) (w : UnderKeys) (jobs : List (Option Job))
     (n : ℕ) (job : Job) (there : slot jobs n ≡ Some job) (e : ℕ) (moment : Moment)
     (timely : moment.date ≤ last_date (pack_of d).layout) where
   abbrev t : State
   t = state_of files w jobs
 
   -- the files with the quota
-  abbrev limited : Files Version
+  abbrev limited : Files SpecVersion
   limited = files_limited files (asked_owner job.core e) (asked_quota job.core e)
 
   abbrev by_answer : Reply → Reply × State
@@ -67,28 +67,28 @@ module _ (d : DiskState) (files : Files Version) (w : UnderKeys) (jobs : List (O
       ∙ ap (λ x. (reply, x)) (job_set files w jobs n job')
 
 -- The versions of files, by the files that each directory has.
-abbrev files_in : Directory Version → FinMap name_cmp Version
+abbrev files_in : Directory SpecVersion → FinMap name_cmp SpecVersion
 files_in d = d.files
 
-shape : (es : List (ℕ × Directory Version))
-    → flat_map (λ (d : Directory Version). values d.files) (map (λ (e : ℕ × Directory Version). e.1) es)
-    ≡ flat_map (λ (m : FinMap name_cmp Version). values m) (map (λ (e : ℕ × FinMap name_cmp Version). e.1)
-    (map (λ (e : ℕ × Directory Version). (e.0, files_in e.1)) es))
+shape : (es : List (ℕ × Directory SpecVersion))
+    → flat_map (λ (d : Directory SpecVersion). values d.files) (map (λ (e : ℕ × Directory SpecVersion). e.1) es)
+    ≡ flat_map (λ (m : FinMap name_cmp SpecVersion). values m) (map (λ (e : ℕ × FinMap name_cmp SpecVersion). e.1)
+    (map (λ (e : ℕ × Directory SpecVersion). (e.0, files_in e.1)) es))
 shape [] = refl
 shape (e ∷ es) = ap (λ vs. values e.1.files ++ vs) (shape es)
 
-by_files : (files : Files Version) → versions_of files
-    ≡ flat_map (λ (m : FinMap name_cmp Version). values m) (values (map_values files_in files))
+by_files : (files : Files SpecVersion) → versions_of files
+    ≡ flat_map (λ (m : FinMap name_cmp SpecVersion). values m) (values (map_values files_in files))
 by_files files = shape (entries files)
-    ∙ ap (λ es. flat_map (λ (m : FinMap name_cmp Version). values m)
-    (map (λ (e : ℕ × FinMap name_cmp Version). e.1) es)) (sym (entries-map_values nat_cmp_total files_in files))
+    ∙ ap (λ es. flat_map (λ (m : FinMap name_cmp SpecVersion). values m)
+    (map (λ (e : ℕ × FinMap name_cmp SpecVersion). e.1) es)) (sym (entries-map_values nat_cmp_total files_in files))
 
 -- A directory that has the same files leaves the same versions.
-same_versions : (files : Files Version) (owner : ℕ) (D new : Directory Version) → get files owner ≡ Some D
+same_versions : (files : Files SpecVersion) (owner : ℕ) (D new : Directory SpecVersion) → get files owner ≡ Some D
     → new.files ≡ D.files → versions_of (insert files owner new) ≡ versions_of files
 same_versions files owner D new there same =
     by_files (insert files owner new)
-    ∙ ap (λ (m : FinMap nat_cmp (FinMap name_cmp Version)). flat_map (λ (n : FinMap name_cmp Version). values n)
+    ∙ ap (λ (m : FinMap nat_cmp (FinMap name_cmp SpecVersion)). flat_map (λ (n : FinMap name_cmp SpecVersion). values n)
     (values m))
     (map_values-insert nat_cmp_total nat_cmp-IsAntisymmetric files_in files owner new
     ∙ ap (insert (map_values files_in files) owner) same
@@ -97,12 +97,12 @@ same_versions files owner D new there same =
     ∙ sym (by_files files)
 
 -- The files with a quota.
-module _ (files : Files Version) (owner quota : ℕ) where
+module _ (files : Files SpecVersion) (owner quota : ℕ) where
   -- the volume's, too
-  shown_by : (o : Option (Directory Version)) → without_serials (with_quota files owner quota o)
-      ≡ with_quota (without_serials files) owner quota (option_map (map_directory (λ (v : Version). v.file)) o)
+  shown_by : (o : Option (Directory SpecVersion)) → without_serials (with_quota files owner quota o)
+      ≡ with_quota (without_serials files) owner quota (option_map (map_directory (λ (v : SpecVersion). v.file)) o)
   shown_by None = refl
-  shown_by (Some D) = map_values-insert nat_cmp_total nat_cmp-IsAntisymmetric (map_directory (λ (v : Version). v.file)) files owner
+  shown_by (Some D) = map_values-insert nat_cmp_total nat_cmp-IsAntisymmetric (map_directory (λ (v : SpecVersion). v.file)) files owner
       (record D { quota = quota })
 
   pub shown_limited : without_serials (files_limited files owner quota)
@@ -111,7 +111,7 @@ module _ (files : Files Version) (owner quota : ℕ) where
       ∙ ap (with_quota (without_serials files) owner quota) (sym (shown_at files owner))
 
   -- no version is another
-  versions_by : (o : Option (Directory Version)) → get files owner ≡ o
+  versions_by : (o : Option (Directory SpecVersion)) → get files owner ≡ o
       → versions_of (with_quota files owner quota o) ≡ versions_of files
   versions_by None there = refl
   versions_by (Some D) there = same_versions files owner D (record D { quota = quota }) there refl
@@ -120,7 +120,7 @@ module _ (files : Files Version) (owner quota : ℕ) where
   versions_limited = versions_by (get files owner) refl
 
 -- The state that the monitor stands for.
-module _ (d d' : DiskState) (c c' : VolumeCore) (jobs jobs' : List (Option Job)) (s : State)
+module _ (d d' : DiskState) (c c' : MemoryMap) (jobs jobs' : List (Option Job)) (s : State)
     (state : IsState d c jobs s) (keyed : AreKeyed c'.pending jobs') (reading : AreReading c'.live jobs')
     (live : c'.live ≡ c.live) (pending : c'.pending ≡ c.pending)
     (primes : (ppn : ℕ) (name : FileName) → prime_at c' ppn name ≡ prime_at c ppn name)

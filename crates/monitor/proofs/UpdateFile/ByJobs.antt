@@ -8,22 +8,22 @@ use Rattle.spec_machine.specs.declared.call.Call.TheVariants.{Enter}
 use Rattle.spec_machine.specs.declared.call.Event.TheVariants.{Call as Calls}
 use Rattle.spec_machine.specs.declared.call.Reply.{Reply}
 use Rattle.spec_machine.specs.declared.call.Reply.TheVariants.{Done}
-use Rattle.volume.specs.Common.{VolumeCore, IsWholeCore, IsSoundCore, RestsAt}
+use Rattle.volume.specs.Common.{MemoryMap, IsWholeMemory, IsSoundMemory, RestsAt}
 use Rattle.monitor.specs.Common.{IsEnterAnswer, IsKnown, AreKeyed, AreReading, Serves, IsTimely, UnderKeys, job_of}
 use Rattle.monitor.specs.Common.{IsUpdating, IsUpdateOf}
-use Rattle.monitor.specs.declared.channel.Channel.{Channel}
+use Rattle.monitor.specs.declared.channel.OpenChannel.{OpenChannel}
 use Rattle.monitor.specs.declared.input.Input.{Input}
 use Rattle.monitor.specs.declared.job.Job.{Job}
-use Rattle.monitor.proofs.common.Answering.{in_state, is_done}
+use Rattle.monitor.proofs.common.EventAnswers.{in_state, is_done}
 use Rattle.monitor.proofs.EnterFile.Refusals.{other_keyed, other_reading, other_leads}
 use Rattle.monitor.proofs.UpdateFile.Calls.{update_keyed, update_reading, updating_leads}
 
-module _ (d d' : DiskState) (map map' : VolumeCore) (jobs jobs' : List (Option Job)) (n : ℕ) (job job' : Job)
-    (ch e : ℕ) (moment : Moment) (c : Channel) (input : Input) (reply : Reply)
+module _ (d d' : DiskState) (map map' : MemoryMap) (jobs jobs' : List (Option Job)) (n : ℕ) (job job' : Job)
+    (ch e : ℕ) (moment : Moment) (c : OpenChannel) (input : Input) (reply : Reply)
     (there : slot jobs n ≡ Some job) (set : jobs' ≡ slice_set jobs n (Some job')) (keyed : AreKeyed map.pending jobs)
     (reading : AreReading map.live jobs)
     (begun : reply ≡ Done → (key : ℕ) × (is : IsUpdating map map' job job' ch e c input key)
-    × IsWholeCore d.size is.between
+    × IsWholeMemory d.size is.between
     × (d'.honest → (files : Files File) → RestsAt d files
     → IsUpdateOf d.contents job input is.kind is.version is.renews.between is.renewed files))
     (kept : (reply ≡ Done → ⊥) → (map' ≡ map) × (job' ≡ record job { core = job'.core })) where
@@ -43,7 +43,7 @@ module _ (d d' : DiskState) (map map' : VolumeCore) (jobs jobs' : List (Option J
       (other_reading d map false jobs jobs' n job job' ch e moment reply there set k.1 not keyed reading))
       (is_done reply)
 
-  pub update_answered : (failed : Bool) → failed ≡ false → IsSoundCore d map false → d.honest → d'.honest
+  pub update_answered : (failed : Bool) → failed ≡ false → IsSoundMemory d map false → d.honest → d'.honest
       → IsTimely d moment
       → ((s : State) → IsKnown d map s → (w : UnderKeys)
       → IsEnterAnswer (pack_of d) s (job_of w job) (job_of w job') (channel_at (job_of w job) ch) e reply)

@@ -5,7 +5,7 @@ use Rattle.std.specs.Prelude.{if◌then◌else◌, IfSome, option_map, option_to
 use Rattle.words36.specs.declared.names.FileName.{FileName}
 use Rattle.words36.specs.declared.moment.Moment.{Moment}
 use Rattle.blockdisk.specs.Common.{DiskState}
-use Rattle.spec_image.specs.Common.{blocks_of, File, Files, Place, get, times, Version, without_serials, file_at}
+use Rattle.spec_image.specs.Common.{blocks_of, File, Files, Place, get, times, SpecVersion, without_serials, file_at}
 use Rattle.spec_image.specs.Common.{with_protection, HasBody, place_of, pack_of}
 use Rattle.spec_machine.specs.Common.{enter, enter_answer, enter_done, entered, output_opened, input_updating}
 use Rattle.spec_machine.specs.Common.{output_updating, State, slot, channel_at, with_channel, is_create, place_at}
@@ -17,51 +17,51 @@ use Rattle.spec_machine.specs.declared.call.Reply.TheVariants.{Done}
 use Rattle.spec_image.proofs.Common.{some_same, times_head, times_other}
 use Rattle.spec_machine.proofs.Common.{none_some}
 use Rattle.retrieval.specs.declared.prime.Prime.{Prime}
-use Rattle.volume.specs.Common.{begun, is_update, Before, VolumeCore, pending_at, is_creation, IsWholeCore}
-use Rattle.volume.specs.Common.{IsWholePending, AreWaiting, is_create as creates_name, prime_at, IsSoundCore, RestsAt}
-use Rattle.volume.specs.declared.pending.Kind.{Kind as VersionKind}
+use Rattle.volume.specs.Common.{begun, is_update, Before, MemoryMap, pending_at, is_creation, IsWholeMemory}
+use Rattle.volume.specs.Common.{IsWholePending, AreWaiting, is_create as creates_name, prime_at, IsSoundMemory, RestsAt}
+use Rattle.volume.specs.declared.pending.PendingKind.{PendingKind}
 use Rattle.volume.specs.declared.pending.PendingVersion.{PendingVersion}
 use Rattle.monitor.specs.Common.{IsEnterAnswer, IsKnown, file_begun, named_in, AreRead, ArePinned, KeepsSides}
 use Rattle.monitor.specs.Common.{KeepsReading, present, IsSide, AreKeyed, IsWriting, AreReading, IsState, Serves}
 use Rattle.monitor.specs.Common.{IsTimely, Writing, UnderKeys, side_of, kind_of, input_of, output_of, channel_of}
 use Rattle.monitor.specs.Common.{job_of, state_of, pins_of, readers, update_kind, updating_kind, first_block}
 use Rattle.monitor.specs.Common.{updating_side, updating, IsUpdating, IsUpdateOf}
-use Rattle.monitor.specs.declared.channel.Channel.{Channel}
+use Rattle.monitor.specs.declared.channel.OpenChannel.{OpenChannel}
 use Rattle.monitor.specs.declared.input.Input.{Input}
 use Rattle.monitor.specs.declared.output.Output.{Output}
 use Rattle.monitor.specs.declared.job.Job.{Job}
-use Rattle.monitor.proofs.common.Answering.{state_is, job_set, called, goes_on}
-use Rattle.monitor.proofs.common.Calling.{channel_is, channel_set}
+use Rattle.monitor.proofs.common.EventAnswers.{state_is, job_set, called, goes_on}
+use Rattle.monitor.proofs.common.CallRows.{channel_is, channel_set}
 use Rattle.monitor.proofs.common.Dropped.{same_or_not, keeps_keyed}
-use Rattle.monitor.proofs.EnterFile.Serving.{with_writing, with_same, with_other, jobs_same}
+use Rattle.monitor.proofs.EnterFile.Serves.{with_writing, with_same, with_other, jobs_same}
 use Rattle.monitor.proofs.common.Growths.{shown_at}
-use Rattle.monitor.proofs.common.Knowing.{known}
+use Rattle.monitor.proofs.common.KnownState.{known}
 use Rattle.monitor.proofs.LookupFile.LookupAnswers.{version_in}
 use Rattle.monitor.proofs.LookupFile.Calls.{with_version}
 use Rattle.monitor.proofs.common.ReadStays.{reads_kept}
-use Rattle.monitor.proofs.common.ReadingJobs.{keeps_reading}
+use Rattle.monitor.proofs.common.JobReaders.{keeps_reading}
 use Rattle.monitor.proofs.common.ReadsPinned.{with_read_same}
 use Rattle.monitor.proofs.common.Renewals.{renewed_pending, renewed_reading, renewed_reads, renewed_jobs}
 use Rattle.monitor.proofs.common.Dates.{attributes_in, version_dated}
 use Rattle.monitor.proofs.common.SideLists.{count, count-channel, each-channel}
 use Rattle.spec_machine.specs.Jobs as machine
-use Rattle.volume.specs.declared.pending.Kind.TheVariants as kinds
+use Rattle.volume.specs.declared.pending.PendingKind.TheVariants as kinds
 
 -- a version that begins with a file is no new name
-no_creation : (kind : VersionKind) → is_update kind ≡ true → creates_name kind ≡ false
+no_creation : (kind : PendingKind) → is_update kind ≡ true → creates_name kind ≡ false
 no_creation kinds.Create updates = cc updates
 no_creation kinds.Supersede updates = cc updates
 no_creation kinds.Update updates = refl
 no_creation kinds.Append updates = refl
 
 -- nor is its side
-no_creator : (kind : VersionKind) (blocks : ℕ) → is_create (kind_of (updating_kind kind blocks)) ≡ false
+no_creator : (kind : PendingKind) (blocks : ℕ) → is_create (kind_of (updating_kind kind blocks)) ≡ false
 no_creator kinds.Create blocks = refl
 no_creator kinds.Supersede blocks = refl
 no_creator kinds.Update blocks = refl
 no_creator kinds.Append blocks = refl
 
-first_is : (kind : VersionKind) (blocks : ℕ) → 0 < first_block kind blocks
+first_is : (kind : PendingKind) (blocks : ℕ) → 0 < first_block kind blocks
 first_is kinds.Create blocks = omega arith
 first_is kinds.Supersede blocks = omega arith
 first_is kinds.Update blocks = omega arith
@@ -69,7 +69,7 @@ first_is kinds.Append blocks = omega arith
 
 -- The output side that is opened is the machine's, by the job's digit.
 
-abbrev as_machine : Place → Version → Bool → machine.Output
+abbrev as_machine : Place → SpecVersion → Bool → machine.SpecOutput
 as_machine place v b = if b then record { place = place; kind = machine.Update; pending = v.file; next = 1 }
     else record {
       place = place;
@@ -78,7 +78,7 @@ as_machine place v b = if b then record { place = place; kind = machine.Update; 
       next = blocks_of (length v.file.body) + 1;
     }
 
-abbrev as_monitor : Place → Version → VersionKind → ℕ → machine.Output
+abbrev as_monitor : Place → SpecVersion → PendingKind → ℕ → machine.SpecOutput
 as_monitor place v kind blocks = record {
   place = place;
   kind = kind_of (updating_kind kind blocks);
@@ -86,7 +86,7 @@ as_monitor place v kind blocks = record {
   next = first_block kind blocks;
 }
 
-side_updating : (digit : ℕ) (place : Place) (v : Version) (kind : VersionKind) (blocks : ℕ) → kind ≡ update_kind digit
+side_updating : (digit : ℕ) (place : Place) (v : SpecVersion) (kind : PendingKind) (blocks : ℕ) → kind ≡ update_kind digit
     → (kind ≡ kinds.Append → blocks ≡ blocks_of (length v.file.body))
     → output_updating digit place v ≡ as_monitor place v kind blocks
 side_updating digit place v kind blocks is kept = by (may_update digit) refl
@@ -100,7 +100,7 @@ side_updating digit place v kind blocks is kept = by (may_update digit) refl
         ∙ ap (λ l. as_monitor place v l blocks) (sym k)
 
 -- an append keeps all blocks that it begins with
-all_kept : (kind : VersionKind) (prime : Prime) (old : Before) (p : PendingVersion) → p ≡ begun kind prime old
+all_kept : (kind : PendingKind) (prime : Prime) (old : Before) (p : PendingVersion) → p ≡ begun kind prime old
     → kind ≡ kinds.Append → p.kept_blocks ≡ length p.version.blocks
 all_kept kind prime old p is append =
     ap (λ (q : PendingVersion). q.kept_blocks) same ∙ sym (ap (λ (q : PendingVersion). length q.version.blocks) same)
@@ -115,8 +115,8 @@ waiting_at size [] key p all is = cc is
 waiting_at size (o ∷ os) zero p all is = subst (λ (x : Option PendingVersion). IfSome x (IsWholePending size)) is all.0
 waiting_at size (o ∷ os) (suc key) p all is = waiting_at size os key p all.1 is
 
-module _ (d : DiskState) (map map' : VolumeCore) (jobs jobs' : List (Option Job)) (n : ℕ) (job job' : Job)
-    (ch e : ℕ) (moment : Moment) (c : Channel) (input : Input) (key : ℕ)
+module _ (d : DiskState) (map map' : MemoryMap) (jobs jobs' : List (Option Job)) (n : ℕ) (job job' : Job)
+    (ch e : ℕ) (moment : Moment) (c : OpenChannel) (input : Input) (key : ℕ)
     (there : slot jobs n ≡ Some job) (set : jobs' ≡ slice_set jobs n (Some job'))
     (is : IsUpdating map map' job job' ch e c input key) (keyed : AreKeyed map.pending jobs)
     (reading : AreReading map.live jobs) where
@@ -124,7 +124,7 @@ module _ (d : DiskState) (map map' : VolumeCore) (jobs jobs' : List (Option Job)
   abbrev out : Output
   out = updating_side key is.kind is.version.kept_blocks
 
-  abbrev now : Channel
+  abbrev now : OpenChannel
   now = updating c is.renewed out
 
   pending_is : map'.pending ≡ is.between.pending
@@ -186,8 +186,8 @@ module _ (d : DiskState) (map map' : VolumeCore) (jobs jobs' : List (Option Job)
       ch now c
       (with_attributes 2 job.core e (file_begun is.version.prime)) is.there is.side refl))))
 
-  module _ (sound : IsSoundCore d map false) (honest : d.honest) (timely : IsTimely d moment)
-      (whole : IsWholeCore d.size is.between)
+  module _ (sound : IsSoundMemory d map false) (honest : d.honest) (timely : IsTimely d moment)
+      (whole : IsWholeMemory d.size is.between)
       (row : (s : State) → IsKnown d map s → (w : UnderKeys)
       → IsEnterAnswer (pack_of d) s (job_of w job) (job_of w job') (channel_at (job_of w job) ch) e Done)
       (updates : (files : Files File) → RestsAt d files
@@ -201,11 +201,11 @@ module _ (d : DiskState) (map map' : VolumeCore) (jobs jobs' : List (Option Job)
       place = place_of input.ppn input.file
 
       -- the version that is current
-      found : (x : Version) × (file_at s.files place ≡ Some x) × (x.file ≡ of_file.file)
+      found : (x : SpecVersion) × (file_at s.files place ≡ Some x) × (x.file ≡ of_file.file)
       found = version_in (get s.files input.ppn) input.file of_file.file
           (sym (ap (λ o. named_in o input.file) (shown_at s.files input.ppn)) ∙ of_file.there)
 
-      abbrev version : Version
+      abbrev version : SpecVersion
       version = found.0
 
       abbrev new_writing : Writing

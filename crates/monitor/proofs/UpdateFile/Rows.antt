@@ -12,27 +12,27 @@ use Rattle.spec_machine.specs.declared.call.Reply.TheVariants.{Done, Refused, Ad
 use Rattle.spec_image.proofs.Common.{some_same}
 use Rattle.retrieval.specs.declared.prime.Prime.{Prime}
 use Rattle.volume.specs.Common.{kept_blocks, IsBegun, Before, IsNamed, IsWholeVersion, IsWholeDirectory, IsWholeMap}
-use Rattle.volume.specs.Common.{VolumeCore, pending_at, as_written, slot as version_at, IsVersionOf, IsPinAnswer}
+use Rattle.volume.specs.Common.{MemoryMap, pending_at, as_written, slot as version_at, IsVersionOf, IsPinAnswer}
 use Rattle.volume.specs.Common.{BeginsWithFile}
 use Rattle.volume.specs.declared.live.LiveVersion.{LiveVersion}
-use Rattle.volume.specs.declared.pending.Kind.{Kind}
-use Rattle.volume.specs.declared.pending.Kind.TheVariants.{Create, Supersede, Update, Append}
+use Rattle.volume.specs.declared.pending.PendingKind.{PendingKind}
+use Rattle.volume.specs.declared.pending.PendingKind.TheVariants.{Create, Supersede, Update, Append}
 use Rattle.volume.specs.declared.pending.PendingVersion.{PendingVersion}
-use Rattle.volume.proofs.common.Answering.{all_at_place}
+use Rattle.volume.proofs.common.Answers.{all_at_place}
 use Rattle.monitor.specs.Common.{IsEnterAnswer, named_in, digit_for, readers_of, Renews, UnderKeys, reader_of}
 use Rattle.monitor.specs.Common.{readers_in, pins_of, input_of, output_of, channel_of, job_of, update_kind}
 use Rattle.monitor.specs.Common.{update_answer_at, IsUpdateOf}
-use Rattle.monitor.specs.declared.channel.Channel.{Channel}
+use Rattle.monitor.specs.declared.channel.OpenChannel.{OpenChannel}
 use Rattle.monitor.specs.declared.input.Input.{Input}
 use Rattle.monitor.specs.declared.job.Job.{Job}
 use Rattle.monitor.specs.declared.output.Output.{Output}
-use Rattle.monitor.proofs.common.Calling.{channel_is}
+use Rattle.monitor.proofs.common.CallRows.{channel_is}
 use Rattle.monitor.proofs.common.ReaderLists.{held, held-channel}
 use Rattle.spec_machine.specs.Jobs as machine
 
 -- What is answered.
 
-module _ (pack : Pack) (s : State) (w : UnderKeys) (job : Job) (number e : ℕ) (c : Channel) (input : Input)
+module _ (pack : Pack) (s : State) (w : UnderKeys) (job : Job) (number e : ℕ) (c : OpenChannel) (input : Input)
     (there : slot job.channels number ≡ Some c) (inside : lies_outside job.core e 4 ≡ false) (reads : c.input
     ≡ Some input) where
   -- the channel writes, or the words name another place than that of the file that it reads
@@ -51,7 +51,7 @@ module _ (pack : Pack) (s : State) (w : UnderKeys) (job : Job) (number e : ℕ) 
       else if (place_at (job_of w job) e).name.name == 0 then Refused 0
       else begin_answer pack s (job_of w job) (option_map (input_of w) (reads i)) (place_at (job_of w job) e)
 
-  answered : (job' : machine.Job) (reply : Reply)
+  answered : (job' : machine.SpecJob) (reply : Reply)
       → IsEnterAnswer pack s (job_of w job) job' (Some (channel_of w c)) e reply
       → IsEnterAnswer pack s (job_of w job) job' (channel_at (job_of w job) number) e reply
   answered job' reply is = subst (λ o. IsEnterAnswer pack s (job_of w job) job' o e reply)
@@ -86,7 +86,7 @@ module _ (pack : Pack) (s : State) (w : UnderKeys) (job : Job) (number e : ℕ) 
         ∙ ap (λ b. if b then Refused 5 else update_answer_at pack s (job_of w job) (place_at (job_of w job) e)) goes_on
         ∙ ap (update_answer_at pack s (job_of w job)) (sym named)
 
-    pub done : (job' : machine.Job) → answer ≡ Done
+    pub done : (job' : machine.SpecJob) → answer ≡ Done
         → IsEnterAnswer pack s (job_of w job) job' (channel_at (job_of w job) number) e Done
     done job' is = answered job' Done (inr (answer_is ∙ is, λ not. absurd (not refl)))
 
@@ -100,8 +100,8 @@ module _ (pack : Pack) (s : State) (w : UnderKeys) (job : Job) (number e : ℕ) 
         → IsEnterAnswer pack s (job_of w job) (job_of w job) (channel_at (job_of w job) number) e NoMemory
     wanting plain = answered (job_of w job) NoMemory (inl (refl, ap is_plain answer_is ∙ plain, refl))
 
--- What a channel reads is held.
-pub reader_held : (live : List (Option LiveVersion)) (job : Job) (number : ℕ) (c : Channel) (input : Input)
+-- What a channel reads is pinned.
+pub reader_held : (live : List (Option LiveVersion)) (job : Job) (number : ℕ) (c : OpenChannel) (input : Input)
     → slot job.channels number ≡ Some c → c.input ≡ Some input
     → ((key : ℕ) → times key (pins_of (readers_in (Some job))) ≤ readers_of (version_at live key))
     → (key : ℕ) → times key (pins_of (option_to_list (Some input))) ≤ readers_of (version_at live key)
@@ -112,14 +112,14 @@ reader_held live job number c input there reads all key =
     omega arith
 
 -- A version has so few blocks that one more is counted in 32 bits.
-pub few_kept : (size : ℕ) (c c' : VolumeCore) (key : ℕ) (kind : Kind) (prime : Prime) → IsWholeMap size c.known
+pub few_kept : (size : ℕ) (c c' : MemoryMap) (key : ℕ) (kind : PendingKind) (prime : Prime) → IsWholeMap size c.known
     → IsBegun c c' key kind prime → (p : PendingVersion) → pending_at c'.pending key ≡ Some p
     → p.kept_blocks + 1 < 2 ^ 32
 few_kept size c c' key kind prime whole begins p at =
     subst (λ (q : PendingVersion). q.kept_blocks + 1 < 2 ^ 32) (some_same (sym begins.here ∙ at))
     (by kind begins.old begins.named)
   where
-    by : (k : Kind) (prior : Before) → IsNamed begins.directory prime.file prior → kept_blocks k prior + 1 < 2 ^ 32
+    by : (k : PendingKind) (prior : Before) → IsNamed begins.directory prime.file prior → kept_blocks k prior + 1 < 2 ^ 32
     by Create prior named = omega arith
     by Supersede prior named = omega arith
     by Update prior named = omega arith
@@ -132,9 +132,9 @@ few_kept size c c' key kind prime whole begins p at =
         let few = whole_v.few in
         omega arith
 
--- The file that it updates is that of its place, and so is the one that its input side then holds.
-pub is_update_of : (contents : Contents) (job : Job) (input : Input) (kind : Kind) (version : PendingVersion)
-    (pending : Option PendingVersion) (between c' : VolumeCore) (renewed : Input) (files : Files File)
+-- The file that it updates is that of its place, and so is the one that its input side then pins.
+pub is_update_of : (contents : Contents) (job : Job) (input : Input) (kind : PendingKind) (version : PendingVersion)
+    (pending : Option PendingVersion) (between c' : MemoryMap) (renewed : Input) (files : Files File)
     (renews : Renews between c' input renewed input.ppn input.file version.prime.protection)
     → pending ≡ Some version
     → BeginsWithFile contents pending input.file (get files input.ppn)

@@ -1,4 +1,4 @@
--- An ENTER that updates a file or appends to it begins, or is refused, as the machine says.
+-- An ENTER that updates a file or appends to it begins, or is refused, as by the machine.
 use Rattle.std.proofs.Common.{◌≡◌, ◌↔◌, ◌<◌, ℕ, ◌+◌, Bool, true, false, nat_lt, length, Option, None, Some, Result}
 use Rattle.std.proofs.Common.{Ok, Err, refl, sym, ap, subst, ◌∙◌, ⊎_elim}
 use Rattle.std.proofs.lemmas.Bool.{both_ways}
@@ -7,7 +7,7 @@ use Rattle.std.specs.Ordering.{nat_cmp}
 use Rattle.std.specs.FinMap.Entries.{find}
 use Rattle.words36.specs.declared.names.FileName.{FileName}
 use Rattle.blockdisk.specs.Common.{DiskState}
-use Rattle.spec_image.specs.Common.{number_of, version_cost, File, Directory, Place, map_directory, get, Version}
+use Rattle.spec_image.specs.Common.{number_of, version_cost, File, Directory, Place, map_directory, get, SpecVersion}
 use Rattle.spec_image.specs.Common.{without_serials, file_in, file_at, pack_of}
 use Rattle.spec_machine.specs.Common.{State, digit_for_directory, digit_for_version, may_look, may_append, may_update}
 use Rattle.spec_machine.specs.Common.{directory_digit, file_digit, exceeds_left, exceeds_limits, is_plain}
@@ -19,18 +19,18 @@ use Rattle.spec_machine.specs.declared.call.Reply.TheVariants.{Done, Refused}
 use Rattle.spec_image.proofs.Common.{get-map_values, name_total}
 use Rattle.alloctab.specs.Common.{space}
 use Rattle.volume.specs.Common.{begin_cost, entries_with, is_absent, is_update, IsBeginRefusal, IsDirectoryOf, IsOver}
-use Rattle.volume.specs.Common.{claims, KnownVersion, KnownDirectory, cost_of_version, VolumeCore, is_create}
-use Rattle.volume.specs.Common.{IsSoundCore}
+use Rattle.volume.specs.Common.{claims, CurrentVersion, CurrentDirectory, cost_of_version, MemoryMap, is_create}
+use Rattle.volume.specs.Common.{IsSoundMemory}
 use Rattle.volume.specs.declared.error.CallError.{CallError}
-use Rattle.volume.specs.declared.pending.Kind.{Kind}
-use Rattle.volume.specs.declared.pending.Kind.TheVariants.{Create, Supersede, Update, Append}
-use Rattle.volume.proofs.common.Answering.{Holds, rest_holds}
+use Rattle.volume.specs.declared.pending.PendingKind.{PendingKind}
+use Rattle.volume.specs.declared.pending.PendingKind.TheVariants.{Create, Supersede, Update, Append}
+use Rattle.volume.proofs.common.Answers.{Holds, rest_holds}
 use Rattle.volume.proofs.BeginVersion.BegunFiles.{file_known, begins_with_cost, update_creates}
 use Rattle.monitor.specs.Common.{IsKnown, IsAnswer, found_file, found_in, begun_as, named_in, digit_for, UnderKeys}
 use Rattle.monitor.specs.Common.{job_of, allowed_update, update_kind, update_answer_at}
 use Rattle.monitor.specs.declared.found.Found.{Found}
 use Rattle.monitor.specs.declared.job.Job.{Job}
-use Rattle.monitor.proofs.EnterFile.Beginning.{home, listed}
+use Rattle.monitor.proofs.EnterFile.Begins.{home, listed}
 use Rattle.monitor.proofs.common.Numbers.{less, not_less}
 use Rattle.monitor.proofs.EnterFile.Outcomes.{begun_kind}
 use Rattle.monitor.proofs.common.Growths.{shown_at}
@@ -39,7 +39,7 @@ use Rattle.spec_machine.specs.Jobs as machine
 use Rattle.volume.specs.declared.error.CallError.TheVariants as errors
 use Rattle.monitor.specs.declared.found.Found.TheVariants as found
 
--- How a job begins that may.
+-- How a job that may begin does so.
 
 kind_updates : (digit : ℕ) → is_update (update_kind digit) ≡ true
 kind_updates digit = by (may_update digit)
@@ -49,7 +49,7 @@ kind_updates digit = by (may_update digit)
     by false = refl
 
 -- it begins with the file
-pub updates : (f : Found) (who owner : ℕ) (is_zero claimed : Bool) (kind : Kind)
+pub updates : (f : Found) (who owner : ℕ) (is_zero claimed : Bool) (kind : PendingKind)
     → allowed_update f who owner is_zero claimed ≡ Ok kind → is_update kind ≡ true
 updates found.NoDirectory who owner is_zero claimed kind is = cc is
 updates (found.Absent p) who owner is_zero claimed kind is = cc is
@@ -58,7 +58,7 @@ updates (found.Present p q) who owner is_zero claimed kind is =
     ∙ kind_updates (file_digit q who owner)
 
 -- in the way that the job's digit for it allows
-pub kind_is : (o : Option (Directory File)) (name : FileName) (who owner : ℕ) (is_zero claimed : Bool) (kind : Kind)
+pub kind_is : (o : Option (Directory File)) (name : FileName) (who owner : ℕ) (is_zero claimed : Bool) (kind : PendingKind)
     → allowed_update (found_in o name) who owner is_zero claimed ≡ Ok kind
     → kind ≡ update_kind (digit_for who owner (named_in o name))
 kind_is None name who owner is_zero claimed kind is = cc is
@@ -70,12 +70,12 @@ kind_is (Some d) name who owner is_zero claimed kind is = by (get d.files name) 
     by (Some file) e = begun_kind (update_kind (file_digit file.protection who owner)) kind _ is_zero claimed e
 
 -- What is answered, by whether a job may and whether there is room for the whole file.
-abbrev update_reply : Result Kind ErrorCode → Bool → Reply
+abbrev update_reply : Result PendingKind ErrorCode → Bool → Reply
 update_reply (Err code) full = Refused (number_of code)
 update_reply (Ok kind) full = if full then Refused 0o14 else Done
 
 -- the same as the machine has it
-abbrev update_at : ℕ → FileName → Option (Directory Version) → machine.Job → Bool → Bool → Bool → Reply
+abbrev update_at : ℕ → FileName → Option (Directory SpecVersion) → machine.SpecJob → Bool → Bool → Bool → Reply
 update_at owner name o job is_zero claimed full =
     if is_none o then Refused 1
     else if is_zero then Refused 0
@@ -90,7 +90,7 @@ none_reply : (is_zero : Bool) → (if is_zero then Refused 0 else Refused 0) ≡
 none_reply true = refl
 none_reply false = refl
 
-file_reply : (kind : Kind) (is_zero look append claimed full : Bool)
+file_reply : (kind : PendingKind) (is_zero look append claimed full : Bool)
     → (if is_zero then Refused 0 else if not look || not append then Refused 2 else if claimed then Refused 3
     else if full then Refused 0o14 else Done) ≡ update_reply (begun_as kind (look && append) is_zero claimed) full
 file_reply kind true look append claimed full = refl
@@ -99,17 +99,17 @@ file_reply kind false true false claimed full = refl
 file_reply kind false true true true full = refl
 file_reply kind false true true false full = refl
 
-update_is : (name : FileName) (owner : ℕ) (job : machine.Job) (o : Option (Directory Version))
+update_is : (name : FileName) (owner : ℕ) (job : machine.SpecJob) (o : Option (Directory SpecVersion))
     (is_zero claimed full : Bool)
     → update_at owner name o job is_zero claimed full
-    ≡ update_reply (allowed_update (found_in (option_map (map_directory (λ (v : Version). v.file)) o) name) job.ppn
+    ≡ update_reply (allowed_update (found_in (option_map (map_directory (λ (v : SpecVersion). v.file)) o) name) job.ppn
     owner is_zero claimed) full
 update_is name owner job None is_zero claimed full = refl
 update_is name owner job (Some d) is_zero claimed full =
     by (get d.files name) ∙ ap (λ f. update_reply (allowed_update (found_file d.protection f) job.ppn owner is_zero
-    claimed) full) (sym (get-map_values name_total (λ (v : Version). v.file) d.files name))
+    claimed) full) (sym (get-map_values name_total (λ (v : SpecVersion). v.file) d.files name))
   where
-    answer_for : Option Version → Reply
+    answer_for : Option SpecVersion → Reply
     answer_for was =
         if is_zero then Refused 0
         else if is_none was then Refused 0
@@ -119,8 +119,8 @@ update_is name owner job (Some d) is_zero claimed full =
         else if full then Refused 0o14
         else Done
 
-    by : (was : Option Version) → answer_for was
-        ≡ update_reply (allowed_update (found_file d.protection (option_map (λ (v : Version). v.file) was)) job.ppn
+    by : (was : Option SpecVersion) → answer_for was
+        ≡ update_reply (allowed_update (found_file d.protection (option_map (λ (v : SpecVersion). v.file) was)) job.ppn
         owner is_zero claimed) full
     by None = none_reply is_zero
     by (Some v) = file_reply (update_kind (file_digit v.file.protection job.ppn owner)) is_zero
@@ -128,16 +128,16 @@ update_is name owner job (Some d) is_zero claimed full =
         (may_append (file_digit v.file.protection job.ppn owner)) claimed full
 
 -- a directory without its serials
-abbrev shown : Directory Version → Directory File
-shown D = map_directory (λ (v : Version). v.file) D
+abbrev shown : Directory SpecVersion → Directory File
+shown D = map_directory (λ (v : SpecVersion). v.file) D
 
-module _ (d : DiskState) (map : VolumeCore) (s : State) (known : IsKnown d map s) (sound : IsSoundCore d map false)
+module _ (d : DiskState) (map : MemoryMap) (s : State) (known : IsKnown d map s) (sound : IsSoundMemory d map false)
     (honest : d.honest) where
   holds : Holds d map.known (without_serials s.files)
   holds = rest_holds d map false sound honest refl (without_serials s.files) known.files
 
   -- how a job may write over the file of a place
-  abbrev pub may : ℕ → Place → Result Kind ErrorCode
+  abbrev pub may : ℕ → Place → Result PendingKind ErrorCode
   may who place = allowed_update (found_in (get (without_serials s.files) place.ppn) place.name) who place.ppn
       (place.name.name == 0) (claims map.pending place)
 
@@ -164,7 +164,7 @@ module _ (d : DiskState) (map : VolumeCore) (s : State) (known : IsKnown d map s
   refused w job place code is = reply_is w job place
       ∙ ap (λ r. update_reply r (exceeds_limits (pack_of d) s place.ppn (present_cost (file_at s.files place)))) is
 
-  -- a file of so many words doesn't fit
+  -- a file of this many words doesn't fit
   abbrev full : File → Bool
   full file = nat_lt (space d.size) (map.known.table.booked + version_cost (length file.body))
 
@@ -172,28 +172,28 @@ module _ (d : DiskState) (map : VolumeCore) (s : State) (known : IsKnown d map s
   abbrev past : Place → File → Bool
   past place file = exceeds_left s place.ppn (version_cost (length file.body))
 
-  -- There is a file, over which a job may write, and what is answered goes by the room and the quota.
+  -- There is a file over which a job may write, and the answer depends on the room and the quota.
   pub record Updates (w : UnderKeys) (job : Job) (place : Place) : Type 0 where
     pub directory : Directory File
     pub directory_at : get (without_serials s.files) place.ppn ≡ Some directory
     pub file : File
     pub file_at : get directory.files place.name ≡ Some file
     -- as the volume knows it
-    pub home : KnownDirectory
+    pub home : CurrentDirectory
     pub there : IsDirectoryOf map place.ppn home
     pub found : find nat_cmp place.ppn map.known.master.entries ≡ None → ⊥
     pub present : is_absent place.name home ≡ false
     pub answer : update_answer_at (pack_of d) s (job_of w job) place ≡ (if full file || past place file then Refused 0o14 else Done)
 
-  pub update_at_file : (w : UnderKeys) (job : Job) (place : Place) (kind : Kind) → may job.ppn place ≡ Ok kind
+  pub update_at_file : (w : UnderKeys) (job : Job) (place : Place) (kind : PendingKind) → may job.ppn place ≡ Ok kind
       → Updates w job place
   update_at_file w job place kind is = by (get s.files place.ppn) refl
       (sym (ap (λ o. allowed_update (found_in o place.name) job.ppn place.ppn (place.name.name
       == 0) (claims map.pending place)) (shown_at s.files place.ppn)) ∙ is)
     where
-      with_file : (D : Directory Version) → get s.files place.ppn ≡ Some D → (was : Option Version)
+      with_file : (D : Directory SpecVersion) → get s.files place.ppn ≡ Some D → (was : Option SpecVersion)
           → get D.files place.name ≡ was
-          → allowed_update (found_file D.protection (option_map (λ (v : Version). v.file) was)) job.ppn place.ppn
+          → allowed_update (found_file D.protection (option_map (λ (v : SpecVersion). v.file) was)) job.ppn place.ppn
           (place.name.name == 0) (claims map.pending place) ≡ Ok kind → Updates w job place
       with_file D at None name ok = cc ok
       with_file D at (Some v) name ok =
@@ -203,8 +203,8 @@ module _ (d : DiskState) (map : VolumeCore) (s : State) (known : IsKnown d map s
             directory = shown D;
             directory_at = shown_at s.files place.ppn ∙ ap (option_map shown) at;
             file = v.file;
-            file_at = get-map_values name_total (λ (x : Version). x.file) D.files place.name
-                ∙ ap (option_map (λ (x : Version). x.file)) name;
+            file_at = get-map_values name_total (λ (x : SpecVersion). x.file) D.files place.name
+                ∙ ap (option_map (λ (x : SpecVersion). x.file)) name;
             home = h.known;
             there = h.there;
             found = listed d map s.files holds sound.whole.map place.ppn D at;
@@ -215,7 +215,7 @@ module _ (d : DiskState) (map : VolumeCore) (s : State) (known : IsKnown d map s
                 || exceeds_left s place.ppn (present_cost (here i)) then Refused 0o14 else Done);
           }
 
-      by : (was : Option (Directory Version)) → get s.files place.ppn ≡ was
+      by : (was : Option (Directory SpecVersion)) → get s.files place.ppn ≡ was
           → allowed_update (found_in (option_map shown was) place.name) job.ppn place.ppn (place.name.name
           == 0) (claims map.pending place) ≡ Ok kind → Updates w job place
       by None at ok = cc ok
@@ -223,10 +223,10 @@ module _ (d : DiskState) (map : VolumeCore) (s : State) (known : IsKnown d map s
           with_file D at (get D.files place.name) refl
           (ap (λ f. allowed_update (found_file D.protection f) job.ppn place.ppn (place.name.name
           == 0) (claims map.pending place))
-          (sym (get-map_values name_total (λ (v : Version). v.file) D.files place.name)) ∙ ok)
+          (sym (get-map_values name_total (λ (v : SpecVersion). v.file) D.files place.name)) ∙ ok)
 
-  -- What is answered where its directory's quota leaves as much as the file costs, and where it doesn't.
-  module _ (w : UnderKeys) (job : Job) (place : Place) (kind : Kind) (ok : may job.ppn place ≡ Ok kind)
+  -- The answer if its directory's quota leaves as much as the file costs, and if it doesn't.
+  module _ (w : UnderKeys) (job : Job) (place : Place) (kind : PendingKind) (ok : may job.ppn place ≡ Ok kind)
       (with_file : is_update kind ≡ true) (allows : Bool)
       (quota : AllowsBegin map place.ppn place.name kind allows) where
     abbrev found_at : Updates w job place
@@ -253,8 +253,8 @@ module _ (d : DiskState) (map : VolumeCore) (s : State) (known : IsKnown d map s
         either true b is = refl
         either false b is = ap (λ t. if t then Refused 0o14 else Done) is
 
-  -- What is answered by what the volume answers.
-  module _ {X : Type 0} (w : UnderKeys) (job : Job) (place : Place) (kind : Kind) (result : Result X CallError)
+  -- The answer, by what the volume answers.
+  module _ {X : Type 0} (w : UnderKeys) (job : Job) (place : Place) (kind : PendingKind) (result : Result X CallError)
       (ok : may job.ppn place ≡ Ok kind)
       (room : (D : Directory File) → get (without_serials s.files) place.ppn ≡ Some D → (file : File)
       → get D.files place.name ≡ Some file → (result ≡ Err (errors.Refused NoRoom)
@@ -280,9 +280,9 @@ module _ (d : DiskState) (map : VolumeCore) (s : State) (known : IsKnown d map s
 
     pub not_begun : (Y : Type 0) (error : CallError) → result ≡ Err error → is_update kind ≡ true
         → (result ≡ Err (errors.Refused NoDirectory) → find nat_cmp place.ppn map.known.master.entries ≡ None)
-        → ((x : KnownDirectory) → IsDirectoryOf map place.ppn x → (result ≡ Err (errors.Refused NameExists)
+        → ((x : CurrentDirectory) → IsDirectoryOf map place.ppn x → (result ≡ Err (errors.Refused NameExists)
         ↔ ((is_create kind ≡ true) × (is_absent place.name x ≡ false))))
-        → ((x : KnownDirectory) → IsDirectoryOf map place.ppn x → (result ≡ Err (errors.Refused NotFound)
+        → ((x : CurrentDirectory) → IsDirectoryOf map place.ppn x → (result ≡ Err (errors.Refused NotFound)
         ↔ ((is_create kind ≡ false) × (is_absent place.name x ≡ true))))
         → ((code : ErrorCode) → result ≡ Err (errors.Refused code) → IsBeginRefusal code)
         → (result ≡ Err errors.Device → ⊥) → (result ≡ Err errors.Failed → ⊥)

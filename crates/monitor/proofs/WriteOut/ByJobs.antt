@@ -12,36 +12,36 @@ use Rattle.spec_machine.specs.declared.call.Reply.{Reply}
 use Rattle.spec_machine.specs.declared.call.Reply.TheVariants.{Done, Value, Refused, Stopped, NoChannel, AddressCheck}
 use Rattle.spec_machine.specs.declared.call.Reply.TheVariants.{NoJob, NoMemory, Device, Failed, DateRange}
 use Rattle.spec_machine.proofs.Common.{set-slot}
-use Rattle.volume.specs.Common.{VolumeCore, pending_at, IsSoundCore, RestsAt, KeepsRead}
+use Rattle.volume.specs.Common.{MemoryMap, pending_at, IsSoundMemory, RestsAt, KeepsRead}
 use Rattle.volume.specs.declared.pending.PendingVersion.{PendingVersion}
 use Rattle.monitor.specs.Common.{IsOut, IsOther, IsOtherSide, HasOutgoing, IsRow, KeepsSides, KeepsReading, AreKeyed}
 use Rattle.monitor.specs.Common.{AreReading, IsState, Serves, IsTimely}
-use Rattle.monitor.specs.declared.channel.Channel.{Channel}
+use Rattle.monitor.specs.declared.channel.OpenChannel.{OpenChannel}
 use Rattle.monitor.specs.declared.output.Output.{Output}
 use Rattle.monitor.specs.declared.job.Job.{Job}
-use Rattle.monitor.proofs.common.Answering.{in_state, state_is, on_disk}
-use Rattle.monitor.proofs.common.Calling.{keeps_same}
+use Rattle.monitor.proofs.common.EventAnswers.{in_state, state_is, on_disk}
+use Rattle.monitor.proofs.common.CallRows.{keeps_same}
 use Rattle.monitor.proofs.common.Dropped.{job_live, keeps_keyed}
 use Rattle.monitor.proofs.WriteOut.Outs.{version_there, reads_core}
 use Rattle.monitor.proofs.WriteOut.Calls.{out_none, out_refused, out_unlisted, undecided, put_leads, stopped_leads}
-use Rattle.monitor.proofs.common.ReadingJobs.{keeps_reading}
-use Rattle.monitor.proofs.common.Serving.{alone}
+use Rattle.monitor.proofs.common.JobReaders.{keeps_reading}
+use Rattle.monitor.proofs.common.ServedCalls.{alone}
 use Rattle.monitor.proofs.common.Refusals.{alive_after}
-use Rattle.monitor.specs.WritingOut as putting
+use Rattle.monitor.specs.WriteOut as putting
 
 -- a version of another side
-pub other_side : (o : Option Channel) (c : Channel) (x : Output) (k : ℕ) → o ≡ Some c → c.output ≡ Some x
+pub other_side : (o : Option OpenChannel) (c : OpenChannel) (x : Output) (k : ℕ) → o ≡ Some c → c.output ≡ Some x
     → (k ≡ x.pending.key → ⊥) → IsOther o k
 other_side o c x k there side apart = subst (λ y. IsOther y k) (sym there)
     (subst (λ y. IsOtherSide y k) (sym side) apart)
 
-module _ {D : Type 0} (state_in : D → DiskState) (disk disk' : D) (map map' : VolumeCore) (failed failed' : Bool)
+module _ {D : Type 0} (state_in : D → DiskState) (disk disk' : D) (map map' : MemoryMap) (failed failed' : Bool)
     (jobs jobs' : List (Option Job)) (n : ℕ) (job job' : Job) (ch a : ℕ) (moment : Moment)
     (there : slot jobs n ≡ Some job) (set : jobs' ≡ slice_set jobs n (Some job')) (serves : failed
     ≡ false) (timely : IsTimely (state_in disk) moment) (keyed : AreKeyed map.pending jobs)
     (reading : AreReading map.live jobs) (keeps : failed' ≡ false
     → KeepsSides map.pending map'.pending job job') (reads : failed' ≡ false
-    → KeepsReading map.live map'.live job job') (sound : IsSoundCore (state_in disk) map false) where
+    → KeepsReading map.live map'.live job job') (sound : IsSoundMemory (state_in disk) map false) where
   abbrev d : DiskState
   d = state_in disk
 

@@ -4,7 +4,7 @@ use Rattle.std.proofs.Common.{Some, refl, sym, ap, subst, ◌∙◌, ◌⊎◌, 
 use Rattle.std.specs.Prelude.{option_map}
 use Rattle.words36.specs.declared.moment.Moment.{Moment}
 use Rattle.blockdisk.specs.Common.{DiskState}
-use Rattle.spec_image.specs.Common.{File, Files, times, Version, without_serials, file_at, Pack, length_after}
+use Rattle.spec_image.specs.Common.{File, Files, times, SpecVersion, without_serials, file_at, Pack, length_after}
 use Rattle.spec_image.specs.Common.{pack_of}
 use Rattle.spec_machine.specs.Common.{lacks_header, State, slot, with_channel, with_job, cleared, block_too_large}
 use Rattle.spec_machine.specs.Common.{settled, clean, stopped_in, puts, put_answer, found_answer, put_done}
@@ -17,44 +17,44 @@ use Rattle.spec_machine.specs.declared.call.Reply.TheVariants.{Done, Refused, St
 use Rattle.spec_image.proofs.Common.{some_same, length-splice}
 use Rattle.spec_machine.proofs.Common.{none_some}
 use Rattle.retrieval.specs.Common.{mode_number}
-use Rattle.volume.specs.Common.{VolumeCore, pending_at, is_creation, prime_at, IsSoundCore, RestsAt, KeepsRead}
+use Rattle.volume.specs.Common.{MemoryMap, pending_at, is_creation, prime_at, IsSoundMemory, RestsAt, KeepsRead}
 use Rattle.volume.specs.declared.pending.PendingVersion.{PendingVersion}
 use Rattle.monitor.specs.Common.{Puts, outgoing_at, moved, FindsNone, IsAtOutput, IsRow, AreKeyed, AreReading}
 use Rattle.monitor.specs.Common.{IsWriting, IsState, Serves, IsTimely, Writing, UnderKeys, output_of, channel_of}
 use Rattle.monitor.specs.Common.{job_of, state_of}
-use Rattle.monitor.specs.declared.channel.Channel.{Channel}
+use Rattle.monitor.specs.declared.channel.OpenChannel.{OpenChannel}
 use Rattle.monitor.specs.declared.output.Output.{Output}
 use Rattle.monitor.specs.declared.job.Job.{Job}
-use Rattle.monitor.proofs.common.Answering.{state_is, job_set, called, goes_on, same_files}
+use Rattle.monitor.proofs.common.EventAnswers.{state_is, job_set, called, goes_on, same_files}
 use Rattle.monitor.proofs.common.Dropped.{same_or_not, leaves_none}
-use Rattle.monitor.proofs.EnterFile.Serving.{with_same, with_other}
-use Rattle.monitor.proofs.common.Knowing.{known}
+use Rattle.monitor.proofs.EnterFile.Serves.{with_same, with_other}
+use Rattle.monitor.proofs.common.KnownState.{known}
 use Rattle.monitor.proofs.common.Limits.{LimitsAre, limits_are}
-use Rattle.monitor.proofs.WriteOut.Serving.{none_found, place_found, put_writing, writing_put, state_put}
+use Rattle.monitor.proofs.WriteOut.Serves.{none_found, place_found, put_writing, writing_put, state_put}
 use Rattle.monitor.proofs.common.ReadStays.{reads_kept}
-use Rattle.monitor.proofs.common.Calling.{channel_is, channel_set, on_row, on_none}
+use Rattle.monitor.proofs.common.CallRows.{channel_is, channel_set, on_row, on_none}
 use Rattle.monitor.proofs.common.WrittenStays.{writing_stays}
 use Rattle.spec_machine.specs.Jobs as machine
-use Rattle.monitor.specs.WritingOut as putting
+use Rattle.monitor.specs.WriteOut as putting
 
--- The rows that neither want memory nor the disk.
+-- The rows that need neither memory nor the disk.
 module _ (job : Job) (ch a : ℕ) where
   pub out_none : slot job.channels ch ≡ None → IsRow job job (Out ch a) NoChannel
   out_none none pack serial s n w moment at = on_none s n w job ch (λ c. of_job s n (puts pack s (job_of w job) ch c a))
       none at
 
   -- the row of an open channel, by its side and by what it finds
-  abbrev by_side : Channel → Pack → State → UnderKeys → Option machine.Output → Option Outgoing → Reply × machine.Job
+  abbrev by_side : OpenChannel → Pack → State → UnderKeys → Option machine.SpecOutput → Option Outgoing → Reply × machine.SpecJob
   by_side c pack s w o found = settled (put_answer pack s (channel_of w c) o found)
       (put_done (job_of w job) ch (channel_of w c) found) (stopped_in (job_of w job) ch (channel_of w c))
 
   -- of one with an output side, by whether it lacks a ring's header
-  abbrev by_header : Channel → Pack → State → UnderKeys → Output → Bool → Option Outgoing → Reply × machine.Job
+  abbrev by_header : OpenChannel → Pack → State → UnderKeys → Output → Bool → Option Outgoing → Reply × machine.SpecJob
   by_header c pack s w o lacks found =
       settled (if lacks then Refused 5 else found_answer pack s (channel_of w c) (output_of w o) found)
       (put_done (job_of w job) ch (channel_of w c) found) (stopped_in (job_of w job) ch (channel_of w c))
 
-  pub out_refused : (c : Channel) → slot job.channels ch ≡ Some c
+  pub out_refused : (c : OpenChannel) → slot job.channels ch ≡ Some c
       → (c.output ≡ None) ⊎ (lacks_header (mode_number c.mode) c.output_header ≡ true)
       → IsRow job job (Out ch a) (Refused 5)
   out_refused c there why pack serial s n w moment at =
@@ -85,9 +85,9 @@ module _ (job : Job) (ch a : ℕ) where
         (row_found pack s w ∙ ap (by_header at.channel pack s w at.output false) none)
 
 -- An output side, and words for it.
-module _ (d : DiskState) (map : VolumeCore) (jobs : List (Option Job)) (n : ℕ) (job : Job) (there : slot jobs n
+module _ (d : DiskState) (map : MemoryMap) (jobs : List (Option Job)) (n : ℕ) (job : Job) (there : slot jobs n
     ≡ Some job) (ch a : ℕ) (moment : Moment)
-    (timely : moment.date ≤ last_date (pack_of d).layout) (serial : ℕ) (files : Files Version)
+    (timely : moment.date ≤ last_date (pack_of d).layout) (serial : ℕ) (files : Files SpecVersion)
     (w : UnderKeys) (at : IsAtOutput job ch) where
   abbrev t : State
   t = state_of files w jobs
@@ -127,7 +127,7 @@ module _ (d : DiskState) (map : VolumeCore) (jobs : List (Option Job)) (n : ℕ)
           stops (finds_no_place (pack_of d) t (output_of w at.output) (length found.words)) found
 
 -- The words are put.
-module _ (d d' : DiskState) (map map' : VolumeCore) (jobs jobs' : List (Option Job)) (n : ℕ) (job : Job)
+module _ (d d' : DiskState) (map map' : MemoryMap) (jobs jobs' : List (Option Job)) (n : ℕ) (job : Job)
     (there : slot jobs n ≡ Some job) (ch a : ℕ) (moment : Moment)
     (timely : IsTimely d moment) (out : putting.OutgoingSide job ch a)
     (set : jobs' ≡ slice_set jobs n (Some
@@ -135,7 +135,7 @@ module _ (d d' : DiskState) (map map' : VolumeCore) (jobs jobs' : List (Option J
       core = out.core;
       channels = slice_set job.channels ch (Some (moved out.at.channel out.at.output (length out.words)));
     })))
-    (keyed : AreKeyed map.pending jobs) (keyed' : AreKeyed map'.pending jobs') (sound : IsSoundCore d map false)
+    (keyed : AreKeyed map.pending jobs) (keyed' : AreKeyed map'.pending jobs') (sound : IsSoundMemory d map false)
     (honest : d.honest) (later : d'.honest)
     (p : PendingVersion) (at : pending_at map.pending out.at.output.pending.key ≡ Some p)
     (put : Puts d d' map map' out.at.output out.words p)
@@ -240,12 +240,12 @@ module _ (d d' : DiskState) (map map' : VolumeCore) (jobs jobs' : List (Option J
       })
 
 -- They find no place.
-module _ (d : DiskState) (map : VolumeCore) (failed : Bool) (jobs jobs' : List (Option Job)) (n : ℕ) (job : Job)
+module _ (d : DiskState) (map : MemoryMap) (failed : Bool) (jobs jobs' : List (Option Job)) (n : ℕ) (job : Job)
     (there : slot jobs n ≡ Some job) (ch a : ℕ) (moment : Moment) (timely : IsTimely d moment)
     (out : putting.OutgoingSide job ch a) (status : ℕ) (is : status ≡ cleared out.at.channel.status + block_too_large)
     (set : jobs' ≡ slice_set jobs n
     (Some (record job { channels = slice_set job.channels ch (Some (record out.at.channel { status = status })) })))
-    (keyed' : AreKeyed map.pending jobs') (reading' : AreReading map.live jobs') (sound : IsSoundCore d map false)
+    (keyed' : AreKeyed map.pending jobs') (reading' : AreReading map.live jobs') (sound : IsSoundMemory d map false)
     (honest : d.honest)
     (p : PendingVersion) (at : pending_at map.pending out.at.output.pending.key ≡ Some p)
     (none : FindsNone d.size map p out.at.output (length out.words)) (s : State) (state : IsState d map jobs s) where

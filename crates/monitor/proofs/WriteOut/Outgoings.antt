@@ -11,12 +11,12 @@ use Rattle.retrieval.specs.Common.{mode_number}
 use Rattle.usercore.specs.Common.{words_put}
 use Rattle.usercore.specs.declared.ring_check.RingStep.TheVariants.{Out}
 use Rattle.monitor.specs.Common.{words_listed, buffer_put, outgoing_at, IsAtOutput}
-use Rattle.monitor.specs.declared.channel.Channel.{Channel}
+use Rattle.monitor.specs.declared.channel.OpenChannel.{OpenChannel}
 use Rattle.monitor.specs.declared.job.Job.{Job}
 use Rattle.monitor.specs.declared.output.Output.{Output}
-use Rattle.monitor.specs.WritingOut as putting
+use Rattle.monitor.specs.WriteOut as putting
 
-module _ (core : List ℕ) (c : Channel) (a : ℕ) where
+module _ (core : List ℕ) (c : OpenChannel) (a : ℕ) where
   -- the words are found, and so is what is gathered of them
   abbrev pub Found : List ℕ → Type 0
   Found words = (left : List ℕ) × (outgoing_at core c a ≡ Some (record { words = words; core = left }))
@@ -67,7 +67,7 @@ module _ (core : List ℕ) (c : Channel) (a : ℕ) where
 
 -- The channel of an OUT that isn't refused, and what it finds.
 module _ (job : Job) (number : ℕ) where
-  abbrev pub at_output : (c : Channel) → slot job.channels number ≡ Some c → (o : Output) → c.output ≡ Some o
+  abbrev pub at_output : (c : OpenChannel) → slot job.channels number ≡ Some c → (o : Output) → c.output ≡ Some o
       → lacks_header (mode_number c.mode) c.output_header ≡ false → IsAtOutput job number
   at_output c there o side has = record { channel = c; there = there; output = o; side = side; has = has }
 
@@ -75,6 +75,6 @@ module _ (job : Job) (number : ℕ) where
     abbrev pub goes_out : putting.OutgoingSide job number a
     goes_out = record { at = at; words = words; core = found.0; found = found.1 }
 
-    -- where its words find no room
+    -- if its words find no room
     pub has_outgoing : putting.HasOutgoing job number a
     has_outgoing = record { at = at; found = λ none. none_some (sym none ∙ found.1) }

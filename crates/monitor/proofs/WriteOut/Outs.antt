@@ -10,22 +10,22 @@ use Rattle.spec_image.proofs.Common.{some_same, times_head}
 use Rattle.spec_machine.proofs.Common.{none_some}
 use Rattle.retrieval.specs.Common.{VersionState}
 use Rattle.alloctab.specs.Common.{space}
-use Rattle.volume.specs.Common.{rise, IsTooLong, Outgrows, VolumeCore, pending_at, is_creation, slot as version_at}
+use Rattle.volume.specs.Common.{rise, IsTooLong, Outgrows, MemoryMap, pending_at, is_creation, slot as version_at}
 use Rattle.volume.specs.declared.live.LiveVersion.{LiveVersion}
 use Rattle.volume.specs.declared.pending.PendingVersion.{PendingVersion}
 use Rattle.monitor.specs.Common.{FindsNone, IsBarred, moved, readers_of, KeepsSides, KeepsReading, present, IsSide}
 use Rattle.monitor.specs.Common.{IsReader, side_of, sides_in, keys_of, kind_of, reader_of}
-use Rattle.monitor.specs.declared.channel.Channel.{Channel}
+use Rattle.monitor.specs.declared.channel.OpenChannel.{OpenChannel}
 use Rattle.monitor.specs.declared.output.Output.{Output}
 use Rattle.monitor.specs.declared.job.Job.{Job}
-use Rattle.monitor.proofs.common.Calling.{reads_core as in_core}
+use Rattle.monitor.proofs.common.CallRows.{reads_core as in_core}
 use Rattle.monitor.proofs.common.Dropped.{same_or_not}
 use Rattle.monitor.proofs.common.ReaderLists.{held, held-channel}
-use Rattle.monitor.proofs.common.ReadingJobs.{slot_set, length-slice_set}
+use Rattle.monitor.proofs.common.JobReaders.{slot_set, length-slice_set}
 use Rattle.monitor.proofs.common.SideLists.{count, count-channel, each-channel, each-side}
 
 -- A channel with an output side.
-module _ (pending : List (Option PendingVersion)) (job : Job) (number : ℕ) (c : Channel)
+module _ (pending : List (Option PendingVersion)) (job : Job) (number : ℕ) (c : OpenChannel)
     (there : slot job.channels number ≡ Some c) (o : Output) (side : c.output ≡ Some o) where
   side_is : side_of (slot job.channels number) ≡ Some o
   side_is = ap side_of there ∙ side
@@ -67,9 +67,9 @@ not_refused result x e is exact holds = let err : Ok x ≡ Err e = sym is ∙ ex
 pub ok_is_none : {X E : Type 0} (result : Result X E) (x : X) (e : E) → result ≡ Ok x → result ≡ Err e → ⊥
 ok_is_none result x e is err = let wrong : Ok x ≡ Err e = sym is ∙ err in cc wrong
 
--- Whether so many words may be put, whatever room there is, as it was tested: over what an append began with, and by the
--- quota.
-module _ (c : VolumeCore) (p : PendingVersion) (o : Output) (n : ℕ) (kept allows : Bool)
+-- Whether this many words may be put, whatever room there is, as it was tested: over what an append began with, and by
+-- the quota.
+module _ (c : MemoryMap) (p : PendingVersion) (o : Output) (n : ℕ) (kept allows : Bool)
     (tested : kept ≡ (not (n == 0) && is_before_end (kind_of o.kind) o.next))
     (quota : (allows ≡ false) ↔ ((IsTooLong p o.next n → ⊥) × Outgrows c p o.next n)) where
   some_words : Outgrows c p o.next n → 0 < n
@@ -108,8 +108,8 @@ module _ (c : VolumeCore) (p : PendingVersion) (o : Output) (n : ℕ) (kept allo
           let over : kept ≡ true = tested ∙ (λ i. not (not_zero n some i) && before i) in
           ap (λ k. k || not allows) over
 
--- Words that may not be put, whatever room there is, find no place; others do where they don't lack room.
-module _ (size : ℕ) (c : VolumeCore) (p : PendingVersion) (o : Output) (n : ℕ) where
+-- Words that may not be put, whatever room there is, find no place; others do if they don't lack room.
+module _ (size : ℕ) (c : MemoryMap) (p : PendingVersion) (o : Output) (n : ℕ) where
   pub barred_none : IsBarred c p o n → FindsNone size c p o n
   barred_none (some, inl grown) = (some, inr (inr (inl grown.1)))
   barred_none (some, inr before) = (some, inr (inr (inr before)))
@@ -128,7 +128,7 @@ module _ (size : ℕ) (c : VolumeCore) (p : PendingVersion) (o : Output) (n : �
   lacks_room (some, inr many) = (some, inr (inl many))
 
 -- The words are put into the version of an output side, and it moves on.
-module _ (pending pending' : List (Option PendingVersion)) (job job' : Job) (number : ℕ) (c : Channel)
+module _ (pending pending' : List (Option PendingVersion)) (job job' : Job) (number : ℕ) (c : OpenChannel)
     (there : slot job.channels number ≡ Some c) (o : Output) (side : c.output ≡ Some o) (count_is : ℕ) (core : List ℕ)
     (set : job' ≡ record job { core = core; channels = slice_set job.channels number (Some (moved c o count_is)) })
     (p : PendingVersion) (at : pending_at pending o.pending.key ≡ Some p) (v : VersionState)
@@ -169,7 +169,7 @@ module _ (pending pending' : List (Option PendingVersion)) (job job' : Job) (num
       further : (next n : ℕ) → 0 < next → 0 < next + blocks_of n
       further next n first = omega arith
 
--- Where the versions in use stay, each job reads what it read.
+-- If the versions in use stay, each job reads what it read.
 module _ (live live' : List (Option LiveVersion)) (job : Job) (stays : live' ≡ live) where
   as_many : (key : ℕ) → readers_of (version_at live' key) ≡ readers_of (version_at live key)
   as_many key = ap (λ vs. readers_of (version_at vs key)) stays
@@ -181,9 +181,9 @@ module _ (live live' : List (Option LiveVersion)) (job : Job) (stays : live' ≡
     each = λ is. record { each = is.each; sixteen = is.sixteen };
   }
 
-  module _ (number : ℕ) (c : Channel) (there : slot job.channels number ≡ Some c) where
+  module _ (number : ℕ) (c : OpenChannel) (there : slot job.channels number ≡ Some c) where
     -- a channel is another one, with the same input side
-    pub reads_channel : (x : Channel) → x.input ≡ c.input → (IsReader c → IsReader x) → (job' : Job)
+    pub reads_channel : (x : OpenChannel) → x.input ≡ c.input → (IsReader c → IsReader x) → (job' : Job)
         → job' ≡ record job { channels = slice_set job.channels number (Some x) } → KeepsReading live live' job job'
     reads_channel x same fits job' set = subst (KeepsReading live live' job) (sym set) (record {
       once = λ key.

@@ -7,15 +7,15 @@ use Rattle.spec_image.specs.Common.{times}
 use Rattle.spec_machine.specs.declared.call.Reply.{Reply}
 use Rattle.spec_machine.specs.declared.call.Reply.TheVariants.{Done, Value, Refused, Stopped, NoChannel, AddressCheck}
 use Rattle.spec_machine.specs.declared.call.Reply.TheVariants.{NoJob, NoMemory, Device, Failed, DateRange}
-use Rattle.volume.specs.Common.{VolumeCore, pending_at}
+use Rattle.volume.specs.Common.{MemoryMap, pending_at}
 use Rattle.monitor.specs.Common.{IsIdle, IsOut, IsOther, ArePlaced, present, sides_in, keys_of}
 use Rattle.monitor.specs.declared.job.Job.{Job}
-use Rattle.monitor.proofs.common.Answering.{contrary}
+use Rattle.monitor.proofs.common.EventAnswers.{contrary}
 use Rattle.monitor.proofs.WriteOut.ByJobs.{other_side}
 use Rattle.monitor.proofs.WriteOut.Outs.{version_there}
-use Rattle.monitor.proofs.common.Placing.{placed_put}
+use Rattle.monitor.proofs.common.PlacedVersions.{placed_put}
 
-module _ {D : Type 0} (state : D → DiskState) (disk disk' : D) (map map' : VolumeCore) (job job' : Job) (ch a : ℕ) where
+module _ {D : Type 0} (state : D → DiskState) (disk disk' : D) (map map' : MemoryMap) (job job' : Job) (ch a : ℕ) where
   abbrev Outcome : Reply → Type 0
   Outcome reply = IsOut (state disk) (state disk') map map' ((disk' ≡ disk) × (map' ≡ map)) job job' ch a reply
 
@@ -28,7 +28,7 @@ module _ {D : Type 0} (state : D → DiskState) (disk disk' : D) (map map' : Vol
     abbrev Fails : Reply → Type 0
     Fails reply = IsTrue failed' ↔ ((reply ≡ Device) ⊎ (reply ≡ Failed))
 
-    -- core is as it was
+    -- memory is as it was
     unmoved : (disk' ≡ disk) × (map' ≡ map) → ArePlaced map'
     unmoved same = subst ArePlaced (sym same.1) placed
 

@@ -1,10 +1,10 @@
--- What a call leaves of jobs: an IN is told by its own job's record, and no call changes another job.
+-- What a call leaves of jobs: an IN depends on its own job's record alone, and no call changes another job.
 use Rattle.std.proofs.Common.{◌≡◌, ◌≤◌, ⊎_elim, ℕ, Bool, false, if◌then◌else◌, Option, Some, None, refl, sym, ap}
 use Rattle.std.proofs.Common.{subst, ◌∙◌, arith}
 use Rattle.std.specs.Prelude.{nat_lt}
 use Rattle.std.proofs.lemmas.Bool.Decides.{nat_tests}
 use Rattle.words36.specs.declared.moment.Moment.{Moment}
-use Rattle.spec_machine.specs.Common.{reads, Channel, Job, State, channel_at, job_at, Service, Serving, Broken}
+use Rattle.spec_machine.specs.Common.{reads, Channel, SpecJob, State, channel_at, job_at, Service, Serving, Broken}
 use Rattle.spec_machine.specs.Common.{Answers, step, last_date, on_job, on_channel, of_job, job_of}
 use Rattle.spec_image.specs.Common.{Pack}
 use Rattle.spec_machine.specs.declared.call.Call.TheVariants.{In}
@@ -20,18 +20,18 @@ use Rattle.spec_machine.specs.Step as machine
 -- An IN.
 
 -- an outcome is this answer, and this record of the job
-abbrev IsOwn : ℕ → Reply × Job → Reply × State → Type 0
+abbrev IsOwn : ℕ → Reply × SpecJob → Reply × State → Type 0
 IsOwn n r out = (out.0 ≡ r.0) × (job_at out.1 n ≡ Some r.1)
 
 pub not_late : (a b : ℕ) → b ≤ a → nat_lt a b ≡ false
 not_late a b timely = grind (arith, nat_tests)
 
-own_channel : (s : State) (n : ℕ) (own : Job) (ch a : ℕ) → job_at s n ≡ Some own → (c : Option Channel)
+own_channel : (s : State) (n : ℕ) (own : SpecJob) (ch a : ℕ) → job_at s n ≡ Some own → (c : Option Channel)
     → IsOwn n (read_by own ch a c) (on_channel s c (λ c. of_job s n (reads own ch c a)))
 own_channel s n own ch a there None = (refl, there)
 own_channel s n own ch a there (Some c) = (refl, slot-set_same s.jobs n (reads own ch c a).1 own there)
 
-in_own : (pack : Pack) (serial : ℕ) (s : State) (n : ℕ) (own : Job) (ch a : ℕ) (moment : Moment) → job_at s n ≡ Some own
+in_own : (pack : Pack) (serial : ℕ) (s : State) (n : ℕ) (own : SpecJob) (ch a : ℕ) (moment : Moment) → job_at s n ≡ Some own
     → moment.date ≤ last_date pack.layout
     → IsOwn n (read_of own ch a) (step pack serial s (Calls n (In ch a) moment))
 in_own pack serial s n own ch a moment there timely =
@@ -42,11 +42,11 @@ in_own pack serial s n own ch a moment there timely =
     (sym there) (own_channel s n own ch a there (channel_at own ch)))
 
 module _ (S : Service → Type 0) (pack : Pack) (s : State) (n : ℕ) (moment : Moment) (reply : Reply) where
-  abbrev pub IsStill : Job → ℕ → ℕ → Type 0
+  abbrev pub IsStill : SpecJob → ℕ → ℕ → Type 0
   IsStill own ch a = (after : State) × S (Serving after) × (reply ≡ (read_of own ch a).0)
       × (job_at after n ≡ Some (read_of own ch a).1)
 
-  by_service : (own : Job) (ch a : ℕ) → job_at s n ≡ Some own → moment.date ≤ last_date pack.layout
+  by_service : (own : SpecJob) (ch a : ℕ) → job_at s n ≡ Some own → moment.date ≤ last_date pack.layout
       → (reply ≡ NoMemory → ⊥) → (reply ≡ Device → ⊥)
       → (new : Service) → S new → Answers pack (Serving s) (Calls n (In ch a) moment) reply new → IsStill own ch a
   by_service own ch a there timely room works Broken is answers = absurd (works answers.0)
@@ -58,7 +58,7 @@ module _ (S : Service → Type 0) (pack : Pack) (s : State) (n : ℕ) (moment : 
       answers
 
   -- it was answered from a state, since neither memory nor the device failed it
-  pub in_still : (own : Job) (ch a : ℕ) (call : Call) → call ≡ In ch a → job_at s n ≡ Some own
+  pub in_still : (own : SpecJob) (ch a : ℕ) (call : Call) → call ≡ In ch a → job_at s n ≡ Some own
       → moment.date ≤ last_date pack.layout → (reply ≡ NoMemory → ⊥) → (reply ≡ Device → ⊥)
       → (new : Service) → S new → Answers pack (Serving s) (Calls n call moment) reply new → IsStill own ch a
   in_still own ch a call asked there timely room works new is answers =

@@ -1,4 +1,4 @@
--- What is said of a call, whichever it is.
+-- What holds for a call, whichever it is.
 use Rattle.std.proofs.Common.{◌≡◌, ◌⊎◌, ◌<◌, ℕ, Bool, true, false, List, Option, refl, sym, subst, ◌∙◌, ⊎_elim}
 use Rattle.std.specs.Prelude.{◌↔◌, IsTrue}
 use Rattle.words36.specs.declared.moment.Moment.{Moment}
@@ -9,16 +9,16 @@ use Rattle.spec_machine.specs.declared.call.Event.TheVariants.{Call as Calls}
 use Rattle.spec_machine.specs.declared.call.Reply.{Reply}
 use Rattle.spec_machine.specs.declared.call.Reply.TheVariants.{Done, Value, Refused, Stopped, NoChannel, AddressCheck}
 use Rattle.spec_machine.specs.declared.call.Reply.TheVariants.{NoJob, DateRange, NoMemory, Device, Failed}
-use Rattle.volume.specs.Common.{VolumeCore}
+use Rattle.volume.specs.Common.{MemoryMap}
 use Rattle.monitor.specs.Common.{IsIdle, IsDecided, Serves, AreKeyed, AreReading, MonitorState}
 use Rattle.spec_machine.specs.declared.call.Call.{Call}
 use Rattle.monitor.specs.declared.job.Job.{Job}
-use Rattle.monitor.proofs.common.Answering.{row, late, contrary}
+use Rattle.monitor.proofs.common.EventAnswers.{row, late, contrary}
 use Rattle.spec_image.specs.declared.layout.Layout.{Layout}
 use Rattle.monitor.proofs.common.Dropped.{leaves_none}
 
 -- A date that the pack can't hold, whatever disk there is.
-pub called_late : (pack : Pack) (d : DiskState) (map : VolumeCore) (failed : Bool) (jobs : List (Option Job)) (n : ℕ)
+pub called_late : (pack : Pack) (d : DiskState) (map : MemoryMap) (failed : Bool) (jobs : List (Option Job)) (n : ℕ)
     (call : Call) (moment : Moment) → failed ≡ false → last_date pack.layout < moment.date
     → AreKeyed map.pending jobs
     → AreReading map.live jobs → (old : Service) → Serves d map failed jobs old
@@ -28,7 +28,7 @@ called_late pack d map failed jobs n call moment serves past keyed reading =
     (λ serial files w. late pack jobs n call moment serial files w past) serves
 
 -- The monitor of these parts.
-abbrev pub all_of : {D : Type 0} → D → VolumeCore → Bool → List (Option Job) → Layout → MonitorState D
+abbrev pub all_of : {D : Type 0} → D → MemoryMap → Bool → List (Option Job) → Layout → MonitorState D
 all_of disk core failed jobs layout = record {
   disk = disk;
   map = core;
@@ -84,7 +84,7 @@ still_serves failed true reply alive fails none = ⊎_elim (λ e. let wrong = sy
     cc) (λ e. let wrong = sym none ∙ e in cc) (fails.0 refl)
 
 -- What leaves each part as it was leaves the whole monitor.
-pub all_same : {D : Type 0} (disk' disk : D) (core' core : VolumeCore) (failed' failed : Bool) → failed ≡ false
+pub all_same : {D : Type 0} (disk' disk : D) (core' core : MemoryMap) (failed' failed : Bool) → failed ≡ false
     → (jobs' jobs : List (Option Job)) (layout' layout : Layout) → layout' ≡ layout
     → (disk' ≡ disk) × (core' ≡ core) × (failed' ≡ false) × (jobs' ≡ jobs)
     → all_of disk' core' failed' jobs' layout' ≡ all_of disk core failed jobs layout

@@ -8,12 +8,12 @@ use Rattle.std.specs.Ordering.{nat_cmp, is_eq}
 use Rattle.std.specs.declared.cmp.Ordering.TheVariants.{Less, Equal, Greater}
 use Rattle.blockdisk.specs.Common.{DiskState}
 use Rattle.spec_image.specs.Common.{Files, Directory, map_directory, name_cmp, entries, values, get, insert, empty}
-use Rattle.spec_image.specs.Common.{Version, without_serials, StoredDirectory, directory_of, entry_of}
+use Rattle.spec_image.specs.Common.{SpecVersion, without_serials, StoredDirectory, directory_of, entry_of}
 use Rattle.spec_image.proofs.Common.{some_none, entries-insert, entries-empty, get-entries, get-map_values}
 use Rattle.spec_image.proofs.Common.{get-from_entries}
-use Rattle.volume.specs.Common.{VolumeCore}
+use Rattle.volume.specs.Common.{MemoryMap}
 use Rattle.volume.specs.declared.pending.PendingVersion.{PendingVersion}
-use Rattle.volume.proofs.common.Answering.{Holds, directory_none}
+use Rattle.volume.proofs.common.Answers.{Holds, directory_none}
 use Rattle.monitor.specs.Common.{IsAbsent, KeepsSides}
 use Rattle.monitor.specs.declared.job.Job.{Job}
 use Rattle.monitor.proofs.common.Growths.{shown_at}
@@ -26,10 +26,10 @@ keeps_core pending pending' job core same = subst (λ ps. KeepsSides pending ps 
 
 -- The files with one directory more, which has none.
 
-abbrev versions_in : List (ℕ × Directory Version) → List Version
-versions_in es = flat_map (λ (d : Directory Version). values d.files) (map (λ e. e.1) es)
+abbrev versions_in : List (ℕ × Directory SpecVersion) → List SpecVersion
+versions_in es = flat_map (λ (d : Directory SpecVersion). values d.files) (map (λ e. e.1) es)
 
-versions-put : (k : ℕ) (v : Directory Version) (es : List (ℕ × Directory Version)) → values v.files ≡ []
+versions-put : (k : ℕ) (v : Directory SpecVersion) (es : List (ℕ × Directory SpecVersion)) → values v.files ≡ []
     → find nat_cmp k es ≡ None → versions_in (put nat_cmp k v es) ≡ versions_in es
 versions-put k v [] bare none = ap (λ vs. vs ++ []) bare
 versions-put k v (e ∷ es) bare none =
@@ -41,24 +41,24 @@ versions-put k v (e ∷ es) bare none =
     ] none
 
 -- no version is another
-pub versions_made : (files : Files Version) (owner : ℕ) (v : Directory Version) → values v.files ≡ []
+pub versions_made : (files : Files SpecVersion) (owner : ℕ) (v : Directory SpecVersion) → values v.files ≡ []
     → get files owner ≡ None
-    → flat_map (λ (d : Directory Version). values d.files) (values (insert files owner v))
-    ≡ flat_map (λ (d : Directory Version). values d.files) (values files)
+    → flat_map (λ (d : Directory SpecVersion). values d.files) (values (insert files owner v))
+    ≡ flat_map (λ (d : Directory SpecVersion). values d.files) (values files)
 versions_made files owner v bare none = ap versions_in (entries-insert nat_cmp_total files owner v)
     ∙ versions-put owner v (entries files) bare (sym (get-entries files owner) ∙ none)
 
-pub none_in : values (empty {X = Version} {R = name_cmp}) ≡ []
-none_in = ap (map (λ e. e.1)) (entries-empty name_cmp Version)
+pub none_in : values (empty {X = SpecVersion} {R = name_cmp}) ≡ []
+none_in = ap (map (λ e. e.1)) (entries-empty name_cmp SpecVersion)
 
 -- Whether there is such a directory.
-module _ (d : DiskState) (c : VolumeCore) (files : Files Version) (holds : Holds d c.known (without_serials files))
+module _ (d : DiskState) (c : MemoryMap) (files : Files SpecVersion) (holds : Holds d c.known (without_serials files))
     (owner : ℕ) where
   pub none_there : IsAbsent c owner → get files owner ≡ None
   none_there absent = by (get files owner) (sym (shown_at files owner)
       ∙ directory_none d c.known (without_serials files) holds owner absent)
     where
-      by : (was : Option (Directory Version)) → option_map (map_directory (λ (v : Version). v.file)) was ≡ None
+      by : (was : Option (Directory SpecVersion)) → option_map (map_directory (λ (v : SpecVersion). v.file)) was ≡ None
           → was ≡ None
       by None is = refl
       by (Some x) is = cc is
@@ -78,7 +78,7 @@ module _ (d : DiskState) (c : VolumeCore) (files : Files Version) (holds : Holds
       gone None is = refl
       gone (Some x) is = cc is
 
-      by : (was : Option (Directory Version)) → get files owner ≡ was → is_some was ≡ true
+      by : (was : Option (Directory SpecVersion)) → get files owner ≡ was → is_some was ≡ true
       by None is = absurd (present (sym entered ∙ gone (get holds.map.directories owner) (stored ∙ shown_at files owner
-          ∙ ap (option_map (map_directory (λ (v : Version). v.file))) is)))
+          ∙ ap (option_map (map_directory (λ (v : SpecVersion). v.file))) is)))
       by (Some x) is = refl

@@ -7,7 +7,7 @@ use Rattle.words36.specs.Common.{left, join}
 use Rattle.words36.specs.declared.names.FileName.{FileName}
 use Rattle.blockdisk.specs.Common.{DiskState}
 use Rattle.spec_image.specs.Common.{File, Files, Directory, Place, map_directory, SettledStandsOn, pack_of, get}
-use Rattle.spec_image.specs.Common.{Version, attributes, file_at, file_in, without_serials, date_limit, StoredFile}
+use Rattle.spec_image.specs.Common.{SpecVersion, attributes, file_at, file_in, without_serials, date_limit, StoredFile}
 use Rattle.spec_image.specs.Common.{StoredDirectory, directory_of}
 use Rattle.spec_machine.specs.Common.{high_date, with_attributes, after_writes, last_date}
 use Rattle.spec_image.proofs.Common.{some_same, some_none, get-map_values, name_total}
@@ -32,14 +32,14 @@ last_of false n h = omega arith
 last_is : (layout n : ℕ) → n + 1 ≡ date_limit layout → n ≡ last_date layout
 last_is layout = last_of (layout == 1)
 
--- a date that is asked about by what `Layout::last_date` answers
+-- a date that is tested by what `Layout::last_date` answers
 pub late_in : (layout n date : ℕ) → n + 1 ≡ date_limit layout → n < date → last_date layout < date
 late_in layout n date is past = subst (λ (k : ℕ). k < date) (last_is layout n is) past
 
 pub timely_in : (layout n date : ℕ) → n + 1 ≡ date_limit layout → date ≤ n → date ≤ last_date layout
 timely_in layout n date is timely = subst (λ (k : ℕ). date ≤ k) (last_is layout n is) timely
 
--- Its high bits are none where the layout has none for them.
+-- Its high bits are 0 if the layout has no place for them.
 
 high_as : (b : Bool) (date : ℕ) → date < (if b then 2 ^ 12 else 2 ^ 15)
     → date / 4096 * 2 ^ 15 ≡ (if b then 0 else date / 4096 * 2 ^ 15)
@@ -84,15 +84,15 @@ module _ (d : DiskState) (files : Files File) (rest : RestsAt d files) where
       by (Some stored) at named = in_stored stored at (get stored.files name) refl
           (sym (get-map_values name_total (λ (f : StoredFile). f.file) stored.files name) ∙ named)
 
-pub shown_file : (o : Option (Directory Version)) (name : FileName) (x : Version) → file_in o name ≡ Some x
-    → named_in (option_map (map_directory (λ (v : Version). v.file)) o) name ≡ Some x.file
+pub shown_file : (o : Option (Directory SpecVersion)) (name : FileName) (x : SpecVersion) → file_in o name ≡ Some x
+    → named_in (option_map (map_directory (λ (v : SpecVersion). v.file)) o) name ≡ Some x.file
 shown_file None name x is = absurd (some_none (sym is))
-shown_file (Some dir) name x is = get-map_values name_total (λ (v : Version). v.file) dir.files name
-    ∙ ap (option_map (λ (v : Version). v.file)) is
+shown_file (Some dir) name x is = get-map_values name_total (λ (v : SpecVersion). v.file) dir.files name
+    ∙ ap (option_map (λ (v : SpecVersion). v.file)) is
 
 -- and so has each version that is current
-pub version_dated : (d : DiskState) (files : Files Version) → RestsAt d (without_serials files) → (place : Place)
-    (x : Version) → file_at files place ≡ Some x → x.file.date < date_limit (pack_of d).layout
+pub version_dated : (d : DiskState) (files : Files SpecVersion) → RestsAt d (without_serials files) → (place : Place)
+    (x : SpecVersion) → file_at files place ≡ Some x → x.file.date < date_limit (pack_of d).layout
 version_dated d files rest place x is =
     file_dated d (without_serials files) rest place.ppn place.name x.file
     (ap (λ o. named_in o place.name) (shown_at files place.ppn) ∙ shown_file (get files place.ppn) place.name x is)

@@ -1,5 +1,5 @@
 -- Sides are closed one by one: the versions that output sides wrote are dropped, and those that input sides read are
--- let go.
+-- unpinned.
 use Rattle.std.proofs.Common.{◌≡◌, ◌≢◌, ℕ, zero, suc, ◌+◌, ◌<◌, ◌≤◌, Bool, true, false, List, [], ◌∷◌, length, take}
 use Rattle.std.proofs.Common.{get_or, Option, Some, None, refl, sym, ap, subst, ◌∙◌, ⊎_elim, arith}
 use Rattle.std.specs.Prelude.{◌==◌, slice_set, filter_map, option_to_list, IsTrue, IsFalse}
@@ -8,11 +8,11 @@ use Rattle.std.specs.List.{AllByRecursion}
 use Rattle.spec_machine.specs.Common.{slot}
 use Rattle.spec_image.specs.Common.{times}
 use Rattle.spec_image.proofs.Common.{some_none, times_head, times_other}
-use Rattle.volume.specs.Common.{Known, VolumeCore, pending_at, is_creation, slot as version_at}
+use Rattle.volume.specs.Common.{CurrentMap, MemoryMap, pending_at, is_creation, slot as version_at}
 use Rattle.volume.specs.declared.pending.PendingVersion.{PendingVersion}
 use Rattle.monitor.specs.Common.{OnlyDrops, Closes, readers_of, KeepsSides, present, IsSide, AreKeyed, side_of}
 use Rattle.monitor.specs.Common.{sides_in, sides, keys_of, reader_of, pins_of, reset_job}
-use Rattle.monitor.specs.declared.channel.Channel.{Channel}
+use Rattle.monitor.specs.declared.channel.OpenChannel.{OpenChannel}
 use Rattle.monitor.specs.declared.input.Input.{Input}
 use Rattle.monitor.specs.declared.output.Output.{Output}
 use Rattle.monitor.specs.declared.job.Job.{Job}
@@ -30,7 +30,7 @@ same_or_not {P} k key same other = by (k == key) refl
 
 -- What there is stays.
 
-pub leaves_none : (c : VolumeCore) → OnlyDrops c c
+pub leaves_none : (c : MemoryMap) → OnlyDrops c c
 leaves_none c = record {
   stay = λ key p at. at;
   live = λ key v at. (v.readers, omega arith, at);
@@ -38,7 +38,7 @@ leaves_none c = record {
   known = refl;
 }
 
-pub leaves_on : (a b c : VolumeCore) → OnlyDrops a b → OnlyDrops b c → OnlyDrops a c
+pub leaves_on : (a b c : MemoryMap) → OnlyDrops a b → OnlyDrops b c → OnlyDrops a c
 leaves_on a b c first second = record {
   stay = λ key p at. first.stay key p (second.stay key p at);
   live = λ key v at.
@@ -46,14 +46,14 @@ leaves_on a b c first second = record {
       let sooner = first.live key (record v { readers = later.0 }) later.2 in
       (sooner.0, omega (arith, later.1, sooner.1), sooner.2);
   unread = λ none. second.unread (first.unread none);
-  known = second.known ∙ ap (λ (k : Known). record k { table = c.known.table }) first.known;
+  known = second.known ∙ ap (λ (k : CurrentMap). record k { table = c.known.table }) first.known;
 }
 
-pub closes_none : (c : VolumeCore) → Closes c c [] []
+pub closes_none : (c : MemoryMap) → Closes c c [] []
 closes_none c = record { gone = λ key. omega arith; released = λ key. omega arith; leaves = leaves_none c }
 
 -- one version is dropped
-pub drops_one : (c c' : VolumeCore) (key : ℕ) → 1 ≤ present (pending_at c.pending key) → pending_at c'.pending key
+pub drops_one : (c c' : MemoryMap) (key : ℕ) → 1 ≤ present (pending_at c.pending key) → pending_at c'.pending key
     ≡ None → ((k : ℕ) → (k ≡ key → ⊥) → pending_at c'.pending k ≡ pending_at c.pending k) → c'.live ≡ c.live
     → c'.known ≡ record c.known { table = c'.known.table } → Closes c c' (key ∷ []) []
 drops_one c c' key there gone others live known = record {
@@ -77,8 +77,8 @@ drops_one c c' key there gone others live known = record {
     here None there = absurd (omega arith)
     here (Some p) there = let none = ap present gone in let one = times_head key [] in omega arith
 
--- more are dropped, and let go
-pub closes_on : (a b c : VolumeCore) (xs ys zs ps qs rs : List ℕ) → Closes a b xs ps → Closes b c ys qs
+-- more are dropped, and unpinned
+pub closes_on : (a b c : MemoryMap) (xs ys zs ps qs rs : List ℕ) → Closes a b xs ps → Closes b c ys qs
     → ((key : ℕ) → times key zs ≡ times key xs + times key ys)
     → ((key : ℕ) → times key rs ≡ times key ps + times key qs)
     → Closes a c zs rs
@@ -88,14 +88,14 @@ closes_on a b c xs ys zs ps qs rs first second all each = record {
   leaves = leaves_on a b c first.leaves second.leaves;
 }
 
--- what stands at a place of a list doesn't depend on the default
+-- what is at a place of a list doesn't depend on the default
 pub get_there : {X : Type 0} (xs : List X) (i : ℕ) (a b : X) → i < length xs → get_or xs i a ≡ get_or xs i b
 get_there [] i a b below = absurd (omega (arith, below))
 get_there (x ∷ xs) zero a b below = refl
 get_there (x ∷ xs) (suc i) a b below = get_there xs i a b (omega (arith, below))
 
 -- The channels up to a place have closed their sides.
-module _ (a b : VolumeCore) (cs : List (Option Channel)) (i : ℕ) (o : Option Output) (r : Option Input) (below : i
+module _ (a b : MemoryMap) (cs : List (Option OpenChannel)) (i : ℕ) (o : Option Output) (r : Option Input) (below : i
     < length cs) (is : o ≡ side_of (get_or cs i None)) (reads : r ≡ reader_of (get_or cs i None))
     (closed : Closes a b (keys_of (filter_map side_of (take i cs))) (pins_of (filter_map reader_of (take i cs)))) where
   pub next_live : ((key : ℕ) → times key (keys_of (filter_map side_of cs)) ≤ present (pending_at a.pending key))
@@ -108,12 +108,12 @@ module _ (a b : VolumeCore) (cs : List (Option Channel)) (i : ℕ) (o : Option O
   next_held held key = let l = held key in let d = closed.released key in let w = held-within key cs (i + 1) in
       let m = held-more key cs i r below reads in omega arith
 
-  pub closed_more : (c : VolumeCore) → Closes b c (keys_of (option_to_list o)) (pins_of (option_to_list r))
+  pub closed_more : (c : MemoryMap) → Closes b c (keys_of (option_to_list o)) (pins_of (option_to_list r))
       → Closes a c (keys_of (filter_map side_of (take (i + 1) cs))) (pins_of (filter_map reader_of (take (i + 1) cs)))
   closed_more c next = closes_on a b c _ _ _ _ _ _ closed next (λ key. count-more key cs i o below is)
       (λ key. held-more key cs i r below reads)
 
-pub closed_all : (a b : VolumeCore) (cs : List (Option Channel)) (i : ℕ) → length cs ≤ i
+pub closed_all : (a b : MemoryMap) (cs : List (Option OpenChannel)) (i : ℕ) → length cs ≤ i
     → Closes a b (keys_of (filter_map side_of (take i cs))) (pins_of (filter_map reader_of (take i cs)))
     → Closes a b (keys_of (filter_map side_of cs)) (pins_of (filter_map reader_of cs))
 closed_all a b cs i le closed = subst
@@ -128,7 +128,7 @@ side_stays old new stay jobs all = each-as (IsSide old) (IsSide new)
     (λ o is. record { starts = is.starts; kind = λ p at. is.kind p (stay o.pending.key p at) }) (sides jobs) all
 
 -- The job of a slot is another one, with no output side, and what it wrote is dropped.
-pub closed_keyed : (c c' : VolumeCore) (pins : List ℕ) (jobs : List (Option Job)) (n : ℕ) (x : Option Job)
+pub closed_keyed : (c c' : MemoryMap) (pins : List ℕ) (jobs : List (Option Job)) (n : ℕ) (x : Option Job)
     → AreKeyed c.pending jobs → Closes c c' (keys_of (sides_in (slot jobs n))) pins → sides_in x ≡ []
     → AreKeyed c'.pending (slice_set jobs n x)
 closed_keyed c c' pins jobs n x keyed closed none = record {
@@ -143,7 +143,7 @@ closed_keyed c c' pins jobs n x keyed closed none = record {
 }
 
 -- a job that is there has what it writes
-pub job_live : (c : VolumeCore) (jobs : List (Option Job)) (n : ℕ) (job : Job) → AreKeyed c.pending jobs
+pub job_live : (c : MemoryMap) (jobs : List (Option Job)) (n : ℕ) (job : Job) → AreKeyed c.pending jobs
     → slot jobs n ≡ Some job → (key : ℕ) → count key (filter_map side_of job.channels)
     ≤ present (pending_at c.pending key)
 job_live c jobs n job keyed there key =
@@ -152,8 +152,8 @@ job_live c jobs n job keyed there key =
     let here = ap (λ o. count key (sides_in o)) there in
     omega arith
 
--- a job is reset, where there is one
-pub reset_keyed : (c c' : VolumeCore) (pins : List ℕ) (jobs jobs' : List (Option Job)) (n : ℕ) (result : Bool)
+-- a job is reset, if there is one
+pub reset_keyed : (c c' : MemoryMap) (pins : List ℕ) (jobs jobs' : List (Option Job)) (n : ℕ) (result : Bool)
     → AreKeyed c.pending jobs → Closes c c' (keys_of (sides_in (slot jobs n))) pins
     → (IsTrue result → (job : Job) × (slot jobs n ≡ Some job) × (jobs' ≡ slice_set jobs n (Some (reset_job job))))
     → (IsFalse result → (slot jobs n ≡ None) × (jobs' ≡ jobs)) → AreKeyed c'.pending jobs'

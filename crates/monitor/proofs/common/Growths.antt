@@ -8,15 +8,15 @@ use Rattle.std.specs.Cmp.{IsTotalOrder, nat_cmp_total}
 use Rattle.std.specs.FinMap.{IsAntisymmetric, nat_cmp-IsAntisymmetric}
 use Rattle.std.specs.FinMap.Entries.{find}
 use Rattle.blockdisk.specs.Common.{DiskState}
-use Rattle.spec_image.specs.Common.{directory_cost, MasterEntry, File, Files, Directory, map_directory, FinMap}
-use Rattle.spec_image.specs.Common.{EachOnce, get, remove, size, sum_entries, total, Version, without_serials}
+use Rattle.spec_image.specs.Common.{directory_cost, SpecMasterEntry, File, Files, Directory, map_directory, FinMap}
+use Rattle.spec_image.specs.Common.{EachOnce, get, remove, size, sum_entries, total, SpecVersion, without_serials}
 use Rattle.spec_image.specs.Common.{directory_of, entry_of}
 use Rattle.spec_image.proofs.Common.{some_none, apart, get-remove_other, get-map_values, empty_of_size}
 use Rattle.spec_image.proofs.Common.{size-map_values, size-remove, sum_entries-empty, sum_entries-remove, name_total}
 use Rattle.spec_image.proofs.Common.{name_exact}
-use Rattle.volume.specs.Common.{Known, KnownDirectory, IsWholeDirectory, IsWholeMap, creates, growths}
+use Rattle.volume.specs.Common.{CurrentMap, CurrentDirectory, IsWholeDirectory, IsWholeMap, creates, growths}
 use Rattle.volume.specs.declared.pending.PendingVersion.{PendingVersion}
-use Rattle.volume.proofs.common.Answering.{Holds}
+use Rattle.volume.proofs.common.Answers.{Holds}
 use Rattle.volume.proofs.common.CostLaws.{zip_each, size_named}
 
 -- A map's sum, by a list of its keys in any order, with a list of what each counts.
@@ -65,19 +65,19 @@ module _ {K V X Y : Type 0} {R : K → K → Ordering} (o : IsTotalOrder R) (exa
 -- Directories.
 
 -- a directory of a volume's files, and the one that it knows
-pub record Matches (files : Files Version) (ppn : ℕ) (d : KnownDirectory) : Type 0 where
-  pub directory : Directory Version
+pub record Matches (files : Files SpecVersion) (ppn : ℕ) (d : CurrentDirectory) : Type 0 where
+  pub directory : Directory SpecVersion
   pub there : get files ppn ≡ Some directory
   pub size_is : size directory.files ≡ length d.chain.entries
 
-pub shown_at : (files : Files Version) (ppn : ℕ)
-    → get (without_serials files) ppn ≡ option_map (map_directory (λ (v : Version). v.file)) (get files ppn)
-shown_at files ppn = get-map_values nat_cmp_total (map_directory (λ (v : Version). v.file)) files ppn
+pub shown_at : (files : Files SpecVersion) (ppn : ℕ)
+    → get (without_serials files) ppn ≡ option_map (map_directory (λ (v : SpecVersion). v.file)) (get files ppn)
+shown_at files ppn = get-map_values nat_cmp_total (map_directory (λ (v : SpecVersion). v.file)) files ppn
 
-module _ (d : DiskState) (k : Known) (files : Files Version) (holds : Holds d k (without_serials files))
+module _ (d : DiskState) (k : CurrentMap) (files : Files SpecVersion) (holds : Holds d k (without_serials files))
     (whole : IsWholeMap d.size k) where
-  -- what stands at a place of the master directory
-  pub matches : (i : ℕ) (e : MasterEntry) (x : KnownDirectory) → slice_get k.master.entries i ≡ Some e
+  -- what is at a place of the master directory
+  pub matches : (i : ℕ) (e : SpecMasterEntry) (x : CurrentDirectory) → slice_get k.master.entries i ≡ Some e
       → slice_get k.directories i ≡ Some x → IsWholeDirectory d.size x → Matches files e.0 x
   matches i e x at at' is =
       let found = holds.held.known.each i e x at at' in
@@ -90,44 +90,44 @@ module _ (d : DiskState) (k : Known) (files : Files Version) (holds : Holds d k 
       is.chain.each_once in
       by (get files e.0) refl (sym (shown_at files e.0) ∙ get_is) count
     where
-      by : {f : Directory File} (was : Option (Directory Version)) → get files e.0 ≡ was
-          → option_map (map_directory (λ (v : Version). v.file)) was ≡ Some f → size f.files ≡ length x.chain.entries
+      by : {f : Directory File} (was : Option (Directory SpecVersion)) → get files e.0 ≡ was
+          → option_map (map_directory (λ (v : SpecVersion). v.file)) was ≡ Some f → size f.files ≡ length x.chain.entries
           → Matches files e.0 x
       by None is shown count = absurd (some_none (sym shown))
       by {f} (Some y) is shown count =
-          let same : map_directory (λ (v : Version). v.file) y ≡ f = cc shown in
+          let same : map_directory (λ (v : SpecVersion). v.file) y ≡ f = cc shown in
           record {
             directory = y;
             there = is;
-            size_is = sym (size-map_values name_total (λ (v : Version). v.file) y.files)
+            size_is = sym (size-map_values name_total (λ (v : SpecVersion). v.file) y.files)
                 ∙ ap (λ (z : Directory File). size z.files) same ∙ count;
           }
 
-  pub all_match : AllZip (λ (e : MasterEntry) x. Matches files e.0 x) k.master.entries k.directories
-  all_match = zip_each (λ (e : MasterEntry) x. Matches files e.0 x) (IsWholeDirectory d.size) k.master.entries
+  pub all_match : AllZip (λ (e : SpecMasterEntry) x. Matches files e.0 x) k.master.entries k.directories
+  all_match = zip_each (λ (e : SpecMasterEntry) x. Matches files e.0 x) (IsWholeDirectory d.size) k.master.entries
       k.directories whole.aligned whole.each matches
 
   pub count_is : size files ≡ length k.master.entries
   count_is =
-      sym (size-map_values nat_cmp_total (map_directory (λ (v : Version). v.file)) files)
+      sym (size-map_values nat_cmp_total (map_directory (λ (v : SpecVersion). v.file)) files)
       ∙ ap size (sym holds.files_are) ∙ size-map_values nat_cmp_total directory_of holds.map.directories
       ∙ size_named nat_cmp_total nat_cmp-IsAntisymmetric entry_of holds.map.directories k.master.entries
       holds.held.known.names whole.chain.each_once
 
-  -- their costs, with so many entries more in each
-  sum_is : (more : ℕ → ℕ) → sum_entries (λ ppn (x : Directory Version). directory_cost (size x.files + more ppn)) files
-      ≡ sum_beside (λ ppn (x : KnownDirectory). directory_cost (length x.chain.entries + more ppn)) k.master.entries
+  -- their costs, with this many more entries in each
+  sum_is : (more : ℕ → ℕ) → sum_entries (λ ppn (x : Directory SpecVersion). directory_cost (size x.files + more ppn)) files
+      ≡ sum_beside (λ ppn (x : CurrentDirectory). directory_cost (length x.chain.entries + more ppn)) k.master.entries
       k.directories
   sum_is more =
       sum_counted_at nat_cmp_total nat_cmp-IsAntisymmetric
-      (λ ppn (x : Directory Version). directory_cost (size x.files + more ppn)) (λ ppn (x : KnownDirectory).
+      (λ ppn (x : Directory SpecVersion). directory_cost (size x.files + more ppn)) (λ ppn (x : CurrentDirectory).
       directory_cost (length x.chain.entries + more ppn)) files k.master.entries k.directories
       count_is whole.chain.each_once (counted k.master.entries k.directories all_match)
     where
-      counted : (es : List MasterEntry) (ds : List KnownDirectory)
-          → AllZip (λ (e : MasterEntry) x. Matches files e.0 x) es ds
-          → AllZip (CountsAt (λ ppn (x : Directory Version). directory_cost (size x.files + more ppn))
-          (λ ppn (x : KnownDirectory). directory_cost (length x.chain.entries + more ppn)) files) es ds
+      counted : (es : List SpecMasterEntry) (ds : List CurrentDirectory)
+          → AllZip (λ (e : SpecMasterEntry) x. Matches files e.0 x) es ds
+          → AllZip (CountsAt (λ ppn (x : Directory SpecVersion). directory_cost (size x.files + more ppn))
+          (λ ppn (x : CurrentDirectory). directory_cost (length x.chain.entries + more ppn)) files) es ds
       counted [] [] zip = tt
       counted [] (y ∷ ys) zip = absurd zip
       counted (e ∷ es) [] zip = absurd zip
@@ -136,8 +136,8 @@ module _ (d : DiskState) (k : Known) (files : Files Version) (holds : Holds d k 
 
   -- what creations add to it
   pub growths_are : (pending : List (Option PendingVersion))
-      → sum_entries (λ ppn (x : Directory Version). directory_cost (size x.files + total (creates ppn) pending)) files
-      ≡ sum_entries (λ ppn (x : Directory Version). directory_cost (size x.files + 0)) files
+      → sum_entries (λ ppn (x : Directory SpecVersion). directory_cost (size x.files + total (creates ppn) pending)) files
+      ≡ sum_entries (λ ppn (x : Directory SpecVersion). directory_cost (size x.files + 0)) files
       + growths pending k.master.entries k.directories
   growths_are pending =
       let all = sum_is (λ ppn. total (creates ppn) pending) in
@@ -148,10 +148,10 @@ module _ (d : DiskState) (k : Known) (files : Files Version) (holds : Holds d k 
       rises : (n m : ℕ) → directory_cost (n + m) ≡ directory_cost (n + 0) + (directory_cost (n + m) - directory_cost n)
       rises n m = omega arith
 
-      apart_sums : (es : List MasterEntry) (ds : List KnownDirectory)
+      apart_sums : (es : List SpecMasterEntry) (ds : List CurrentDirectory)
           → sum_beside
-          (λ ppn (x : KnownDirectory). directory_cost (length x.chain.entries + total (creates ppn) pending)) es ds
-          ≡ sum_beside (λ ppn (x : KnownDirectory). directory_cost (length x.chain.entries + 0)) es ds
+          (λ ppn (x : CurrentDirectory). directory_cost (length x.chain.entries + total (creates ppn) pending)) es ds
+          ≡ sum_beside (λ ppn (x : CurrentDirectory). directory_cost (length x.chain.entries + 0)) es ds
           + growths pending es ds
       apart_sums [] ds = refl
       apart_sums (e ∷ es) [] = refl

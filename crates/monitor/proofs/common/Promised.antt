@@ -1,4 +1,4 @@
--- What every call promises, put together from what a call says of itself.
+-- What every call promises, put together from what a call states of itself.
 use Rattle.std.specs.Prelude.{◌&&◌, not, is_some}
 use Rattle.std.proofs.Common.{◌≡◌, ℕ, Bool, true, false, List, Option, None, Some, refl, sym, ap, subst, ◌∙◌}
 use Rattle.std.proofs.Common.{slice_set}
@@ -11,38 +11,38 @@ use Rattle.spec_machine.specs.declared.call.Reply.{Reply}
 use Rattle.spec_machine.specs.declared.call.Reply.TheVariants.{Done, NoJob, NoMemory, Device, Failed, Refused}
 use Rattle.spec_machine.proofs.Common.{slot-set_other}
 use Rattle.spec_image.specs.Common.{pack_of}
-use Rattle.volume.specs.Common.{VolumeCore}
+use Rattle.volume.specs.Common.{MemoryMap}
 use Rattle.volume.specs.declared.live.LiveVersion.{LiveVersion}
 use Rattle.volume.specs.declared.pending.PendingVersion.{PendingVersion}
 use Rattle.monitor.specs.Common.{IsLight, KeepsCore, left_open, OnlyDrops, IsIdle, IsDecided, PublishesBy}
 use Rattle.monitor.specs.Common.{IsPublishRow, CrashesAsRow, StillStands, IsAmong, IsServing, ServesJob, refused_with}
 use Rattle.monitor.specs.Common.{IsRow, KeepsSides, KeepsReading, ClosesSide, publishes_at, Serves, AreKeyed}
 use Rattle.monitor.specs.Common.{ArePlaced, AreReading, IsTimely}
-use Rattle.monitor.specs.declared.channel.Channel.{Channel}
+use Rattle.monitor.specs.declared.channel.OpenChannel.{OpenChannel}
 use Rattle.monitor.specs.declared.output.Output.{Output}
 use Rattle.monitor.specs.declared.job.Job.{Job}
-use Rattle.monitor.proofs.common.Answering.{on_disk}
+use Rattle.monitor.proofs.common.EventAnswers.{on_disk}
 use Rattle.monitor.proofs.common.Called.{quiet_failed, quiet_same, still_serves, by_decided, decided_idle}
 use Rattle.monitor.proofs.common.Called.{decided_serves}
 use Rattle.monitor.proofs.CloseChannel.Closings.{dropping_keyed, dropping_reading, dropping_answered, row_answered}
 use Rattle.monitor.proofs.CloseChannel.Closings.{row_crashes, publishing_failed, publishing_blamed}
 use Rattle.monitor.proofs.CloseChannel.Closings.{publishing_counted, publishing_served}
-use Rattle.monitor.proofs.common.Placing.{placed_left}
+use Rattle.monitor.proofs.common.PlacedVersions.{placed_left}
 use Rattle.monitor.proofs.common.Refusals.{publishing_refused}
-use Rattle.monitor.proofs.common.Serving.{nobody, alone, alone_keyed, alone_reading}
+use Rattle.monitor.proofs.common.ServedCalls.{nobody, alone, alone_keyed, alone_reading}
 use Rattle.monitor.proofs.common.Slots.{unchanged}
 use Rattle.monitor.proofs.common.Untouched.{untouched_crashes}
 
 -- what holds of the call that a match found
-pub as_called : {D : Type 0} {state : D → DiskState} {disk disk' : D} {core core' : VolumeCore} {failed' : Bool}
+pub as_called : {D : Type 0} {state : D → DiskState} {disk disk' : D} {map map' : MemoryMap} {failed' : Bool}
     {job job' : Job} {call found : Call} {moment : Moment} {reply : Reply} → call ≡ found
-    → ServesJob state disk disk' core core' failed' job job' found moment reply
-    → ServesJob state disk disk' core core' failed' job job' call moment reply
-as_called {D} {state} {disk} {disk'} {core} {core'} {failed'} {job} {job'} {call} {found} {moment} {reply} is serving =
-    subst (λ (x : Call). ServesJob state disk disk' core core' failed' job job' x moment reply) (sym is) serving
+    → ServesJob state disk disk' map map' failed' job job' found moment reply
+    → ServesJob state disk disk' map map' failed' job job' call moment reply
+as_called {D} {state} {disk} {disk'} {map} {map'} {failed'} {job} {job'} {call} {found} {moment} {reply} is serving =
+    subst (λ (x : Call). ServesJob state disk disk' map map' failed' job job' x moment reply) (sym is) serving
 
 -- a channel whose output side closes for good publishes
-pub publishes_here : (job : Job) (number bits : ℕ) (c : Channel) (o : Output) → ClosesSide job number bits c o
+pub publishes_here : (job : Job) (number bits : ℕ) (c : OpenChannel) (o : Output) → ClosesSide job number bits c o
     → publishes_at (slot job.channels number) bits ≡ false → ⊥
 publishes_here job number bits c o here quiet =
     let is : publishes_at (slot job.channels number) bits ≡ true = ap (λ x. publishes_at x bits) here.there
@@ -51,34 +51,34 @@ publishes_here job number bits c o here quiet =
 
 module _ {D : Type 0} (state : D → DiskState) (only_now : (disk : D) (contents : Contents) → (state disk).honest
     → (state disk).left_since (state disk).clock contents → MayLeave (state disk) contents) where
-  -- A call that asks the disk for nothing, by what it says of core, of the job and of its answer.
-  module _ (disk disk' : D) (core core' : VolumeCore) (failed failed' : Bool) (job job' : Job) (call : Call)
+  -- A call that doesn't call the disk, by what it states of memory, of the job and of its answer.
+  module _ (disk disk' : D) (map map' : MemoryMap) (failed failed' : Bool) (job job' : Job) (call : Call)
       (moment : Moment) (reply : Reply)
       (alive : failed ≡ false) (untouched : (disk' ≡ disk) × (failed' ≡ failed)) (only : (reply ≡ Failed → ⊥)
       × (reply ≡ Device → ⊥))
-      (placed : ArePlaced core') (room : IsLight call (Some job) → reply ≡ NoMemory → ⊥) (kept : KeepsCore call
-      → core' ≡ core) (memory : reply ≡ NoMemory → (core' ≡ core) × (job' ≡ job))
+      (placed : ArePlaced map') (room : IsLight call (Some job) → reply ≡ NoMemory → ⊥) (kept : KeepsCore call
+      → map' ≡ map) (memory : reply ≡ NoMemory → (map' ≡ map) × (job' ≡ job))
       (refused : (code : ℕ) → reply ≡ Refused code → job' ≡ refused_with call job code)
-      (decided : IsDecided reply → (core' ≡ core) × (job' ≡ job))
-      (jobs : List (Option Job)) (n : ℕ) (among : IsAmong core jobs n job) where
+      (decided : IsDecided reply → (map' ≡ map) × (job' ≡ job))
+      (jobs : List (Option Job)) (n : ℕ) (among : IsAmong map jobs n job) where
     abbrev pub jobs' : List (Option Job)
     jobs' = slice_set jobs n (Some job')
 
-    pub quiet_serves : AreKeyed core'.pending jobs' → AreReading core'.live jobs'
-        → ((state disk').honest → (old : Service) → Serves (state disk) core false jobs old
-        → (new : Service) × Serves (state disk) core' false jobs' new
+    pub quiet_serves : AreKeyed map'.pending jobs' → AreReading map'.live jobs'
+        → ((state disk').honest → (old : Service) → Serves (state disk) map false jobs old
+        → (new : Service) × Serves (state disk) map' false jobs' new
         × Answers (pack_of (state disk)) old (Calls n call moment) reply new)
-        → IsServing state disk disk' core core' failed' jobs jobs' n call moment reply
+        → IsServing state disk disk' map map' failed' jobs jobs' n call moment reply
     quiet_serves keyed reading answered = record {
       keyed = λ serves. keyed;
       placed = λ serves. placed;
       reading = λ serves. reading;
       others = λ m other. slot-set_other jobs n m (Some job') other;
       answered = λ honest old serves.
-          on_disk state disk disk' false failed' core' jobs'
+          on_disk state disk disk' false failed' map' jobs'
           (Answers (pack_of (state disk)) old (Calls n call moment) reply) (untouched.0, untouched.1 ∙ alive)
           (answered honest old serves);
-      crash = untouched_crashes state only_now disk disk' untouched.0 core jobs n call moment;
+      crash = untouched_crashes state only_now disk disk' untouched.0 map jobs n call moment;
       idle = λ idle. untouched.0;
       light = λ light. (room (subst (IsLight call) among.there light), untouched.0);
       kept = kept;
@@ -104,67 +104,67 @@ module _ {D : Type 0} (state : D → DiskState) (only_now : (disk : D) (contents
     }
 
   -- A call that has to do with its job alone.
-  pub alone_serves : (disk : D) (core : VolumeCore) (failed : Bool) (job job' : Job) (call : Call) (moment : Moment)
-      (reply : Reply) → failed ≡ false → ArePlaced core → IsTimely (state disk) moment
+  pub alone_serves : (disk : D) (map : MemoryMap) (failed : Bool) (job job' : Job) (call : Call) (moment : Moment)
+      (reply : Reply) → failed ≡ false → ArePlaced map → IsTimely (state disk) moment
       → IsRow job job' call reply
       → ((pending : List (Option PendingVersion)) → KeepsSides pending pending job job')
       → ((live : List (Option LiveVersion)) → KeepsReading live live job job') → (reply ≡ Failed → ⊥)
       × (reply ≡ Device → ⊥) × (reply ≡ NoMemory → ⊥)
       → ((code : ℕ) → reply ≡ Refused code → job' ≡ refused_with call job code) → (IsDecided reply → job' ≡ job)
-      → ServesJob state disk disk core core failed job job' call moment reply
-  alone_serves disk core failed job job' call moment reply alive placed timely row keeps reads
+      → ServesJob state disk disk map map failed job job' call moment reply
+  alone_serves disk map failed job job' call moment reply alive placed timely row keeps reads
       only refused decided jobs n among =
       let set = slice_set jobs n (Some job') in
-      quiet_serves disk disk core core failed failed job job' call moment reply alive (refl, refl)
+      quiet_serves disk disk map map failed failed job job' call moment reply alive (refl, refl)
       (only.0, only.1) placed (λ light. only.2) (λ kept. refl) (λ none. absurd (only.2 none)) refused
       (λ is. (refl, decided is)) jobs n among
-      (alone_keyed (state disk) core false jobs n call moment refl timely set job job' among.keyed among.there refl
-      (keeps core.pending))
-      (alone_reading (state disk) core false jobs n call moment refl timely set job job' among.reading among.there refl
-      (reads core.live))
-      (λ honest. alone (state disk) core false jobs n call moment refl timely honest set job job' reply
-      among.keyed among.reading among.there refl (keeps core.pending) (reads core.live) row)
+      (alone_keyed (state disk) map false jobs n call moment refl timely set job job' among.keyed among.there refl
+      (keeps map.pending))
+      (alone_reading (state disk) map false jobs n call moment refl timely set job job' among.reading among.there refl
+      (reads map.live))
+      (λ honest. alone (state disk) map false jobs n call moment refl timely honest set job job' reply
+      among.keyed among.reading among.there refl (keeps map.pending) (reads map.live) row)
 
-  -- A call by which versions are dropped or let go, and which asks for nothing else.
-  pub dropping_serves : (disk disk' : D) (core core' : VolumeCore) (failed failed' : Bool) (job job' : Job)
+  -- A call by which versions are dropped or unpinned, and which calls for nothing else.
+  pub dropping_serves : (disk disk' : D) (map map' : MemoryMap) (failed failed' : Bool) (job job' : Job)
       (call : Call) (moment : Moment) (reply : Reply) → failed ≡ false → (disk' ≡ disk) × (failed' ≡ failed)
-      → ArePlaced core → IsTimely (state disk) moment → IsRow job job' call reply → KeepsSides core.pending
-      core'.pending job job'
-      → KeepsReading core.live core'.live job job'
-      → OnlyDrops core core' → (reply ≡ Failed → ⊥) × (reply ≡ Device → ⊥) × (reply ≡ NoMemory → ⊥)
-      → ((code : ℕ) → reply ≡ Refused code → ⊥) → (IsDecided reply → (core' ≡ core) × (job' ≡ job))
+      → ArePlaced map → IsTimely (state disk) moment → IsRow job job' call reply → KeepsSides map.pending
+      map'.pending job job'
+      → KeepsReading map.live map'.live job job'
+      → OnlyDrops map map' → (reply ≡ Failed → ⊥) × (reply ≡ Device → ⊥) × (reply ≡ NoMemory → ⊥)
+      → ((code : ℕ) → reply ≡ Refused code → ⊥) → (IsDecided reply → (map' ≡ map) × (job' ≡ job))
       → (KeepsCore call → ⊥)
-      → ServesJob state disk disk' core core' failed' job job' call moment reply
-  dropping_serves disk disk' core core' failed failed' job job' call moment reply alive untouched placed
+      → ServesJob state disk disk' map map' failed' job job' call moment reply
+  dropping_serves disk disk' map map' failed failed' job job' call moment reply alive untouched placed
       timely row keeps reads leaves only refused decided changes jobs n among =
       let set = slice_set jobs n (Some job') in
-      quiet_serves disk disk' core core' failed failed' job job' call moment reply alive untouched (only.0, only.1)
-      (placed_left core core' leaves placed) (λ light. only.2) (λ kept. absurd (changes kept))
+      quiet_serves disk disk' map map' failed failed' job job' call moment reply alive untouched (only.0, only.1)
+      (placed_left map map' leaves placed) (λ light. only.2) (λ kept. absurd (changes kept))
       (λ none. absurd (only.2 none)) (λ code is. absurd (refused code is)) decided jobs n among
-      (dropping_keyed (state disk) core core' false jobs set n job job' call moment refl timely among.there
+      (dropping_keyed (state disk) map map' false jobs set n job job' call moment refl timely among.there
       refl keeps reads among.keyed)
-      (dropping_reading (state disk) core core' false jobs set n job job' call moment refl timely among.there
+      (dropping_reading (state disk) map map' false jobs set n job job' call moment refl timely among.there
       refl keeps reads among.reading)
-      (λ honest old serves. dropping_answered (state disk) core core' false jobs set n job job'
+      (λ honest old serves. dropping_answered (state disk) map map' false jobs set n job job'
       call moment refl timely among.there refl keeps reads
       (subst (λ x. (state x).honest) untouched.0 honest) reply among.keyed among.reading leaves row old serves)
 
   -- Nobody is logged in by that number.
-  pub nobody_serves : (disk : D) (core : VolumeCore) (failed : Bool) (jobs jobs' : List (Option Job)) (n : ℕ)
+  pub nobody_serves : (disk : D) (map : MemoryMap) (failed : Bool) (jobs jobs' : List (Option Job)) (n : ℕ)
       (call : Call) (moment : Moment) → failed ≡ false → IsTimely (state disk) moment
-      → AreKeyed core.pending jobs → ArePlaced core → AreReading core.live jobs → slot jobs n ≡ None → jobs' ≡ jobs
-      → IsServing state disk disk core core failed jobs jobs' n call moment NoJob
-  nobody_serves disk core failed jobs jobs' n call moment alive timely keyed placed reading none same = record {
-    keyed = λ serves. subst (AreKeyed core.pending) (sym same) keyed;
+      → AreKeyed map.pending jobs → ArePlaced map → AreReading map.live jobs → slot jobs n ≡ None → jobs' ≡ jobs
+      → IsServing state disk disk map map failed jobs jobs' n call moment NoJob
+  nobody_serves disk map failed jobs jobs' n call moment alive timely keyed placed reading none same = record {
+    keyed = λ serves. subst (AreKeyed map.pending) (sym same) keyed;
     placed = λ serves. placed;
-    reading = λ serves. subst (AreReading core.live) (sym same) reading;
+    reading = λ serves. subst (AreReading map.live) (sym same) reading;
     others = λ m other. ap (λ js. slot js m) same;
     answered = λ honest old serves.
-        on_disk state disk disk false failed core jobs' (Answers (pack_of (state disk)) old
+        on_disk state disk disk false failed map jobs' (Answers (pack_of (state disk)) old
         (Calls n call moment) NoJob)
         (refl, alive)
-        (nobody (state disk) core false jobs n call moment refl timely honest jobs' keyed reading none same old serves);
-    crash = untouched_crashes state only_now disk disk refl core jobs n call moment;
+        (nobody (state disk) map false jobs n call moment refl timely honest jobs' keyed reading none same old serves);
+    crash = untouched_crashes state only_now disk disk refl map jobs n call moment;
     idle = λ idle. refl;
     light = λ light. (λ e. cc e, refl);
     kept = λ kept. refl;
@@ -179,41 +179,41 @@ module _ {D : Type 0} (state : D → DiskState) (only_now : (disk : D) (contents
   }
 
   -- The job was taken out of its slot, and put back.
-  pub set_serves : (disk disk' : D) (core core' : VolumeCore) (failed' : Bool) (jobs jobs' : List (Option Job))
+  pub set_serves : (disk disk' : D) (map map' : MemoryMap) (failed' : Bool) (jobs jobs' : List (Option Job))
       (n : ℕ) (job job' : Job) (call : Call) (moment : Moment) (reply : Reply)
       → jobs' ≡ slice_set jobs n (Some job')
-      → IsServing state disk disk' core core' failed' jobs (slice_set jobs n (Some job')) n call moment reply
-      → IsServing state disk disk' core core' failed' jobs jobs' n call moment reply
-  set_serves disk disk' core core' failed' jobs jobs' n job job' call moment reply set serving = subst
-      (λ js. IsServing state disk disk' core core' failed' jobs js n call moment reply) (sym set) serving
+      → IsServing state disk disk' map map' failed' jobs (slice_set jobs n (Some job')) n call moment reply
+      → IsServing state disk disk' map map' failed' jobs jobs' n call moment reply
+  set_serves disk disk' map map' failed' jobs jobs' n job job' call moment reply set serving = subst
+      (λ js. IsServing state disk disk' map map' failed' jobs js n call moment reply) (sym set) serving
 
   -- A call that publishes what the output side of a channel has written.
-  pub publishing_serves : (disk disk' : D) (core between core' : VolumeCore) (failed failed' : Bool)
-      (channel : Channel) (o : Output) (last : Option (List ℕ)) (job job' : Job) (number : ℕ) (call : Call)
-      (moment : Moment) (reply : Reply) → failed ≡ false → ArePlaced core → IsTimely (state disk) moment
-      → PublishesBy (state disk) (state disk') core between failed failed' channel o last reply
-      → (IsIdle reply → (disk' ≡ disk) × (core' ≡ core) × (failed' ≡ failed))
-      → ((reply ≡ Done → ⊥) → job' ≡ left_open job number channel reply) → StillStands core core' failed' job job'
-      → IsPublishRow (state disk) (state disk') core core' failed' job job' call reply
-      → CrashesAsRow (state disk) (state disk') core job call
+  pub publishing_serves : (disk disk' : D) (map between map' : MemoryMap) (failed failed' : Bool)
+      (channel : OpenChannel) (o : Output) (last : Option (List ℕ)) (job job' : Job) (number : ℕ) (call : Call)
+      (moment : Moment) (reply : Reply) → failed ≡ false → ArePlaced map → IsTimely (state disk) moment
+      → PublishesBy (state disk) (state disk') map between failed failed' channel o last reply
+      → (IsIdle reply → (disk' ≡ disk) × (map' ≡ map) × (failed' ≡ failed))
+      → ((reply ≡ Done → ⊥) → job' ≡ left_open job number channel reply) → StillStands map map' failed' job job'
+      → IsPublishRow (state disk) (state disk') map map' failed' job job' call reply
+      → CrashesAsRow (state disk) (state disk') map job call
       → (IsLight call (Some job) → ⊥) → (KeepsCore call → ⊥)
-      → ServesJob state disk disk' core core' failed' job job' call moment reply
-  publishing_serves disk disk' core between core' failed failed' channel o last job job' number call moment reply alive
+      → ServesJob state disk disk' map map' failed' job job' call moment reply
+  publishing_serves disk disk' map between map' failed failed' channel o last job job' number call moment reply alive
       placed timely publishes idle kept stands row crash heavy changes jobs n among =
       let is = publishes.answered in
       let d = state disk in
       let d' = state disk' in
       let set = slice_set jobs n (Some job') in
       let still = λ (works : failed' ≡ false). stands jobs n among.there among.keyed placed among.reading works in
-      let fails = publishing_failed d d' core between failed failed' channel o last reply is in
+      let fails = publishing_failed d d' map between failed failed' channel o last reply is in
       record {
         keyed = λ works. (still works).0;
         placed = λ works. (still works).1;
         reading = λ works. (still works).2;
         others = λ m other. slot-set_other jobs n m (Some job') other;
-        answered = λ honest. row_answered d d' core core' jobs set n job job' moment among.there refl
+        answered = λ honest. row_answered d d' map map' jobs set n job job' moment among.there refl
             timely false failed' call reply refl placed honest row;
-        crash = row_crashes d d' core core' jobs set n job job' moment among.there refl timely call crash;
+        crash = row_crashes d d' map map' jobs set n job job' moment among.there refl timely call crash;
         idle = λ idles. (idle idles).0;
         light = λ light. absurd (heavy (subst (IsLight call) among.there light));
         kept = λ kept. absurd (changes kept);
@@ -235,11 +235,11 @@ module _ {D : Type 0} (state : D → DiskState) (only_now : (disk : D) (contents
               unchanged jobs set n job job' among.there refl left,
             );
         refused = λ code refused.
-            absurd (publishing_refused d d' core between failed failed' channel o last code reply is refused);
+            absurd (publishing_refused d d' map between failed failed' channel o last code reply is refused);
         failed = fails;
-        blamed = publishing_blamed d d' core between failed failed' channel o last reply alive is;
-        counted = publishing_counted d d' core between failed failed' channel o last reply is;
-        served = publishing_served d d' core between failed failed' channel o last reply is
+        blamed = publishing_blamed d d' map between failed failed' channel o last reply alive is;
+        counted = publishing_counted d d' map between failed failed' channel o last reply is;
+        served = publishing_served d d' map between failed failed' channel o last reply is
             (λ idles i. (state ((idle idles).0 i)).failures);
         same = publishes.same;
       }

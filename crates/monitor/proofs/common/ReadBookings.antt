@@ -1,16 +1,16 @@
--- What readers hold is booked: the machine has each version as core has it, and of those that files have the serial
--- tells it.
+-- What readers have pinned is booked: the machine has each version as memory has it, and the serial identifies it among
+-- those that files have.
 use Rattle.std.proofs.Common.{◌≡◌, ℕ, ◌<◌, Bool, true, false, List, [], ◌∷◌, length, flat_map, inl, Some, refl, sym}
 use Rattle.std.proofs.Common.{ap, ◌∙◌}
 use Rattle.std.specs.Prelude.{◌==◌}
 use Rattle.std.proofs.lemmas.Bool.{eq-eqb}
 use Rattle.std.specs.List.{AllByRecursion}
 use Rattle.blockdisk.specs.Common.{DiskState}
-use Rattle.spec_image.specs.Common.{version_cost, cost_of_blocks, blocks_of, Files, Place, values, Version, file_at}
+use Rattle.spec_image.specs.Common.{version_cost, cost_of_blocks, blocks_of, Files, Place, values, SpecVersion, file_at}
 use Rattle.spec_machine.specs.Common.{State, has_serial, HaveDistinctSerials}
 use Rattle.spec_machine.proofs.Common.{none_passes, version_of_all}
 use Rattle.spec_image.proofs.Common.{all_append}
-use Rattle.volume.specs.Common.{IsWholeVersion, VolumeCore, slot, as_known, IsWholeCore}
+use Rattle.volume.specs.Common.{IsWholeVersion, MemoryMap, slot, as_known, IsWholeMemory}
 use Rattle.volume.specs.declared.live.LiveVersion.{LiveVersion}
 use Rattle.volume.proofs.common.LiveLookups.{standing_at}
 use Rattle.volume.proofs.common.Lookups.{all_each}
@@ -18,22 +18,22 @@ use Rattle.monitor.specs.Common.{AreBooked, AreRead}
 
 -- The versions of files.
 
-abbrev pub versions_of : Files Version → List Version
+abbrev pub versions_of : Files SpecVersion → List SpecVersion
 versions_of files = flat_map (λ d. values d.files) (values files)
 
 -- what all of them have, the one at a place has
-pub each_file : (P : Version → Type 0) (files : Files Version) → AllByRecursion P (versions_of files)
-    → (place : Place) (x : Version) → file_at files place ≡ Some x → P x
+pub each_file : (P : SpecVersion → Type 0) (files : Files SpecVersion) → AllByRecursion P (versions_of files)
+    → (place : Place) (x : SpecVersion) → file_at files place ≡ Some x → P x
 each_file P files all place x is =
     let s : State = record { files = files; jobs = [] } in
     version_of_all s P (all_append P (versions_of files) [] all tt) x (inl (place, is))
 
 -- no version of a list has a serial that the list doesn't have
-pub none_has : (serial : ℕ) (vs : List Version) → has_serial serial vs ≡ false
+pub none_has : (serial : ℕ) (vs : List SpecVersion) → has_serial serial vs ≡ false
     → AllByRecursion (λ v. (v.serial == serial) ≡ false) vs
 none_has serial vs none = none_passes (λ v. v.serial == serial) vs none
 
-pub serial_at : (files : Files Version) (place : Place) (x : Version) → file_at files place ≡ Some x
+pub serial_at : (files : Files SpecVersion) (place : Place) (x : SpecVersion) → file_at files place ≡ Some x
     → has_serial x.serial (versions_of files) ≡ true
 serial_at files place x is = by (has_serial x.serial (versions_of files)) refl
   where
@@ -48,12 +48,12 @@ serial_at files place x is = by (has_serial x.serial (versions_of files)) refl
 not_same : (a b : ℕ) → (a == b) ≡ false → a ≡ b → ⊥
 not_same a b differ same = let wrong = sym differ ∙ eq-eqb a b same in cc
 
--- Where serials are distinct, a version is told by its serial.
+-- If serials are distinct, a version is identified by its serial.
 
-abbrev pub IsTold : List Version → Version → Type 0
+abbrev pub IsTold : List SpecVersion → SpecVersion → Type 0
 IsTold vs x = AllByRecursion (λ y. y.serial ≡ x.serial → y ≡ x) vs
 
-pub all_told : (vs : List Version) → HaveDistinctSerials vs → AllByRecursion (IsTold vs) vs
+pub all_told : (vs : List SpecVersion) → HaveDistinctSerials vs → AllByRecursion (IsTold vs) vs
 all_told [] distinct = tt
 all_told (v ∷ vs) distinct = (
   (
@@ -67,7 +67,7 @@ all_told (v ∷ vs) distinct = (
     none : AllByRecursion (λ y. (y.serial == v.serial) ≡ false) vs
     none = none_has v.serial vs distinct.0
 
-    told : (ws : List Version) → AllByRecursion (λ y. (y.serial == v.serial) ≡ false) ws → AllByRecursion (IsTold vs) ws
+    told : (ws : List SpecVersion) → AllByRecursion (λ y. (y.serial == v.serial) ≡ false) ws → AllByRecursion (IsTold vs) ws
         → AllByRecursion (IsTold (v ∷ vs)) ws
     told [] others rest = tt
     told (w ∷ ws) others rest = (
@@ -75,12 +75,12 @@ all_told (v ∷ vs) distinct = (
       told ws others.1 rest.1,
     )
 
-pub told_at : (files : Files Version) → HaveDistinctSerials (versions_of files) → (place : Place) (x : Version)
+pub told_at : (files : Files SpecVersion) → HaveDistinctSerials (versions_of files) → (place : Place) (x : SpecVersion)
     → file_at files place ≡ Some x → IsTold (versions_of files) x
 told_at files distinct = each_file (IsTold (versions_of files)) files (all_told (versions_of files) distinct)
 
--- What readers hold.
-module _ (d : DiskState) (c : VolumeCore) (files : Files Version) (read : ℕ → Version) (whole : IsWholeCore d.size c)
+-- What readers have pinned.
+module _ (d : DiskState) (c : MemoryMap) (files : Files SpecVersion) (read : ℕ → SpecVersion) (whole : IsWholeMemory d.size c)
     (distinct : HaveDistinctSerials (versions_of files)) (reads : AreRead d c files read) where
   cost : (key : ℕ) (v : LiveVersion) → slot c.live key ≡ Some v → 0 < v.readers
       → version_cost (length (read key).file.body) ≡ cost_of_blocks (length v.version.blocks)
@@ -107,7 +107,7 @@ module _ (d : DiskState) (c : VolumeCore) (files : Files Version) (read : ℕ �
       by true is =
           let found = (reads.each key v there held).current is in
           all_each _ (λ x. x.serial ≡ (read key).serial → length x.file.body ≡ length (read key).file.body)
-          (versions_of files) (λ x told same. ap (λ (y : Version). length y.file.body) (told same))
+          (versions_of files) (λ x told same. ap (λ (y : SpecVersion). length y.file.body) (told same))
           (told_at files distinct found.0 (read key) found.2)
       by false ended =
           all_each _ (λ x. x.serial ≡ (read key).serial → length x.file.body ≡ length (read key).file.body)

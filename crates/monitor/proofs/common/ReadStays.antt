@@ -1,23 +1,23 @@
--- What readers hold, where a volume was opened, and over calls that leave the versions and the places of those that are
--- current.
+-- What readers have pinned, after a volume was opened, and over calls that leave the versions and the places of those
+-- that are current.
 use Rattle.std.proofs.Common.{◌≡◌, ℕ, ◌<◌, true, false, None, Some, IfSome, refl, sym, ap, ◌∙◌, ⊎_elim, arith}
 use Rattle.std.specs.Cmp.{nat_cmp_total}
 use Rattle.std.specs.FinMap.{nat_cmp-IsAntisymmetric}
 use Rattle.std.specs.List.{AllByRecursion}
 use Rattle.words36.specs.declared.names.FileName.{FileName}
 use Rattle.blockdisk.specs.Common.{DiskState}
-use Rattle.spec_image.specs.Common.{Files, Directory, Place, get, insert, empty, values, Version, file_in, file_at}
+use Rattle.spec_image.specs.Common.{Files, Directory, Place, get, insert, empty, values, SpecVersion, file_in, file_at}
 use Rattle.spec_machine.specs.Common.{has_serial}
 use Rattle.spec_image.proofs.Common.{some_none, same_or_other, get-insert_other, body_kept}
-use Rattle.volume.specs.Common.{VolumeCore, slot, IsFirstRead, prime_at, KeepsRead}
+use Rattle.volume.specs.Common.{MemoryMap, slot, IsFirstRead, prime_at, KeepsRead}
 use Rattle.volume.specs.declared.live.LiveVersion.{LiveVersion}
 use Rattle.volume.proofs.common.LiveLookups.{standing_at}
 use Rattle.monitor.specs.Common.{AreRead}
 use Rattle.monitor.proofs.common.Changes.{versions_made, none_in}
 use Rattle.monitor.proofs.common.ReadBookings.{versions_of}
 
--- Where each version is current and has no reader, nothing is read.
-pub reads_start : (d : DiskState) (c : VolumeCore) (files : Files Version) (read : ℕ → Version)
+-- If each version is current and has no reader, nothing is read.
+pub reads_start : (d : DiskState) (c : MemoryMap) (files : Files SpecVersion) (read : ℕ → SpecVersion)
     → AllByRecursion (λ o. IfSome o IsFirstRead) c.live → AreRead d c files read
 reads_start d c files read first = record {
   each = λ key v there held. absurd (unheld key v there held);
@@ -32,15 +32,15 @@ reads_start d c files read first = record {
     unheld key v there held = let none = (at key v there).unread in omega arith
 
 -- Over a call.
-module _ (d d' : DiskState) (c c' : VolumeCore) (read : ℕ
-    → Version) (live : c'.live ≡ c.live) (kept : KeepsRead d.contents d'.contents c) where
+module _ (d d' : DiskState) (c c' : MemoryMap) (read : ℕ
+    → SpecVersion) (live : c'.live ≡ c.live) (kept : KeepsRead d.contents d'.contents c) where
   was : (key : ℕ) (v : LiveVersion) → slot c'.live key ≡ Some v → slot c.live key ≡ Some v
   was key v there = ap (λ vs. slot vs key) (sym live) ∙ there
 
   -- each place keeps the prime block and the file that it has, and no version is another
-  pub reads_go : (files files' : Files Version)
+  pub reads_go : (files files' : Files SpecVersion)
       → ((ppn : ℕ) (name : FileName) (n : ℕ) → prime_at c ppn name ≡ Some n → prime_at c' ppn name ≡ Some n)
-      → ((place : Place) (x : Version) → file_at files place ≡ Some x → file_at files' place ≡ Some x)
+      → ((place : Place) (x : SpecVersion) → file_at files place ≡ Some x → file_at files' place ≡ Some x)
       → versions_of files' ≡ versions_of files → AreRead d c files read → AreRead d' c' files' read
   reads_go files files' primes stays versions reads = record {
     each = λ key v there held.
@@ -63,11 +63,11 @@ module _ (d d' : DiskState) (c c' : VolumeCore) (read : ℕ
     apart = λ key other v w there there'. reads.apart key other v w (was key v there) (was other w there');
   }
 
-  pub reads_kept : (files : Files Version) → ((ppn : ℕ) (name : FileName) → prime_at c' ppn name ≡ prime_at c ppn name)
+  pub reads_kept : (files : Files SpecVersion) → ((ppn : ℕ) (name : FileName) → prime_at c' ppn name ≡ prime_at c ppn name)
       → AreRead d c files read → AreRead d' c' files read
   reads_kept files primes = reads_go files files (λ ppn name n is. primes ppn name ∙ is) (λ place x is. is) refl
 
-  pub reads_made : (files : Files Version) (owner : ℕ) (v : Directory Version) → v.files ≡ empty
+  pub reads_made : (files : Files SpecVersion) (owner : ℕ) (v : Directory SpecVersion) → v.files ≡ empty
       → get files owner ≡ None
       → ((ppn : ℕ) (name : FileName) (n : ℕ) → prime_at c ppn name ≡ Some n → prime_at c' ppn name ≡ Some n)
       → AreRead d c files read → AreRead d' c' (insert files owner v) read
@@ -75,7 +75,7 @@ module _ (d d' : DiskState) (c c' : VolumeCore) (read : ℕ
       (versions_made files owner v (ap values bare ∙ none_in) none)
     where
       -- a place with a file is not in the new directory
-      stays : (place : Place) (x : Version) → file_at files place ≡ Some x
+      stays : (place : Place) (x : SpecVersion) → file_at files place ≡ Some x
           → file_at (insert files owner v) place ≡ Some x
       stays place x is = ⊎_elim
           (λ here. absurd (some_none (sym is ∙ ap (λ o. file_in o place.name) (ap (get files) here ∙ none))))

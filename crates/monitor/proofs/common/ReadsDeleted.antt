@@ -1,14 +1,14 @@
--- What readers hold, where a file is deleted: its version is past for those who read it.
+-- What readers have pinned, if a file is deleted: its version is past for those who read it.
 use Rattle.std.proofs.Common.{◌≡◌, ◌⊎◌, inl, inr, ℕ, ◌<◌, true, false, Option, Some, refl, sym, ap, subst, ◌∙◌}
 use Rattle.std.proofs.Common.{⊎_elim, List}
 use Rattle.std.proofs.lemmas.Bool.{cases_Bool, cases_eq, both_ways}
 use Rattle.words36.specs.declared.names.FileName.{FileName}
 use Rattle.blockdisk.specs.Common.{DiskState}
 use Rattle.spec_image.specs.declared.put.Put.{Put}
-use Rattle.spec_image.specs.Common.{Files, Place, Version, file_at, without_file, place_of}
+use Rattle.spec_image.specs.Common.{Files, Place, SpecVersion, file_at, without_file, place_of}
 use Rattle.spec_machine.specs.Common.{HaveDistinctSerials}
 use Rattle.spec_image.proofs.Common.{some_same}
-use Rattle.volume.specs.Common.{as_known, VolumeCore, slot, IsWholeCore, prime_at, live_left, RemovesFile, KeepsRead}
+use Rattle.volume.specs.Common.{as_known, MemoryMap, slot, IsWholeMemory, prime_at, live_left, RemovesFile, KeepsRead}
 use Rattle.volume.specs.declared.live.LiveVersion.{LiveVersion}
 use Rattle.volume.proofs.common.OnePlace.{one_key, one_place}
 use Rattle.volume.proofs.DeleteFile.Places.{removed_current, primes_elsewhere}
@@ -18,11 +18,11 @@ use Rattle.monitor.proofs.common.Copies.{versions_in}
 use Rattle.monitor.proofs.common.ReadsPinned.{words_kept}
 use Rattle.monitor.proofs.common.ReadsPublished.{left_of_read, left_readers}
 
--- One version isn't current any more, and is gone where nobody reads it; all others are as they were.
+-- One version isn't current any more, and is gone if nobody reads it; all others are as they were.
 module _ (live live' : List (Option LiveVersion)) (key : ℕ) (v : LiveVersion) (there : slot live key ≡ Some v)
     (ended : slot live' key ≡ live_left (Some (key, v)))
     (others : (k : ℕ) → (k ≡ key → ⊥) → slot live' k ≡ slot live k) where
-  -- what stands under a key was there
+  -- what is under a key was there
   abbrev WasThere : ℕ → LiveVersion → Type 0
   WasThere k w = (u : LiveVersion) × (slot live k ≡ Some u)
       × ((u ≡ w) ⊎ ((0 < u.readers) × (record u { is_current = false } ≡ w)))
@@ -62,15 +62,15 @@ module _ (live live' : List (Option LiveVersion)) (key : ℕ) (v : LiveVersion) 
       (λ other. ap readers_of (others k other))
       (cases_eq k key)
 
-module _ (d d' : DiskState) (c c' : VolumeCore) (files : Files Version) (read : ℕ → Version) (ppn : ℕ)
-    (name : FileName) (key : ℕ) (v : LiveVersion) (puts : List Put) (x : Version)
-    (reads : AreRead d c files read) (whole : IsWholeCore d.size c) (is : RemovesFile d.size c c' ppn name key v puts)
+module _ (d d' : DiskState) (c c' : MemoryMap) (files : Files SpecVersion) (read : ℕ → SpecVersion) (ppn : ℕ)
+    (name : FileName) (key : ℕ) (v : LiveVersion) (puts : List Put) (x : SpecVersion)
+    (reads : AreRead d c files read) (whole : IsWholeMemory d.size c) (is : RemovesFile d.size c c' ppn name key v puts)
     (at : file_at files (place_of ppn name) ≡ Some x) (distinct : HaveDistinctSerials (versions_in files))
     (keeps : KeepsRead d.contents d'.contents c) where
   abbrev place : Place
   place = place_of ppn name
 
-  abbrev files' : Files Version
+  abbrev files' : Files SpecVersion
   files' = without_file files place
 
   module _ (k : ℕ) (u : LiveVersion) (was : slot c.live k ≡ Some u) (held : 0 < u.readers) where

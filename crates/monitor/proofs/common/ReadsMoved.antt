@@ -1,18 +1,18 @@
--- What readers hold, where a file moves: the version that has moved is read on, as the file of its new place with its
--- new protection; and jobs have what they had, since an input side keeps the protection that it found.
+-- What readers have pinned, if a file moves: the version that has moved is still read, as the file of its new place
+-- with its new protection; and jobs have what they had, since an input side keeps the protection that it found.
 use Rattle.std.proofs.Common.{◌≡◌, ◌≢◌, ℕ, ◌<◌, List, map, Option, Some, None, refl, sym, ap, subst, ◌∙◌, ⊎_elim}
 use Rattle.std.specs.Prelude.{option_map}
 use Rattle.std.proofs.lemmas.Bool.{cases_eq, both_ways}
 use Rattle.words36.specs.declared.names.FileName.{FileName}
 use Rattle.blockdisk.specs.Common.{DiskState}
-use Rattle.spec_image.specs.Common.{Files, Directory, Place, get, Version, file_at, with_protection, place_of}
+use Rattle.spec_image.specs.Common.{Files, Directory, Place, get, SpecVersion, file_at, with_protection, place_of}
 use Rattle.spec_image.proofs.Common.{some_same, some_none}
 use Rattle.retrieval.specs.Common.{mode_number}
-use Rattle.volume.specs.Common.{as_known, VolumeCore, slot, IsWholeCore, prime_at, KeepsRead}
+use Rattle.volume.specs.Common.{as_known, MemoryMap, slot, IsWholeMemory, prime_at, KeepsRead}
 use Rattle.volume.specs.declared.live.LiveVersion.{LiveVersion}
 use Rattle.volume.proofs.common.OnePlace.{one_key, one_place}
 use Rattle.monitor.specs.Common.{IsVersionRead, AreRead, UnderKeys, input_of, output_of, jobs_of}
-use Rattle.monitor.specs.declared.channel.Channel.{Channel}
+use Rattle.monitor.specs.declared.channel.OpenChannel.{OpenChannel}
 use Rattle.monitor.specs.declared.input.Input.{Input}
 use Rattle.monitor.specs.declared.job.Job.{Job}
 use Rattle.monitor.proofs.LookupFile.Calls.{with_version}
@@ -22,10 +22,10 @@ use Rattle.monitor.proofs.common.ReadsPinned.{words_kept, with_read, with_read_s
 use Rattle.spec_machine.specs.Jobs as machine
 
 -- the version under a key with another protection
-abbrev pub protected_under : (ℕ → Version) → ℕ → ℕ → ℕ → Version
+abbrev pub protected_under : (ℕ → SpecVersion) → ℕ → ℕ → ℕ → SpecVersion
 protected_under read key protection = with_read read key (with_protection (read key) protection)
 
-module _ (read : ℕ → Version) (key protection : ℕ) where
+module _ (read : ℕ → SpecVersion) (key protection : ℕ) where
   under_same : (k : ℕ) → k ≡ key → protected_under read key protection k ≡ with_protection (read k) protection
   under_same k same = with_read_same read key (with_protection (read key) protection) k same
       ∙ ap (λ n. with_protection (read n) protection) (sym same)
@@ -36,8 +36,8 @@ module _ (read : ℕ → Version) (key protection : ℕ) where
   -- it has the serial that it had
   serial_kept : (k : ℕ) → (protected_under read key protection k).serial ≡ (read k).serial
   serial_kept k = ⊎_elim
-      (λ (same : k ≡ key). ap (λ (v : Version). v.serial) (under_same k same))
-      (λ apart. ap (λ (v : Version). v.serial) (under_other k apart)) (cases_eq k key)
+      (λ (same : k ≡ key). ap (λ (v : SpecVersion). v.serial) (under_same k same))
+      (λ apart. ap (λ (v : SpecVersion). v.serial) (under_other k apart)) (cases_eq k key)
 
 -- Jobs.
 
@@ -51,7 +51,7 @@ module _ (w : UnderKeys) (key protection : ℕ) where
       (λ (same : i.pin.key ≡ key). ap input_at (under_same w.read key protection i.pin.key same))
       (λ apart. ap input_at (under_other w.read key protection i.pin.key apart)) (cases_eq i.pin.key key)
     where
-      input_at : Version → machine.Input
+      input_at : SpecVersion → machine.SpecInput
       input_at v = record {
         place = place_of i.ppn i.file;
         version = with_protection v i.protection;
@@ -61,7 +61,7 @@ module _ (w : UnderKeys) (key protection : ℕ) where
   pub protected_jobs : (jobs : List (Option Job)) → jobs_of with_protected jobs ≡ jobs_of w jobs
   protected_jobs jobs = ap (λ f. map (option_map (job_with f)) jobs) (λ i x. sides_same x i)
     where
-      channel_with : (Input → machine.Input) → Channel → machine.Channel
+      channel_with : (Input → machine.SpecInput) → OpenChannel → machine.Channel
       channel_with f c = record {
         mode = mode_number c.mode;
         input_header = c.input_header;
@@ -71,7 +71,7 @@ module _ (w : UnderKeys) (key protection : ℕ) where
         output = option_map (output_of w) c.output;
       }
 
-      job_with : (Input → machine.Input) → Job → machine.Job
+      job_with : (Input → machine.SpecInput) → Job → machine.SpecJob
       job_with f job = record {
         ppn = job.ppn;
         core = job.core;
@@ -80,10 +80,10 @@ module _ (w : UnderKeys) (key protection : ℕ) where
 
 -- Versions that are read.
 
-module _ (d d' : DiskState) (c c' : VolumeCore) (files : Files Version) (read : ℕ → Version)
-    (reads : AreRead d c files read) (whole : IsWholeCore d.size c) (ppn : ℕ) (name : FileName) (to_ppn : ℕ)
-    (to : FileName) (protection : ℕ) (is : MovesFile c c' ppn name to_ppn to protection) (x : Version)
-    (at : file_at files (place_of ppn name) ≡ Some x) (home : Directory Version) (housed : get files to_ppn ≡ Some home)
+module _ (d d' : DiskState) (c c' : MemoryMap) (files : Files SpecVersion) (read : ℕ → SpecVersion)
+    (reads : AreRead d c files read) (whole : IsWholeMemory d.size c) (ppn : ℕ) (name : FileName) (to_ppn : ℕ)
+    (to : FileName) (protection : ℕ) (is : MovesFile c c' ppn name to_ppn to protection) (x : SpecVersion)
+    (at : file_at files (place_of ppn name) ≡ Some x) (home : Directory SpecVersion) (housed : get files to_ppn ≡ Some home)
     (free : place_of to_ppn to ≢ place_of ppn name → file_at files (place_of to_ppn to) ≡ None)
     (keeps : KeepsRead d.contents d'.contents c) where
   abbrev old : Place
@@ -95,13 +95,13 @@ module _ (d d' : DiskState) (c c' : VolumeCore) (files : Files Version) (read : 
   abbrev key : ℕ
   key = is.key
 
-  abbrev pub files' : Files Version
+  abbrev pub files' : Files SpecVersion
   files' = moved files old new protection x at home housed
 
-  abbrev pub read' : ℕ → Version
+  abbrev pub read' : ℕ → SpecVersion
   read' = protected_under read key protection
 
-  -- what stood under a key
+  -- what was under a key
   was_other : (k : ℕ) (v : LiveVersion) → slot c'.live k ≡ Some v → k ≢ key → slot c.live k ≡ Some v
   was_other k v now apart = sym (is.others k apart) ∙ now
 
@@ -119,7 +119,7 @@ module _ (d d' : DiskState) (c c' : VolumeCore) (files : Files Version) (read : 
       ))
       (λ apart. (v, was_other k v now apart, refl, refl)) (cases_eq k key)
 
-  -- Where the version that moves is read, it is the one of the old place.
+  -- If the version that moves is read, it is the one of the old place.
   it_is : 0 < is.version.readers → read key ≡ x
   it_is held =
       let was = (reads.each key is.version is.there held).current is.current in

@@ -1,22 +1,22 @@
--- What readers hold, where one comes or goes: one comes to the version that a place has now.
+-- What readers have pinned, if one comes or goes: one comes to the version that a place has now.
 use Rattle.std.proofs.Common.{◌≡◌, ◌≢◌, ◌⊎◌, inl, inr, ℕ, ◌+◌, ◌-◌, ◌<◌, true, false, Some, None, sym, ap, subst, ◌∙◌}
 use Rattle.std.proofs.Common.{⊎_elim, arith}
 use Rattle.std.specs.Prelude.{◌==◌, if◌then◌else◌}
 use Rattle.std.proofs.lemmas.Bool.{eq-eqb, ne_eqb, cases_Bool, cases_lt, cases_eq, both_ways}
 use Rattle.blockdisk.specs.Common.{Contents, DiskState}
-use Rattle.spec_image.specs.Common.{AgreeOn, File, Files, Place, Version, file_at}
+use Rattle.spec_image.specs.Common.{AgreeOn, File, Files, Place, SpecVersion, file_at}
 use Rattle.spec_machine.specs.Common.{HaveDistinctSerials}
 use Rattle.spec_image.proofs.Common.{some_same, some_none, body_kept}
-use Rattle.volume.specs.Common.{KnownVersion, as_known, VolumeCore, slot, IsWholeCore, IsVersionOf, prime_at}
+use Rattle.volume.specs.Common.{CurrentVersion, as_known, MemoryMap, slot, IsWholeMemory, IsVersionOf, prime_at}
 use Rattle.volume.specs.declared.live.LiveVersion.{LiveVersion}
 use Rattle.volume.proofs.common.OnePlace.{one_key, one_place}
 use Rattle.volume.proofs.common.PrimeBlocks.{primes_table}
 use Rattle.monitor.specs.Common.{IsVersionRead, AreRead}
-use Rattle.monitor.proofs.common.HeldSerials.{not_there, one_at}
+use Rattle.monitor.proofs.common.PinnedSerials.{not_there, one_at}
 use Rattle.monitor.proofs.common.Copies.{versions_in}
 
 -- A version that is of a file still is, on contents that agree on its blocks.
-pub words_kept : (old new : Contents) (v : KnownVersion) (file : File) → AgreeOn v.version.blocks old new
+pub words_kept : (old new : Contents) (v : CurrentVersion) (file : File) → AgreeOn v.version.blocks old new
     → IsVersionOf old v file → IsVersionOf new v file
 words_kept old new v file agree is = record {
   protection = is.protection;
@@ -29,17 +29,17 @@ words_kept old new v file agree is = record {
 
 -- One key has this version.
 
-abbrev pub with_read : (ℕ → Version) → ℕ → Version → ℕ → Version
+abbrev pub with_read : (ℕ → SpecVersion) → ℕ → SpecVersion → ℕ → SpecVersion
 with_read read key x k = if k == key then x else read k
 
-pub with_read_same : (read : ℕ → Version) (key : ℕ) (x : Version) (k : ℕ) → k ≡ key → with_read read key x k ≡ x
+pub with_read_same : (read : ℕ → SpecVersion) (key : ℕ) (x : SpecVersion) (k : ℕ) → k ≡ key → with_read read key x k ≡ x
 with_read_same read key x k same = ap (λ b. if b then x else read k) (eq-eqb k key same)
 
-pub with_read_other : (read : ℕ → Version) (key : ℕ) (x : Version) (k : ℕ) → k ≢ key → with_read read key x k ≡ read k
+pub with_read_other : (read : ℕ → SpecVersion) (key : ℕ) (x : SpecVersion) (k : ℕ) → k ≢ key → with_read read key x k ≡ read k
 with_read_other read key x k apart = ap (λ b. if b then x else read k) (ne_eqb k key apart)
 
--- A version that is read goes on where prime blocks stay and its disk, its files and its core are these.
-moved : (d : DiskState) (c c' : VolumeCore) (files : Files Version) (v : LiveVersion) (readers : ℕ) (x : Version)
+-- A version that is read stays so if prime blocks stay and its disk, its files and its memory are these.
+moved : (d : DiskState) (c c' : MemoryMap) (files : Files SpecVersion) (v : LiveVersion) (readers : ℕ) (x : SpecVersion)
     → ((place : Place) → prime_at c' place.ppn place.name ≡ prime_at c place.ppn place.name)
     → IsVersionRead d c files v x → IsVersionRead d c' files (record v { readers = readers }) x
 moved d c c' files v readers x primes is = record {
@@ -50,9 +50,9 @@ moved d c c' files v readers x primes is = record {
 
 -- A reader comes to the version of a place.
 
-module _ (d : DiskState) (c : VolumeCore) (files : Files Version) (read : ℕ → Version) (reads : AreRead d c files read)
-    (whole : IsWholeCore d.size c) (place : Place) (x : Version) (there : file_at files place ≡ Some x) where
-  -- Where it was read before, the machine has this very version under its key.
+module _ (d : DiskState) (c : MemoryMap) (files : Files SpecVersion) (read : ℕ → SpecVersion) (reads : AreRead d c files read)
+    (whole : IsWholeMemory d.size c) (place : Place) (x : SpecVersion) (there : file_at files place ≡ Some x) where
+  -- If it was read before, the machine has this very version under its key.
   pub read_again : (key : ℕ) (v : LiveVersion) → slot c.live key ≡ Some v → 0 < v.readers → v.is_current ≡ true
       → prime_at c place.ppn place.name ≡ Some v.at → read key ≡ x
   read_again key v here held current at =
@@ -61,7 +61,7 @@ module _ (d : DiskState) (c : VolumeCore) (files : Files Version) (read : ℕ �
       let place_is : was.0 ≡ place = λ i. record { ppn = same.0 i; name = same.1 i } in
       some_same (sym was.2 ∙ ap (file_at files) place_is ∙ there)
 
-  module _ (c' : VolumeCore) (key : ℕ) (distinct : HaveDistinctSerials (versions_in files))
+  module _ (c' : MemoryMap) (key : ℕ) (distinct : HaveDistinctSerials (versions_in files))
       (pinned : (v : LiveVersion) × (slot c.live key ≡ Some v)
       × (slot c'.live key ≡ Some (record v { readers = v.readers + 1 })))
       (others : (k : ℕ) → (k ≡ key → ⊥) → slot c'.live k ≡ slot c.live k)
@@ -70,7 +70,7 @@ module _ (d : DiskState) (c : VolumeCore) (files : Files Version) (read : ℕ �
       × (prime_at c place.ppn place.name ≡ Some v.at))
       (value : (v : LiveVersion) × (slot c'.live key ≡ Some v) × IsVersionOf d.contents (as_known v) x.file) where
     primes : (q : Place) → prime_at c' q.ppn q.name ≡ prime_at c q.ppn q.name
-    primes q = ap (λ (z : VolumeCore). prime_at z q.ppn q.name) core
+    primes q = ap (λ (z : MemoryMap). prime_at z q.ppn q.name) core
 
     -- it is current still
     still_current : (u : LiveVersion) → slot c'.live key ≡ Some u → u.is_current ≡ true
@@ -121,21 +121,21 @@ module _ (d : DiskState) (c : VolumeCore) (files : Files Version) (read : ℕ �
           (λ (is : k ≡ key). ⊎_elim
           (λ (is' : l ≡ key). is ∙ sym is')
           (λ other. is ∙ sym (alone l w (sym (others l other)
-          ∙ now') held' (sym (ap (λ (z : Version). z.serial) (with_read_other read key x l other)) ∙ sym same
-          ∙ ap (λ (z : Version). z.serial) (with_read_same read key x k is)))) (cases_eq l key))
+          ∙ now') held' (sym (ap (λ (z : SpecVersion). z.serial) (with_read_other read key x l other)) ∙ sym same
+          ∙ ap (λ (z : SpecVersion). z.serial) (with_read_same read key x k is)))) (cases_eq l key))
           (λ other. ⊎_elim
           (λ (is' : l ≡ key). alone k u (sym (others k other)
-          ∙ now) held (sym (ap (λ (z : Version). z.serial) (with_read_other read key x k other)) ∙ same
-          ∙ ap (λ (z : Version). z.serial) (with_read_same read key x l is')) ∙ sym is')
+          ∙ now) held (sym (ap (λ (z : SpecVersion). z.serial) (with_read_other read key x k other)) ∙ same
+          ∙ ap (λ (z : SpecVersion). z.serial) (with_read_same read key x l is')) ∙ sym is')
           (λ other'. reads.apart k l u w (sym (others k other) ∙ now) (sym (others l other') ∙ now') held held'
-          (sym (ap (λ (z : Version). z.serial) (with_read_other read key x k other)) ∙ same
-          ∙ ap (λ (z : Version). z.serial) (with_read_other read key x l other'))) (cases_eq l key))
+          (sym (ap (λ (z : SpecVersion). z.serial) (with_read_other read key x k other)) ∙ same
+          ∙ ap (λ (z : SpecVersion). z.serial) (with_read_other read key x l other'))) (cases_eq l key))
           (cases_eq k key);
     }
 
 -- A reader goes.
 
-module _ (d : DiskState) (c c' : VolumeCore) (files : Files Version) (read : ℕ → Version) (key : ℕ) (v : LiveVersion)
+module _ (d : DiskState) (c c' : MemoryMap) (files : Files SpecVersion) (read : ℕ → SpecVersion) (key : ℕ) (v : LiveVersion)
     (reads : AreRead d c files read) (here : slot c.live key ≡ Some v) (held : 0 < v.readers)
     (stays : (v.is_current ≡ true) ⊎ (1 < v.readers) → slot c'.live key ≡ Some (record v { readers = v.readers - 1 }))
     (gone : v.is_current ≡ false → v.readers ≡ 1 → slot c'.live key ≡ None)

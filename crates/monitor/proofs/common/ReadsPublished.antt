@@ -1,18 +1,18 @@
--- What readers hold, where a version is published: the one that it supersedes is past for those who read it.
+-- What readers have pinned, if a version is published: the one that it supersedes is past for those who read it.
 use Rattle.std.proofs.Common.{◌≡◌, ◌⊎◌, inl, inr, ℕ, ◌<◌, ◌==◌, if◌then◌else◌, true, false, Some, None, refl, sym, ap}
 use Rattle.std.proofs.Common.{subst, ◌∙◌, ⊎_elim, arith}
 use Rattle.std.proofs.lemmas.Bool.{cases_Bool, cases_eq, cases_lt, both_ways}
 use Rattle.blockdisk.specs.Common.{DiskState}
-use Rattle.spec_image.specs.Common.{Files, Place, Version, file_at, with_file, place_of}
+use Rattle.spec_image.specs.Common.{Files, Place, SpecVersion, file_at, with_file, place_of}
 use Rattle.spec_machine.specs.Common.{HaveDistinctSerials}
 use Rattle.spec_image.proofs.Common.{some_same, some_none}
-use Rattle.volume.specs.Common.{as_known, VolumeCore, slot, IsWholeCore, prime_at, IsPublishedCore, KeepsRead}
+use Rattle.volume.specs.Common.{as_known, MemoryMap, slot, IsWholeMemory, prime_at, IsPublishedMemory, KeepsRead}
 use Rattle.volume.specs.declared.live.LiveVersion.{LiveVersion}
 use Rattle.volume.specs.declared.pending.PendingVersion.{PendingVersion}
 use Rattle.volume.proofs.PublishVersion.Places.{ended_stays, current_goes_on}
 use Rattle.volume.proofs.PublishVersion.Slots.{left, left_cases, made_current_slot}
 use Rattle.monitor.specs.Common.{readers_of, IsVersionRead, AreRead}
-use Rattle.monitor.proofs.common.HeldSerials.{superseded, still_none}
+use Rattle.monitor.proofs.common.PinnedSerials.{superseded, still_none}
 use Rattle.monitor.proofs.common.Copies.{versions_in}
 use Rattle.monitor.proofs.CloseChannel.PublishedFiles.{put_elsewhere}
 use Rattle.monitor.proofs.common.ReadsPinned.{words_kept}
@@ -35,9 +35,9 @@ left_of_read u v is_left = ⊎_elim
 pub left_readers : (u : LiveVersion) → readers_of (left u) ≡ u.readers
 left_readers u = ⊎_elim (λ none. ap readers_of none.1 ∙ sym none.0) (λ some. ap readers_of some) (left_cases u)
 
--- What stood under a key before.
-module _ (size : ℕ) (c c' : VolumeCore) (key : ℕ) (p : PendingVersion) (words : ℕ)
-    (is : IsPublishedCore size c c' key p words) where
+-- What was under a key before.
+module _ (size : ℕ) (c c' : MemoryMap) (key : ℕ) (p : PendingVersion) (words : ℕ)
+    (is : IsPublishedMemory size c c' key p words) where
   -- the new version is current, and has no reader
   new_under : (k : ℕ) (v : LiveVersion) → slot c'.live k ≡ Some v → k ≡ is.makes_current.new_key
       → (v.is_current ≡ true) × (v.readers ≡ 0)
@@ -94,14 +94,14 @@ module _ (size : ℕ) (c c' : VolumeCore) (key : ℕ) (p : PendingVersion) (word
       is.makes_current.others k other))
       (cases_eq k is.makes_current.new_key)
 
--- The version that is published has a serial that none has that is read.
-module _ (d d' : DiskState) (c c' : VolumeCore) (files : Files Version) (read : ℕ
-    → Version) (key : ℕ) (p : PendingVersion) (words : ℕ) (place : Place) (x : Version)
-    (reads : AreRead d c files read) (whole : IsWholeCore d.size c) (is : IsPublishedCore d.size c c' key p words)
+-- The version that is published has a serial that no version that is read has.
+module _ (d d' : DiskState) (c c' : MemoryMap) (files : Files SpecVersion) (read : ℕ
+    → SpecVersion) (key : ℕ) (p : PendingVersion) (words : ℕ) (place : Place) (x : SpecVersion)
+    (reads : AreRead d c files read) (whole : IsWholeMemory d.size c) (is : IsPublishedMemory d.size c c' key p words)
     (distinct : HaveDistinctSerials (versions_in files)) (place_is : place ≡ place_of p.prime.ppn p.prime.file)
     (fresh : (k : ℕ) (v : LiveVersion) → slot c.live k ≡ Some v → 0 < v.readers → x.serial ≡ (read k).serial
     → ⊥) (keeps : KeepsRead d.contents d'.contents c) where
-  abbrev files' : Files Version
+  abbrev files' : Files SpecVersion
   files' = with_file files place x
 
   module _ (k : ℕ) (u : LiveVersion) (was : slot c.live k ≡ Some u) (held : 0 < u.readers) where

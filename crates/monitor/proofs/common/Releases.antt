@@ -1,14 +1,14 @@
--- One reader lets a version go: it stays for others, or goes with the last of them.
+-- One reader unpins a version: it stays for others, or goes with the last of them.
 use Rattle.std.proofs.Common.{◌≡◌, ℕ, zero, suc, ◌+◌, ◌-◌, ◌<◌, ◌≤◌, Bool, true, false, [], ◌∷◌, Option, Some, None}
 use Rattle.std.proofs.Common.{refl, sym, ap, subst, ◌∙◌, ◌⊎◌, inl, inr, ⊎_elim, arith}
 use Rattle.spec_image.specs.Common.{times}
 use Rattle.spec_image.proofs.Common.{some_same, some_none, times_head, times_other}
-use Rattle.volume.specs.Common.{VolumeCore, pending_at, slot}
+use Rattle.volume.specs.Common.{MemoryMap, pending_at, slot}
 use Rattle.volume.specs.declared.live.LiveVersion.{LiveVersion}
 use Rattle.monitor.specs.Common.{Closes, readers_of, present}
 use Rattle.monitor.proofs.common.Dropped.{same_or_not}
 
--- a version that is held once or more is there, and has a reader
+-- a version that is pinned once or more is there, and has a reader
 pub held_there : (o : Option LiveVersion) (key : ℕ) → times key (key ∷ []) ≤ readers_of o
     → (v : LiveVersion) × (o ≡ Some v) × (0 < v.readers)
 held_there None key held = let one = times_head key [] in absurd (omega arith)
@@ -36,7 +36,7 @@ stays_or_goes v o some stays gone = by v.is_current v.readers refl refl
     by false (suc (suc n)) past many = let more : 1 < v.readers = omega (arith, many) in
         inl (record { is = stays (inr more); why = inr more })
 
-module _ (c c' : VolumeCore) (key : ℕ) (v : LiveVersion) (at : slot c.live key ≡ Some v) (some : 0 < v.readers)
+module _ (c c' : MemoryMap) (key : ℕ) (v : LiveVersion) (at : slot c.live key ≡ Some v) (some : 0 < v.readers)
     (others : (k : ℕ) → (k ≡ key → ⊥) → slot c'.live k ≡ slot c.live k) (pending : c'.pending ≡ c.pending)
     (known : c'.known ≡ record c.known { table = c'.known.table })
     (after : StaysHeld v (slot c'.live key) ⊎ GoesHeld v (slot c'.live key)) where
@@ -88,8 +88,8 @@ module _ (c c' : VolumeCore) (key : ℕ) (v : LiveVersion) (at : slot c.live key
     };
   }
 
--- From what is known of one that is let go.
-pub lets_one_go : (c c' : VolumeCore) (key : ℕ) → (v : LiveVersion) × (slot c.live key ≡ Some v) × (0 < v.readers)
+-- From what is known of one that is unpinned.
+pub lets_one_go : (c c' : MemoryMap) (key : ℕ) → (v : LiveVersion) × (slot c.live key ≡ Some v) × (0 < v.readers)
     → ((v : LiveVersion) → slot c.live key ≡ Some v → (v.is_current ≡ true) ⊎ (1 < v.readers)
     → slot c'.live key ≡ Some (record v { readers = v.readers - 1 }))
     → ((v : LiveVersion) → slot c.live key ≡ Some v → v.is_current ≡ false → v.readers ≡ 1 → slot c'.live key ≡ None)

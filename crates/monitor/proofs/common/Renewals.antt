@@ -1,20 +1,20 @@
--- An input side comes to hold another version of its file.
+-- An input side pins another version of its file.
 use Rattle.std.proofs.Common.{◌≡◌, ◌<◌, ℕ, ◌+◌, true, List, [], ◌∷◌, Option, None, Some, Ok, sym, ap, subst, ◌∙◌}
 use Rattle.std.proofs.Common.{⊎_elim, slice_set, arith}
 use Rattle.std.specs.Prelude.{option_map, option_to_list}
 use Rattle.std.proofs.lemmas.Bool.{cases_lt}
 use Rattle.words36.specs.declared.names.FileName.{FileName}
 use Rattle.blockdisk.specs.Common.{DiskState}
-use Rattle.spec_image.specs.Common.{Files, Directory, map_directory, get, times, Version, without_serials, file_in}
+use Rattle.spec_image.specs.Common.{Files, Directory, map_directory, get, times, SpecVersion, without_serials, file_in}
 use Rattle.spec_image.specs.Common.{file_at, place_of}
 use Rattle.spec_machine.specs.Common.{slot, HaveDistinctSerials}
 use Rattle.spec_image.proofs.Common.{some_same, some_none, get-map_values, name_total}
-use Rattle.volume.specs.Common.{as_known, VolumeCore, IsWholeCore, slot as version_at, IsVersionOf, IsPinAnswer}
+use Rattle.volume.specs.Common.{as_known, MemoryMap, IsWholeMemory, slot as version_at, IsVersionOf, IsPinAnswer}
 use Rattle.volume.specs.Common.{prime_at}
 use Rattle.volume.specs.declared.live.LiveVersion.{LiveVersion}
 use Rattle.monitor.specs.Common.{named_in, readers_of, ArePinned, AreRead, Renews, KeepsReading, IsReader, UnderKeys}
 use Rattle.monitor.specs.Common.{reader_of, readers, pins_of, jobs_of}
-use Rattle.monitor.specs.declared.channel.Channel.{Channel}
+use Rattle.monitor.specs.declared.channel.OpenChannel.{OpenChannel}
 use Rattle.monitor.specs.declared.input.Input.{Input}
 use Rattle.monitor.specs.declared.job.Job.{Job}
 use Rattle.monitor.proofs.common.Dropped.{same_or_not}
@@ -24,12 +24,12 @@ use Rattle.monitor.proofs.LookupFile.Calls.{with_version, again_same, unread_sam
 use Rattle.monitor.proofs.LookupFile.Lookups.{one_more}
 use Rattle.monitor.proofs.common.Copies.{versions_in}
 use Rattle.monitor.proofs.common.ReaderLists.{held, held-channel}
-use Rattle.monitor.proofs.common.ReadingJobs.{slot_set, length-slice_set, reads_left}
+use Rattle.monitor.proofs.common.JobReaders.{slot_set, length-slice_set, reads_left}
 use Rattle.monitor.proofs.common.ReadsPinned.{with_read, read_again, reads_pinned}
 use Rattle.monitor.proofs.common.Dates.{shown_file}
 
 -- the same, with the protection by another name
-abbrev pub renews_with : (c c' : VolumeCore) (input renewed : Input) (ppn : ℕ) (file : FileName) (p q : ℕ) → p ≡ q
+abbrev pub renews_with : (c c' : MemoryMap) (input renewed : Input) (ppn : ℕ) (file : FileName) (p q : ℕ) → p ≡ q
     → Renews c c' input renewed ppn file p → Renews c c' input renewed ppn file q
 renews_with c c' input renewed ppn file p q same is = record {
   held = is.held;
@@ -41,18 +41,18 @@ renews_with c c' input renewed ppn file p q same is = record {
   renewed_is = is.renewed_is ∙ ap (λ (n : ℕ). record input { pin = is.held.pin; protection = n }) same;
 }
 
-module _ (c c' : VolumeCore) (input renewed : Input) (ppn : ℕ) (file : FileName) (protection : ℕ)
+module _ (c c' : MemoryMap) (input renewed : Input) (ppn : ℕ) (file : FileName) (protection : ℕ)
     (is : Renews c c' input renewed ppn file protection) where
-  -- Core has what is written, and knows of the disk what it knew, but for the table.
+  -- Memory has what is written, and what it knew of the disk, except for the table.
 
   pub renewed_pending : c'.pending ≡ c.pending
-  renewed_pending = is.pending ∙ ap (λ (x : VolumeCore). x.pending) is.holds.core
+  renewed_pending = is.pending ∙ ap (λ (x : MemoryMap). x.pending) is.holds.map
 
   pub renewed_known : c'.known ≡ record c.known { table = c'.known.table }
-  renewed_known = is.closed.leaves.known ∙ ap (λ (x : VolumeCore). record x.known { table = c'.known.table })
-      is.holds.core
+  renewed_known = is.closed.leaves.known ∙ ap (λ (x : MemoryMap). record x.known { table = c'.known.table })
+      is.holds.map
 
-  -- the side's key is that of what is held
+  -- the side's key is that of what is pinned
   key_is : renewed.pin.key ≡ is.held.pin.key
   key_is = ap (λ (i : Input). i.pin.key) is.renewed_is
 
@@ -62,7 +62,7 @@ module _ (c c' : VolumeCore) (input renewed : Input) (ppn : ℕ) (file : FileNam
   renewed_once k = is.closed.released k ∙ one_more c is.between is.held is.holds k
       ∙ ap (λ key. readers_of (version_at c.live k) + times k (key ∷ [])) (sym key_is)
 
-  pub renewed_reading : (job : Job) (number : ℕ) (x old : Channel) (core : List ℕ) → slot job.channels number ≡ Some old
+  pub renewed_reading : (job : Job) (number : ℕ) (x old : OpenChannel) (core : List ℕ) → slot job.channels number ≡ Some old
       → old.input ≡ Some input → x.input ≡ Some renewed
       → KeepsReading c.live c'.live job
       (record job { core = core; channels = slice_set job.channels number (Some x) })
@@ -87,9 +87,9 @@ module _ (c c' : VolumeCore) (input renewed : Input) (ppn : ℕ) (file : FileNam
 
   -- What the machine has under the new key is the version that the file of the place has.
 
-  module _ (d : DiskState) (files : Files Version) (read : ℕ → Version) (reads : AreRead d c files read)
-      (whole : IsWholeCore d.size c) (x : Version) (there : file_at files (place_of ppn file) ≡ Some x) where
-    -- core has it for the place
+  module _ (d : DiskState) (files : Files SpecVersion) (read : ℕ → SpecVersion) (reads : AreRead d c files read)
+      (whole : IsWholeMemory d.size c) (x : SpecVersion) (there : file_at files (place_of ppn file) ≡ Some x) where
+    -- memory has it for the place
     at : (v : LiveVersion) × (version_at c.live is.held.pin.key ≡ Some v) × (v.is_current ≡ true)
         × (prime_at c ppn file ≡ Some v.at)
     at = let was = is.holds.at in let owner = sym is.at.0 in let name = sym is.at.1 in
@@ -116,7 +116,7 @@ module _ (c c' : VolumeCore) (input renewed : Input) (ppn : ℕ) (file : FileNam
     renewed_reads distinct answer = subst (λ key. AreRead d c' files (with_read read key x)) (sym key_is)
         (reads_left d is.between c' files (with_read read is.held.pin.key x) is.closed.leaves
         (reads_pinned d c files read reads whole (place_of ppn file) x there is.between is.held.pin.key distinct
-        is.holds.pinned is.holds.others is.holds.core at value))
+        is.holds.pinned is.holds.others is.holds.map at value))
       where
         value : (v : LiveVersion) × (version_at is.between.live is.held.pin.key ≡ Some v)
             × IsVersionOf d.contents (as_known v) x.file

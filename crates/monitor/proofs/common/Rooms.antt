@@ -7,30 +7,31 @@ use Rattle.std.specs.Cmp.{nat_cmp_total}
 use Rattle.blockdisk.specs.Common.{DiskState}
 use Rattle.spec_image.specs.Common.{entries, values, size, total, sum_over, sum_entries, Files, Directory}
 use Rattle.spec_image.specs.Common.{map_directory, version_cost, cost_of_blocks, directory_cost, cost_of_directory}
-use Rattle.spec_image.specs.Common.{cost_of_files, Version, without_serials}
-use Rattle.spec_machine.specs.Common.{State, is_create, outputs_of, outputs, held_by, held_versions, current_versions}
+use Rattle.spec_image.specs.Common.{cost_of_files, SpecVersion, without_serials}
+use Rattle.spec_machine.specs.Common.{State, is_create, outputs_of, outputs, pinned_by, pinned_versions}
+use Rattle.spec_machine.specs.Common.{current_versions}
 use Rattle.spec_machine.specs.Common.{distinct_cost, pending_creations, pending_cost, booked, pending_cost_in}
 use Rattle.spec_machine.specs.Common.{HaveDistinctSerials}
 use Rattle.spec_image.proofs.Common.{name_total, total-map, size-map_values, sum-map_values}
-use Rattle.volume.specs.Common.{writes_in, VolumeCore, pending_at, is_creation, creates, cost_beyond, held_cost}
-use Rattle.volume.specs.Common.{IsWholePending, IsWholeCore}
+use Rattle.volume.specs.Common.{writes_in, MemoryMap, pending_at, is_creation, creates, cost_beyond, pinned_cost}
+use Rattle.volume.specs.Common.{IsWholePending, IsWholeMemory}
 use Rattle.volume.specs.declared.pending.PendingVersion.{PendingVersion}
-use Rattle.volume.proofs.common.Answering.{Holds}
+use Rattle.volume.proofs.common.Answers.{Holds}
 use Rattle.monitor.specs.Common.{IsSide, IsState, UnderKeys, side_of, sides_in, sides, readers, pins_of, kind_of}
 use Rattle.monitor.specs.Common.{output_of, channel_of, job_of, jobs_of}
 use Rattle.monitor.specs.declared.output.Output.{Output}
-use Rattle.monitor.specs.declared.channel.Channel.{Channel}
+use Rattle.monitor.specs.declared.channel.OpenChannel.{OpenChannel}
 use Rattle.monitor.specs.declared.job.Job.{Job}
 use Rattle.monitor.proofs.common.Growths.{growths_are}
-use Rattle.monitor.proofs.common.HeldReaders.{shown as shown_by, held_are, shown_as}
-use Rattle.monitor.proofs.common.HeldRooms.{held_as_once}
+use Rattle.monitor.proofs.common.PinnedReaders.{shown as shown_by, held_are, shown_as}
+use Rattle.monitor.proofs.common.PinnedRooms.{held_as_once}
 use Rattle.monitor.proofs.common.ReadBookings.{reads_booked}
 use Rattle.monitor.proofs.common.SideLists.{each-as}
 use Rattle.monitor.proofs.common.SideSums.{all_at, sum_sides}
 use Rattle.spec_machine.proofs.Common.{total-flat_map}
 use Rattle.spec_machine.specs.Jobs as machine
 use Rattle.spec_machine.specs.Room as room
-use Rattle.volume.specs.Live as live
+use Rattle.volume.specs.MemoryMap as live
 
 -- The machine's output sides, and what it holds.
 
@@ -40,7 +41,7 @@ module _ (w : UnderKeys) where
   cons_shown None os = refl
   cons_shown (Some o) os = refl
 
-  channel_sides : (cs : List (Option Channel)) → filter_map room.output_of (map (option_map (channel_of w)) cs)
+  channel_sides : (cs : List (Option OpenChannel)) → filter_map room.output_of (map (option_map (channel_of w)) cs)
       ≡ map (output_of w) (filter_map side_of cs)
   channel_sides [] = refl
   channel_sides (None ∷ cs) = channel_sides cs
@@ -62,7 +63,7 @@ module _ (w : UnderKeys) where
 
 -- Versions with serials of their own cost what each costs.
 
-each_once : (vs : List Version) → HaveDistinctSerials vs → distinct_cost vs
+each_once : (vs : List SpecVersion) → HaveDistinctSerials vs → distinct_cost vs
     ≡ total (λ v. version_cost (length v.file.body)) vs
 each_once [] distinct = refl
 each_once (v ∷ vs) distinct = cc (distinct.0, each_once vs distinct.1)
@@ -76,7 +77,7 @@ total-add f g [] = refl
 total-add f g (x ∷ xs) = omega (arith, total-add f g xs)
 
 -- the versions of one directory, and of all
-costs_in : (d : Directory Version) → total (λ v. version_cost (length v.file.body)) (values d.files)
+costs_in : (d : Directory SpecVersion) → total (λ v. version_cost (length v.file.body)) (values d.files)
     ≡ sum_over (λ v. version_cost (length v.file.body)) d.files
 costs_in d = total-map (λ v. version_cost (length v.file.body)) (λ e. e.1) (entries d.files)
 
@@ -85,17 +86,17 @@ total_same f g same [] = refl
 total_same f g same (x ∷ xs) = omega (arith, same x, total_same f g same xs)
 
 -- a directory with all its files
-abbrev cost_in : Directory Version → ℕ
+abbrev cost_in : Directory SpecVersion → ℕ
 cost_in d = directory_cost (size d.files) + total (λ v. version_cost (length v.file.body)) (values d.files)
 
-shown : (d : Directory Version) → cost_of_directory (map_directory (λ v. v.file) d) ≡ cost_in d
+shown : (d : Directory SpecVersion) → cost_of_directory (map_directory (λ v. v.file) d) ≡ cost_in d
 shown d =
-    let names = ap directory_cost (size-map_values name_total (λ (v : Version). v.file) d.files) in
-    let files = sum-map_values name_total (λ f. version_cost (length f.body)) (λ (v : Version). v.file) d.files in
+    let names = ap directory_cost (size-map_values name_total (λ (v : SpecVersion). v.file) d.files) in
+    let files = sum-map_values name_total (λ f. version_cost (length f.body)) (λ (v : SpecVersion). v.file) d.files in
     let each = costs_in d in
     omega (arith, names, files, each)
 
-abbrev booked_of : Files Version → List Version → List machine.Output → ℕ
+abbrev booked_of : Files SpecVersion → List SpecVersion → List machine.SpecOutput → ℕ
 booked_of files versions outs =
     (directory_cost (size files) + sum_entries
     (λ ppn d. directory_cost (size d.files + total (λ o. if is_create o.kind && (o.place.ppn == ppn) then 1
@@ -103,12 +104,12 @@ booked_of files versions outs =
     + distinct_cost (flat_map (λ d. values d.files) (values files) ++ versions)
     + total (λ o. version_cost (length o.pending.body)) outs
 
-booked_alone : (files : Files Version) → HaveDistinctSerials (flat_map (λ d. values d.files) (values files))
+booked_alone : (files : Files SpecVersion) → HaveDistinctSerials (flat_map (λ d. values d.files) (values files))
     → booked_of files [] [] ≡ cost_of_files (without_serials files)
 booked_alone files distinct =
-    let size_is = ap directory_cost (size-map_values nat_cmp_total (map_directory (λ (v : Version). v.file)) files) in
-    let sums = sum-map_values nat_cmp_total cost_of_directory (map_directory (λ (v : Version). v.file)) files in
-    let directories = total_same (λ e. cost_of_directory (map_directory (λ (v : Version). v.file) e.1))
+    let size_is = ap directory_cost (size-map_values nat_cmp_total (map_directory (λ (v : SpecVersion). v.file)) files) in
+    let sums = sum-map_values nat_cmp_total cost_of_directory (map_directory (λ (v : SpecVersion). v.file)) files in
+    let directories = total_same (λ e. cost_of_directory (map_directory (λ (v : SpecVersion). v.file) e.1))
     (λ e. cost_in e.1) (λ e. shown e.1) (entries files) in
     let apart = total-add (λ e. directory_cost (size e.1.files))
     (λ e. total (λ v. version_cost (length v.file.body)) (values e.1.files)) (entries files) in
@@ -127,9 +128,9 @@ booked_alone files distinct =
 abbrev one_if : Bool → ℕ
 one_if b = if b then 1 else 0
 
-module _ (d : DiskState) (map : VolumeCore) (jobs : List (Option Job)) (s : State) (state : IsState d map jobs s) where
+module _ (d : DiskState) (map : MemoryMap) (jobs : List (Option Job)) (s : State) (state : IsState d map jobs s) where
   -- the sum over output sides is the one over versions
-  pub sum_is : (f : machine.Output → ℕ) (g : Option PendingVersion → ℕ) → g None ≡ 0
+  pub sum_is : (f : machine.SpecOutput → ℕ) (g : Option PendingVersion → ℕ) → g None ≡ 0
       → ((o : Output) (p : PendingVersion) → pending_at map.pending o.pending.key ≡ Some p → IsSide map.pending o
       → f (output_of state.under o) ≡ g (Some p)) → total f (outputs s) ≡ total g map.pending
   sum_is f g none each =
@@ -149,14 +150,14 @@ module _ (d : DiskState) (map : VolumeCore) (jobs : List (Option Job)) (s : Stat
       both true b x y e f = λ i. if e i then one_if (f i) else 0
       both false b x y e f = ap (λ c. if c then one_if y else 0) e
 
-  pub costs_are : IsWholeCore d.size map → room.pending_cost s ≡ total live.pending_cost map.pending
+  pub costs_are : IsWholeMemory d.size map → room.pending_cost s ≡ total live.pending_cost map.pending
   costs_are whole = sum_is (λ o. version_cost (length o.pending.body)) live.pending_cost refl
       (λ o p at side. ap version_cost (state.versions o.pending.key p at).words
       ∙ ap cost_of_blocks
       (sym (all_at (IsWholePending d.size) map.pending o.pending.key p whole.waiting at).whole.counted))
 
   -- the same of one directory
-  pub written_are : IsWholeCore d.size map → (ppn : ℕ) → pending_cost_in s ppn ≡ total (writes_in ppn) map.pending
+  pub written_are : IsWholeMemory d.size map → (ppn : ℕ) → pending_cost_in s ppn ≡ total (writes_in ppn) map.pending
   written_are whole ppn =
       sum_is (λ o. if o.place.ppn == ppn then version_cost (length o.pending.body) else 0) (writes_in ppn) refl
       (λ o p at side.
@@ -165,12 +166,12 @@ module _ (d : DiskState) (map : VolumeCore) (jobs : List (Option Job)) (s : Stat
       (sym (all_at (IsWholePending d.size) map.pending o.pending.key p whole.waiting at).whole.counted) in
       λ i. if place i == ppn then cost i else 0)
 
-  held_is : held_versions s ≡ shown_by state.under (readers jobs)
-  held_is = ap (flat_map held_by) state.jobs_are ∙ held_are state.under jobs
+  held_is : pinned_versions s ≡ shown_by state.under (readers jobs)
+  held_is = ap (flat_map pinned_by) state.jobs_are ∙ held_are state.under jobs
 
   -- What is read is booked once, and what a file still has is booked with it.
-  held_booked : IsWholeCore d.size map → distinct_cost (current_versions s ++ held_versions s)
-      ≡ distinct_cost (current_versions s) + total held_cost map.live
+  held_booked : IsWholeMemory d.size map → distinct_cost (current_versions s ++ pinned_versions s)
+      ≡ distinct_cost (current_versions s) + total pinned_cost map.live
   held_booked whole =
       ap (λ vs. distinct_cost (current_versions s ++ vs)) held_is
       ∙ held_as_once map.live (current_versions s) state.under.read (pins_of (readers jobs))
@@ -179,7 +180,7 @@ module _ (d : DiskState) (map : VolumeCore) (jobs : List (Option Job)) (s : Stat
       (reads_booked d map s.files state.under.read whole state.serials state.read)
 
   -- what is booked of the disk
-  pub booked_is : IsWholeCore d.size map → Holds d map.known (without_serials s.files)
+  pub booked_is : IsWholeMemory d.size map → Holds d map.known (without_serials s.files)
       → booked s ≡ cost_of_files (without_serials s.files) + cost_beyond map
   booked_is whole holds =
       let alone = booked_alone s.files state.serials in

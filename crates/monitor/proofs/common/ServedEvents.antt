@@ -13,17 +13,17 @@ use Rattle.spec_machine.specs.declared.call.Call.{Call}
 -- A call, by what it ensures.
 module _ {D : Type 0} (state : D → DiskState) (old new : MonitorState D) (n : ℕ) (call : Call) (moment : Moment)
     (reply : Reply) where
-  abbrev pub Led : Service → Type 0
-  Led s = (t : Service) × Serves (state new.disk) new.map new.failed new.jobs t
+  abbrev pub Goes : Service → Type 0
+  Goes s = (t : Service) × Serves (state new.disk) new.map new.failed new.jobs t
       × Answers (pack_of (state old.disk)) s (Calls n call moment) reply t
 
   -- the device had failed before
-  broken_led : (reply ≡ Failed) × (new ≡ old) → old.failed ≡ true → Led Broken
+  broken_led : (reply ≡ Failed) × (new ≡ old) → old.failed ≡ true → Goes Broken
   broken_led same failed = (Broken, ap (λ m. m.failed) same.1 ∙ failed, same.0)
 
   pub call_answered : ((state new.disk).honest → (s : Service)
-      → Serves (state old.disk) old.map old.failed old.jobs s → Led s)
+      → Serves (state old.disk) old.map old.failed old.jobs s → Goes s)
       → (old.failed ≡ true → (reply ≡ Failed) × (new ≡ old))
-      → (state new.disk).honest → (s : Service) → Serves (state old.disk) old.map old.failed old.jobs s → Led s
+      → (state new.disk).honest → (s : Service) → Serves (state old.disk) old.map old.failed old.jobs s → Goes s
   call_answered answered broken honest Broken failed = broken_led (broken failed) failed
   call_answered answered broken honest (Serving s) serves = answered honest (Serving s) serves

@@ -1,4 +1,4 @@
--- Sides of channels in lists of jobs, of the one kind or the other: how often a key stands among them.
+-- Sides of channels in lists of jobs, of the one kind or the other: how often a key is among them.
 use Rattle.std.proofs.Common.{◌≡◌, ℕ, zero, suc, ◌+◌, ◌<◌, ◌≤◌, List, [], ◌∷◌, ◌++◌, length, take, get_or, map}
 use Rattle.std.proofs.Common.{flat_map, Option, Some, None, refl, sym, ap, ◌∙◌, arith}
 use Rattle.std.specs.Prelude.{slice_set, filter_map, option_to_list}
@@ -6,16 +6,16 @@ use Rattle.std.specs.List.{cons_option}
 use Rattle.spec_machine.specs.Common.{slot}
 use Rattle.spec_image.specs.Common.{times}
 use Rattle.monitor.specs.Common.{within}
-use Rattle.monitor.specs.declared.channel.Channel.{Channel}
+use Rattle.monitor.specs.declared.channel.OpenChannel.{OpenChannel}
 use Rattle.monitor.specs.declared.job.Job.{Job}
 
 abbrev pub count : {Y : Type 0} → (Y → ℕ) → ℕ → List Y → ℕ
 count side_key key ys = times key (map side_key ys)
 
-abbrev pub among : {Y : Type 0} → (Option Channel → Option Y) → List (Option Job) → List Y
+abbrev pub among : {Y : Type 0} → (Option OpenChannel → Option Y) → List (Option Job) → List Y
 among side jobs = flat_map (within side) jobs
 
-module _ {Y : Type 0} (side : Option Channel → Option Y) (side_key : Y → ℕ) where
+module _ {Y : Type 0} (side : Option OpenChannel → Option Y) (side_key : Y → ℕ) where
   pub count-append : (key : ℕ) (xs ys : List Y)
       → count side_key key (xs ++ ys) ≡ count side_key key xs + count side_key key ys
   count-append key [] ys = omega arith
@@ -53,7 +53,7 @@ module _ {Y : Type 0} (side : Option Channel → Option Y) (side_key : Y → ℕ
       (arith, count-slot key jobs n, count-append key (within side j) (among side jobs))
 
   -- a channel that is open, and another one in its place
-  pub count-channel : side None ≡ None → (key : ℕ) (cs : List (Option Channel)) (n : ℕ) (x : Option Channel)
+  pub count-channel : side None ≡ None → (key : ℕ) (cs : List (Option OpenChannel)) (n : ℕ) (x : Option OpenChannel)
       → (slot cs n ≡ None → count side_key key (option_to_list (side x)) ≡ 0)
       → count side_key key (filter_map side (slice_set cs n x)) + count side_key key (option_to_list (side (slot cs n)))
       ≡ count side_key key (filter_map side cs) + count side_key key (option_to_list (side x))
@@ -72,7 +72,7 @@ module _ {Y : Type 0} (side : Option Channel → Option Y) (side_key : Y → ℕ
       )
 
   -- the channels up to a place, and one more
-  count-next : (key : ℕ) (cs : List (Option Channel)) (i : ℕ) (o : Option Y) → i < length cs
+  count-next : (key : ℕ) (cs : List (Option OpenChannel)) (i : ℕ) (o : Option Y) → i < length cs
       → o ≡ side (get_or cs i None)
       → count side_key key (filter_map side (take (suc i) cs)) ≡ count side_key key (filter_map side (take i cs))
       + count side_key key (option_to_list o)
@@ -91,14 +91,14 @@ module _ {Y : Type 0} (side : Option Channel → Option Y) (side_key : Y → ℕ
       behind : (h a b c : ℕ) → a ≡ b + c → h + a ≡ (h + b) + c
       behind h a b c e = omega (arith, e)
 
-  pub count-more : (key : ℕ) (cs : List (Option Channel)) (i : ℕ) (o : Option Y) → i < length cs
+  pub count-more : (key : ℕ) (cs : List (Option OpenChannel)) (i : ℕ) (o : Option Y) → i < length cs
       → o ≡ side (get_or cs i None)
       → count side_key key (filter_map side (take (i + 1) cs)) ≡ count side_key key (filter_map side (take i cs))
       + count side_key key (option_to_list o)
   count-more key cs i o below is = let one : i + 1 ≡ suc i = omega arith in
       ap (λ n. count side_key key (filter_map side (take n cs))) one ∙ count-next key cs i o below is
 
-  pub count-within : (key : ℕ) (cs : List (Option Channel)) (i : ℕ) → count side_key key (filter_map side (take i cs))
+  pub count-within : (key : ℕ) (cs : List (Option OpenChannel)) (i : ℕ) → count side_key key (filter_map side (take i cs))
       ≤ count side_key key (filter_map side cs)
   count-within key [] zero = omega arith
   count-within key [] (suc i) = omega arith

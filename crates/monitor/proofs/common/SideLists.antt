@@ -1,4 +1,4 @@
--- Output sides in lists of jobs and channels: how often a key stands in them, and what holds of each.
+-- Output sides in lists of jobs and channels: how often a key is in them, and what holds of each.
 use Rattle.std.proofs.Common.{◌≡◌, ℕ, zero, suc, ◌+◌, ◌<◌, ◌≤◌, List, [], ◌∷◌, ◌++◌, length, take, get_or, map}
 use Rattle.std.proofs.Common.{Option, Some, None, refl, ap, arith}
 use Rattle.std.specs.Prelude.{option_map, slice_set, filter_map, option_to_list}
@@ -8,7 +8,7 @@ use Rattle.spec_image.specs.Common.{times}
 use Rattle.spec_image.proofs.Common.{times_head, all_append, all_left, all_right}
 use Rattle.monitor.specs.Common.{side_of, sides_in, sides, keys_of}
 use Rattle.monitor.specs.declared.output.Output.{Output}
-use Rattle.monitor.specs.declared.channel.Channel.{Channel}
+use Rattle.monitor.specs.declared.channel.OpenChannel.{OpenChannel}
 use Rattle.monitor.specs.declared.job.Job.{Job}
 use Rattle.spec_machine.proofs.Common.{slot-map}
 use Rattle.volume.proofs.RenameWithin.Renamings.{map_set}
@@ -16,7 +16,7 @@ use Rattle.monitor.proofs.common.SideCounts as counts
 
 -- Slots.
 
--- How often a key stands among output sides.
+-- How often a key is among output sides.
 
 abbrev pub count : ℕ → List Output → ℕ
 count key os = times key (keys_of os)
@@ -43,20 +43,20 @@ pub count-slot : (key : ℕ) (jobs : List (Option Job)) (n : ℕ) → count key 
 count-slot key jobs n = counts.count-slot side_of key_of key jobs n
 
 -- a channel that is open, and another one in its place
-pub count-channel : (key : ℕ) (cs : List (Option Channel)) (n : ℕ) (x : Option Channel)
+pub count-channel : (key : ℕ) (cs : List (Option OpenChannel)) (n : ℕ) (x : Option OpenChannel)
     → (slot cs n ≡ None → count key (option_to_list (side_of x)) ≡ 0)
     → count key (filter_map side_of (slice_set cs n x)) + count key (option_to_list (side_of (slot cs n)))
     ≡ count key (filter_map side_of cs) + count key (option_to_list (side_of x))
 count-channel key cs n x fits = counts.count-channel side_of key_of refl key cs n x fits
 
 -- the channels up to a place, and one more
-pub count-more : (key : ℕ) (cs : List (Option Channel)) (i : ℕ) (o : Option Output) → i < length cs
+pub count-more : (key : ℕ) (cs : List (Option OpenChannel)) (i : ℕ) (o : Option Output) → i < length cs
     → o ≡ side_of (get_or cs i None)
     → count key (filter_map side_of (take (i + 1) cs)) ≡ count key (filter_map side_of (take i cs))
     + count key (option_to_list o)
 count-more key cs i o below is = counts.count-more side_of key_of key cs i o below is
 
-pub count-within : (key : ℕ) (cs : List (Option Channel)) (i : ℕ) → count key (filter_map side_of (take i cs))
+pub count-within : (key : ℕ) (cs : List (Option OpenChannel)) (i : ℕ) → count key (filter_map side_of (take i cs))
     ≤ count key (filter_map side_of cs)
 count-within key cs i = counts.count-within side_of key_of key cs i
 
@@ -98,7 +98,7 @@ module _ (P : Output → Type 0) where
   cons_rest None os all = all
   cons_rest (Some o) os all = all.1
 
-  pub each-channel : (cs : List (Option Channel)) (n : ℕ) (x : Option Channel)
+  pub each-channel : (cs : List (Option OpenChannel)) (n : ℕ) (x : Option OpenChannel)
       → AllByRecursion P (filter_map side_of cs) → AllByRecursion P (option_to_list (side_of x))
       → AllByRecursion P (filter_map side_of (slice_set cs n x))
   each-channel [] n x all here = tt
@@ -108,7 +108,7 @@ module _ (P : Output → Type 0) where
       cons_all (side_of c) (filter_map side_of (slice_set cs n x)) (cons_head (side_of c) (filter_map side_of cs) all)
       (each-channel cs n x (cons_rest (side_of c) (filter_map side_of cs) all) here)
 
-  pub each-side : (cs : List (Option Channel)) (n : ℕ) → AllByRecursion P (filter_map side_of cs)
+  pub each-side : (cs : List (Option OpenChannel)) (n : ℕ) → AllByRecursion P (filter_map side_of cs)
       → AllByRecursion P (option_to_list (side_of (slot cs n)))
   each-side [] n all = tt
   each-side (c ∷ cs) zero all = cons_head (side_of c) (filter_map side_of cs) all

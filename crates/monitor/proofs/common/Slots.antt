@@ -1,4 +1,4 @@
--- Slots of jobs: what lies in one, and what a list is whose slot is set.
+-- Slots of jobs: what is in one, and what a list is after a slot of it is set.
 use Rattle.std.proofs.Common.{◌≡◌, ◌<◌, ◌≤◌, ℕ, zero, suc, List, [], ◌∷◌, Option, None, Some, refl, ap, sym, ◌∙◌}
 use Rattle.std.proofs.Common.{slice_set, slice_index_or, length, arith}
 use Rattle.spec_machine.specs.Common.{slot}

@@ -5,7 +5,7 @@ use Rattle.blockdisk.specs.Common.{Contents, DiskState, MayLeave, LeavesOnly, le
 use Rattle.changeset.specs.Common.{rest_settles}
 use Rattle.spec_image.specs.Common.{File, Files, pack_of, SettledStandsOn, StandsOn, without_serials}
 use Rattle.spec_machine.specs.declared.call.Call.{Call}
-use Rattle.volume.specs.Common.{VolumeCore, RestsAt}
+use Rattle.volume.specs.Common.{MemoryMap, RestsAt}
 use Rattle.monitor.specs.Common.{CallCrashes}
 use Rattle.monitor.specs.declared.job.Job.{Job}
 
@@ -24,7 +24,7 @@ module _ {D : Type 0} (state : D → DiskState) (only_now : (disk : D) (contents
   untouched_quiet honest f rests = untouched_leaves honest (λ contents. StandsOn (pack_of (state old)) contents f)
       (λ contents left. rest_settles (state old) (λ d. SettledStandsOn (pack_of (state old)) d f) rests contents left)
 
-  pub untouched_crashes : (c : VolumeCore) (jobs : List (Option Job)) (n : ℕ) (call : Call) (moment : Moment)
+  pub untouched_crashes : (c : MemoryMap) (jobs : List (Option Job)) (n : ℕ) (call : Call) (moment : Moment)
       → CallCrashes (state old) (state new) c jobs n call moment
   untouched_crashes c jobs n call moment honest s is =
       untouched_leaves honest _ (λ contents left.
@@ -32,7 +32,7 @@ module _ {D : Type 0} (state : D → DiskState) (only_now : (disk : D) (contents
       contents left))
 
 -- The files are what they were, whatever was written.
-pub quiet_crashes : (d d' : DiskState) (c : VolumeCore) (jobs : List (Option Job)) (n : ℕ) (call : Call)
+pub quiet_crashes : (d d' : DiskState) (c : MemoryMap) (jobs : List (Option Job)) (n : ℕ) (call : Call)
     (moment : Moment)
     → (d'.honest → (f : Files File) → RestsAt d f → LeavesOnly d d' (λ contents. StandsOn (pack_of d) contents f))
     → CallCrashes d d' c jobs n call moment

@@ -1,4 +1,4 @@
--- What is written stays where the blocks of its version do.
+-- What is written stays if the blocks of its version do.
 use Rattle.std.proofs.Common.{◌≡◌, ◌<◌, ℕ}
 use Rattle.blockdisk.specs.Common.{DiskState}
 use Rattle.spec_image.specs.Common.{times}

@@ -16,13 +16,13 @@ use Rattle.spec_language.proofs.Rows.TextRows.{conduct}
 abbrev foo_spec : Spec
 foo_spec = record { name = record { name = foo; ext = 0o647064 }; owner = None }
 
--- what is said where words are put, and the text of what is got then
+-- what is printed when words are put, and the text of what is got after that
 abbrev back : State → Encoding → List ℕ → Spoken × Spoken
 back s encoding words =
     let put = conduct small 1000 s (keeps at_start ten_twenty encoding foo_spec (Some words)) in
     (put.0, (conduct small 5000 put.1 (gets at_start ten_twenty encoding foo_spec)).0)
 
--- A text, in the place of a file that is there, and one of no characters.
+-- A text, in the place of a file that exists, and one of no characters.
 text_back : back (foo_of 0o057 300) Characters (packed (codes "HELLO" ++ 13 ∷ 10 ∷ []))
     ≡ (prints (line (codes "OK")), prints (codes "HELLO" ++ 13 ∷ 10 ∷ []))
 unfolding empty insert get remove entries size dump_list areas_from each fetches types_runs fills_parts setup

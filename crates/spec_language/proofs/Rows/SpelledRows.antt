@@ -96,7 +96,7 @@ spec text extension owner ext o a b c = record {
   spelled = refl;
 }
 
--- a word and an argument, with so many more spaces between them
+-- a word and an argument, with a number of extra spaces between them
 line : (word gap argument : List ℕ) → IsField word → Are is_space gap → IsField argument
     → AreFields (word ∷ argument ∷ []) (word ++ 32 ∷ (gap ++ argument))
 line word gap argument a b c = (a, gap, b, argument, refl, (c, refl))

@@ -9,7 +9,8 @@ use Rattle.spec_machine.specs.Common.{dump_list, areas_from, State, no_jobs, roo
 use Rattle.spec_language.specs.Lines.{Bytes, TooLong, lines}
 use Rattle.spec_language.specs.Texts.{Spoken, both_said, silent, prints, day_text, entry_text, listing, row_text}
 use Rattle.spec_language.specs.Texts.{table}
-use Rattle.spec_language.specs.Plans.{Plan, Ask, Show, Say, each, fetches, finds, lists, counts, copies_runs}
+use Rattle.spec_language.specs.Plans.{Plan, Ask, Show, Say, each, fetches, lookup_events, list_events, counts}
+use Rattle.spec_language.specs.Plans.{copies_runs}
 use Rattle.spec_language.specs.Plans.{types_runs, begins}
 use Rattle.spec_language.specs.Transcripts.{login_said, core_words}
 use Rattle.spec_language.specs.Scripts.{words_given}
@@ -90,7 +91,7 @@ session = refl
 abbrev two_lines : List (List ℕ) → Bool → Spoken
 two_lines texts refused = record { text = text_of texts; refused = refused; broke = false }
 
--- A file's characters alone are typed.
+-- Only a file's characters are typed.
 types : (talk small hello (LoginLine ten_twenty ∷ TypeLine foo_spec ∷ TypeLine bar_spec ∷ [])).0
     ≡ record {
       text = text_of (codes "Job 1 [10,20]" ∷ (codes "HELLO" ++ 13 ∷ []) ∷ codes "?File not found" ∷ []);
@@ -101,7 +102,7 @@ unfolding empty insert get remove entries size dump_list areas_from each fetches
     entry_text listing digits conduct
 types = refl
 
--- A directory is made and listed; a file gets another protection and another name, and is not in the way of itself.
+-- A directory is made and listed; a file gets another protection and another name, and doesn't prevent its own rename.
 names_change : (talk small hello (LoginLine ten_twenty ∷ MakeLine ten_twenty 0 ∷ MakeLine (join 0o10 0o30) 0
     ∷ DirectoryLine (Some (join 0o10 0o30)) ∷ ProtectLine foo_spec 0o155 ∷ RenameLine bar_spec foo_spec
     ∷ RenameLine bar_spec foo_spec
@@ -121,7 +122,7 @@ unfolding empty insert get remove entries size dump_list areas_from each fetches
     entry_text listing digits conduct
 no_files = refl
 
--- A copy of three blocks has all words of the file, and the words of a copy that finds no room are given back.
+-- A copy of three blocks has all words of the file, and the blocks of a copy that finds no room are freed.
 copies_all : (copied : Spoken × State) → copied
     ≡ talk small (foo_of 0o057 300) (LoginLine ten_twenty ∷ CopyLine bar_spec foo_spec ∷ DirectoryLine None ∷ [])
     → (copied.0 ≡ two_lines (codes "Job 1 [10,20]" ∷ codes "OK" ∷ codes "BAR    TXT     3  <057>   1-Jan-1964"
@@ -140,7 +141,8 @@ unfolding empty insert get remove entries size dump_list areas_from each fetches
     entry_text listing digits conduct
 no_room copied e = (ap (λ (c : Spoken × State). c.0) e, ap (λ (c : Spoken × State). room small c.1) e)
 
--- So has one of eighteen blocks, sixteen of which go at once; where sixteen find no room, the line is refused.
+-- So has one of eighteen blocks, sixteen of which are moved at once; if there is no room for sixteen, the line is
+-- refused.
 copies_by_runs : (copied : Spoken × State) → copied
     ≡ talk small (foo_of 0o057 2300) (LoginLine ten_twenty ∷ CopyLine bar_spec foo_spec ∷ DirectoryLine None ∷ [])
     → (copied.0 ≡ two_lines (codes "Job 1 [10,20]" ∷ codes "OK" ∷ codes "BAR    TXT    18  <057>   1-Jan-1964"
@@ -159,13 +161,13 @@ unfolding empty insert get remove entries size dump_list areas_from each fetches
     entry_text listing digits conduct
 no_room_for_run copied e = (ap (λ (c : Spoken × State). c.0) e, ap (λ (c : Spoken × State). room small c.1) e)
 
--- The words of a last block are counted where no reply says how many there are: 44 of 300, and all of 256.
+-- The words of a last block are counted if no reply gives their number: 44 of 300, and all of 256.
 abbrev logged_in : State → State
 logged_in s = (step small 0 s (Login 1 ten_twenty core_words)).1
 
 abbrev count_of : State → ℕ → Spoken
 count_of s n = (conduct small 1000 s
-    (each at_start (finds at_start foo_spec ++ lists 128) (counts at_start n (λ count. Say (prints (count ∷ [])))))).0
+    (each at_start (lookup_events at_start foo_spec ++ list_events 128) (counts at_start n (λ count. Say (prints (count ∷ [])))))).0
 
 counted : (count_of (logged_in (foo_of 0o057 300)) 3 ≡ prints (44 ∷ []))
     × (count_of (logged_in (foo_of 0o057 256)) 2 ≡ prints (128 ∷ []))
@@ -191,7 +193,7 @@ scripted : map words_given (play small 1000 hello script).0
 unfolding empty insert get remove entries size dump_list areas_from digits
 scripted = refl
 
--- Lines: letters in upper case, a return dropped before a feed alone, no empty lines, and one that is too long.
+-- Lines: letters in upper case, a return dropped only before a feed, no empty lines, and one that is too long.
 lines_of : lines (codes "login [1,2]" ++ 13 ∷ 10 ∷ 10 ∷ 13 ∷ 10 ∷ codes "Foo" ++ 13 ∷ [])
     ≡ Bytes (codes "LOGIN [1,2]") ∷ Bytes (codes "FOO" ++ 13 ∷ []) ∷ []
 lines_of = refl
@@ -206,8 +208,8 @@ days : (day_text 0 ≡ codes " 1-Jan-1964") × (day_text 4095 ≡ codes " 4-Jan-
 unfolding digits
 days = (refl, refl, refl, refl)
 
--- Lines of a list as a table: a file as it is in most lists; and a name with a blank inside, no extension, more blocks
--- than one, and the last day and minute that there are.
+-- Lines of a list as a table: a file as it is in most lists; and a name with a blank inside, no extension, more than
+-- one block, and the last day and minute that there are.
 abbrev tabbed : List (List ℕ) → List ℕ
 tabbed [] = []
 tabbed (text ∷ []) = text ++ 10 ∷ []

@@ -1,7 +1,7 @@
 -- Worked rows, computed: dates, command lists, places in a file, and rivals.
 use Rattle.std.proofs.Common.{◌≡◌, ℕ, zero, suc, ◌+◌, List, Some, None, [], ◌∷◌, ◌++◌, refl, pos, Ok, arith}
 use Rattle.words36.specs.Common.{join, date_number}
-use Rattle.spec_image.specs.Common.{name_cmp, Version, FinMap, get, insert, remove, empty, entries, size, Pack}
+use Rattle.spec_image.specs.Common.{name_cmp, SpecVersion, FinMap, get, insert, remove, empty, entries, size, Pack}
 use Rattle.spec_machine.specs.Jobs.{State, no_jobs}
 use Rattle.spec_machine.specs.CommandLists.{dump_list, areas_from}
 use Rattle.spec_machine.specs.Sessions.{list}
@@ -10,9 +10,9 @@ use Rattle.spec_machine.specs.declared.call.Call.TheVariants.{MakeDir}
 use Rattle.spec_machine.specs.declared.call.Event.TheVariants.{Deposit, Examine, Call as Calls}
 use Rattle.spec_machine.specs.declared.call.Reply.TheVariants.{Done, Value, Refused, Stopped, NoChannel, AddressCheck}
 use Rattle.spec_machine.specs.declared.call.Reply.TheVariants.{NoJob, DateRange}
-use Rattle.spec_machine.proofs.Playing.{play, small, ten_twenty, fresh, no_files, foo, bar, foo_of, parts, at, by}
-use Rattle.spec_machine.proofs.Playing.{deposits, ready, ready_with, named, words_at_500, enters, looks_up, out}
-use Rattle.spec_machine.proofs.Playing.{takes, close}
+use Rattle.spec_machine.proofs.PlayedEvents.{play, small, ten_twenty, fresh, no_files, foo, bar, foo_of, parts, at, by}
+use Rattle.spec_machine.proofs.PlayedEvents.{deposits, ready, ready_with, named, words_at_500, enters, looks_up, out}
+use Rattle.spec_machine.proofs.PlayedEvents.{takes, close}
 
 -- The last date of twelve bits, and the one after it.
 last_day : date_number 1975 1 4 ≡ 4095
@@ -30,7 +30,7 @@ dates : parts small 1000 fresh (
 unfolding empty insert get remove entries size dump_list areas_from
 dates = refl
 
--- In layout 2 the date's high bits stand beside the extension.
+-- In layout 2 the date's high bits are beside the extension.
 abbrev second : Pack
 second = record { layout = 2; blocks = 64 }
 
@@ -46,8 +46,8 @@ late : parts second 1000 fresh (
 unfolding empty insert get remove entries size dump_list areas_from
 late = refl
 
--- A file of the words 1 to 5, and command lists: one that goes on elsewhere, one that doesn't end, and one
--- that names its own words while they are moved.
+-- A file of the words 1 to 5, and command lists: one that continues elsewhere, one that doesn't end, and one that names
+-- its own words while they are moved.
 lists : parts small 1000 fresh (
     (ready 1 ++ enters 1 foo ++ words_at_500 1 5 ++ deposits 1 0o500 (1 ∷ 2 ∷ 3 ∷ 4 ∷ 5 ∷ [])
     ++ out 1 ∷ close 1 0 ∷ looks_up 1 foo)
@@ -134,7 +134,7 @@ listed : list (play small 1000 (foo_of 0o057 300) (ready 1)).1 1 ten_twenty
 unfolding empty insert get entries
 listed = refl
 
--- What comes before a row: a job that isn't there, a channel that isn't open, a mode that isn't served.
+-- What comes before a row: a job that isn't logged in, a channel that isn't open, a mode that isn't served.
 refusals : parts small 1000 fresh (
     (Examine 1 0 ∷ ready_with 0 ten_twenty 0o1000 ++ ready_with 0o101 ten_twenty 0o1000
     ++ ready_with 1 ten_twenty 0o777)
@@ -151,7 +151,7 @@ unfolding empty insert get remove entries size dump_list areas_from
 refusals = refl
 
 -- 42 empty files fill one block of their directory.
-abbrev numbered : ℕ → FinMap name_cmp Version
+abbrev numbered : ℕ → FinMap name_cmp SpecVersion
 numbered zero = empty
 numbered (suc n) = insert (numbered n) (record { name = suc n; ext = 0o647064 })
     (record { file = record { protection = 0o057; mode = 0o17; time = 0; date = 0; body = [] }; serial = suc n })
@@ -167,7 +167,7 @@ crowded : parts small 1000 forty_two (ready 1 ∷ enters 1 foo ∷ (close 1 0 �
 unfolding empty insert get remove entries size dump_list areas_from
 crowded = refl
 
--- Lists of 511 command words that go on and then an end, and of 512.
+-- Lists of 511 command words that continue and then an end, and of 512.
 abbrev chain : ℕ → ℕ → List ℕ
 chain zero address = 0 ∷ []
 chain (suc n) address = (address + 1) ∷ chain n (address + 1)

@@ -1,26 +1,26 @@
 -- A worked row, by costs: a disk of 512 blocks, a file of 112 blocks and one of 113.
 use Rattle.std.proofs.Common.{◌≡◌, ℕ, ◌*◌, List, length, refl, pos}
-use Rattle.spec_image.specs.Common.{FinMap, get, insert, empty, entries, size, name_cmp, Version, Pack}
+use Rattle.spec_image.specs.Common.{FinMap, get, insert, empty, entries, size, name_cmp, SpecVersion, Pack}
 use Rattle.spec_machine.specs.Jobs.{State, no_jobs}
 use Rattle.spec_machine.specs.Room.{room}
-use Rattle.spec_machine.proofs.Playing.{ten_twenty, fresh, foo, bar}
+use Rattle.spec_machine.proofs.PlayedEvents.{ten_twenty, fresh, foo, bar}
 
 abbrev large : Pack
 large = record { layout = 1; blocks = 512 }
 
-abbrev version : ℕ → List ℕ → Version
+abbrev version : ℕ → List ℕ → SpecVersion
 version serial body = record {
   file = record { protection = 0o057; mode = 0o17; time = 0; date = 0; body = body };
   serial = serial;
 }
 
-abbrev with_names : FinMap name_cmp Version → State
+abbrev with_names : FinMap name_cmp SpecVersion → State
 with_names files = record {
   files = insert empty ten_twenty (record { protection = 0o775; quota = 0; files = files });
   jobs = no_jobs;
 }
 
-abbrev with_foo : List ℕ → FinMap name_cmp Version
+abbrev with_foo : List ℕ → FinMap name_cmp SpecVersion
 with_foo body = insert empty (record { name = foo; ext = 0o647064 }) (version 1 body)
 
 none : room large fresh ≡ pos 495

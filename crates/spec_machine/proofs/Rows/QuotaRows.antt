@@ -11,8 +11,9 @@ use Rattle.spec_machine.specs.declared.call.Event.{Event}
 use Rattle.spec_machine.specs.declared.call.Event.TheVariants.{Examine}
 use Rattle.spec_machine.specs.declared.call.Reply.{Reply}
 use Rattle.spec_machine.specs.declared.call.Reply.TheVariants.{Done, Value, Refused, Stopped, AddressCheck}
-use Rattle.spec_machine.proofs.Playing.{play, told, small, ten_twenty, fresh, foo, bar, by, repeated, deposits, ready}
-use Rattle.spec_machine.proofs.Playing.{ready_with, words_at_500, enters, looks_up, out, close}
+use Rattle.spec_machine.proofs.PlayedEvents.{play, told, small, ten_twenty, fresh, foo, bar, by, repeated, deposits}
+use Rattle.spec_machine.proofs.PlayedEvents.{ready}
+use Rattle.spec_machine.proofs.PlayedEvents.{ready_with, words_at_500, enters, looks_up, out, close}
 use Rattle.spec_machine.proofs.Rows.ChargeRows.{limited, many}
 
 -- a disk of 64 blocks in layout 2
@@ -81,8 +82,8 @@ fills_up : charged wide ten_twenty 1000 fresh (
 unfolding empty insert get remove entries size dump_list areas_from
 fills_up = refl
 
--- Nobody but [1,2] gives a quota. It needs two words, then layout 2, then the directory, whose number has no half of 0.
--- Only the left half of the second word counts; it stays at Done, and takes a refusal's code in its right half.
+-- Only [1,2] gives a quota. It needs two words, then layout 2, then the directory, whose number has no half of 0. Only
+-- the left half of the second word counts; it stays at Done, and takes a refusal's code in its right half.
 rights : charged wide ten_twenty 1000 fresh (
     begins 10
     ∷ (limits 1 ten_twenty 5 ++ limits 1 ten_thirty 5 ++ limits 2 0 5 ++ Examine 2 0o301 ∷ [])
@@ -131,7 +132,7 @@ moved : charged wide ten_thirty 1000 fresh (
 unfolding empty insert get remove entries size dump_list areas_from
 moved = refl
 
--- A reader holds the version that job 1 supersedes: the directory isn't charged for it any more, and the room is less.
+-- A reader pins the version that job 1 supersedes: the directory isn't charged for it any more, and the room is less.
 held : charged wide ten_twenty 1000 fresh (
     (begins 6 ++ enters 1 foo ++ words_at_500 1 128 ++ out 1 ∷ out 1 ∷ close 1 0 ∷ looks_up 2 foo)
     ∷ enters 1 foo
@@ -148,8 +149,8 @@ held : charged wide ten_twenty 1000 fresh (
 unfolding empty insert get remove entries size dump_list areas_from
 held = refl
 
--- An update needs as much as the whole file costs. Words over those that are there cost nothing more, whatever the quota
--- has become; words behind them do.
+-- An update needs as much as the whole file costs. Words over those that are there cost nothing more, whatever the
+-- quota has become; words after them do.
 updated : charged wide ten_twenty 1000 fresh (
     (begins 6 ++ enters 1 foo ++ words_at_500 1 128 ++ out 1 ∷ out 1 ∷ close 1 0 ∷ looks_up 1 foo)
     ∷ enters 1 foo
@@ -168,7 +169,7 @@ updated : charged wide ten_twenty 1000 fresh (
 unfolding empty insert get remove entries size dump_list areas_from
 updated = refl
 
--- Nobody but [1,2] removes a directory with a quota: that is told before the files in it.
+-- Only [1,2] removes a directory with a quota: that is reported before the files in it.
 removed : charged wide ten_twenty 1000 fresh (
     (begins 9 ++ enters 1 foo ++ close 1 0 ∷ removes 1 ten_twenty ++ removes 2 ten_twenty)
     ∷ (deletes 1 ++ removes 1 ten_twenty ++ limits 2 ten_twenty 0 ++ removes 1 ten_twenty)
@@ -181,7 +182,7 @@ removed : charged wide ten_twenty 1000 fresh (
 unfolding empty insert get remove entries size dump_list areas_from
 removed = refl
 
--- A creation is an entry: the 43rd needs a block more for the directory, which is 2 then.
+-- A creation is an entry: the 43rd needs one more block for the directory, which is 2 then.
 grown : charged wide ten_twenty 1000 (limited 43 (many 41)) (
     (ready 1 ++ ready_with 2 operator 0o1000 ++ enters 1 foo)
     ∷ (limits 2 ten_twenty 44 ++ enters 2 bar)

@@ -12,8 +12,10 @@ use Rattle.spec_machine.specs.declared.call.Event.{Event}
 use Rattle.spec_machine.specs.declared.call.Event.TheVariants.{Examine}
 use Rattle.spec_machine.specs.declared.call.Reply.{Reply}
 use Rattle.spec_machine.specs.declared.call.Reply.TheVariants.{Done, Value, Refused}
-use Rattle.spec_machine.proofs.Playing.{play, small, ten_twenty, fresh, foo, bar, foo_of, parts, by, deposits, ready}
-use Rattle.spec_machine.proofs.Playing.{ready_with, named, names_words, words_at_500, enters, looks_up, takes, close}
+use Rattle.spec_machine.proofs.PlayedEvents.{play, small, ten_twenty, fresh, foo, bar, foo_of, parts, by, deposits}
+use Rattle.spec_machine.proofs.PlayedEvents.{ready}
+use Rattle.spec_machine.proofs.PlayedEvents.{ready_with, named, names_words, words_at_500, enters, looks_up, takes}
+use Rattle.spec_machine.proofs.PlayedEvents.{close}
 
 -- job n names a file of [10,20] at 300, with a protection in bits 0 to 8, and renames what channel 1 looked up
 abbrev protected : ℕ → ℕ → ℕ → List Event
@@ -22,8 +24,8 @@ protected n name word = deposits n 0o300 (name ∷ 0o647064000000 ∷ word ∷ t
 abbrev renames : ℕ → ℕ → List Event
 renames n name = protected n name 0o057000000000 ++ by n (Rename 1 0o300) ∷ []
 
--- A RENAME needs a LOOKUP; it takes no name that is there, and no file that is being written. A zero name
--- deletes, and who reads the file reads on.
+-- A RENAME needs a LOOKUP; it takes no name that is there, and no file that is being written. A zero name deletes, and
+-- a reader of the file continues to read it.
 orders : parts small 1000 (foo_of 0o057 300) (
     (ready 1 ++ renames 1 foo ++ Examine 1 0o301 ∷ enters 1 bar ++ close 1 0 ∷ [])
     ∷ (looks_up 1 foo ++ renames 1 bar ++ Examine 1 0o301 ∷ [])
@@ -44,8 +46,8 @@ orders : parts small 1000 (foo_of 0o057 300) (
 unfolding empty insert get remove entries size dump_list areas_from
 orders = refl
 
--- The version keeps its serial, so that it is booked once where one job reads it by its old name. Mode, date and
--- words stay, and the protection is the one given, 0 included.
+-- The version keeps its serial, so that it is booked once if one job reads it by its old name. Mode, date and words
+-- stay, and the protection is the one given, 0 included.
 kept : parts small 1000 (foo_of 0o057 300) (
     (ready 1 ++ ready 2 ++ looks_up 1 foo ++ looks_up 2 foo)
     ∷ (protected 1 bar 0 ++ by 1 (Rename 1 0o300) ∷ [])
@@ -71,7 +73,7 @@ owner_of_1 : parts small 1000 (foo_of 0o157 300) (
 unfolding empty insert get remove entries size dump_list areas_from
 owner_of_1 = refl
 
--- Another directory: it has to be there and to allow creation.
+-- Another directory: it has to exist and to allow creation.
 abbrev ten_thirty : ℕ
 ten_thirty = join 0o10 0o30
 

@@ -10,7 +10,8 @@ use Rattle.spec_machine.specs.declared.call.Call.TheVariants.{Releas, Getsts}
 use Rattle.spec_machine.specs.declared.call.Event.{Event}
 use Rattle.spec_machine.specs.declared.call.Event.TheVariants.{Login, Deposit, Examine}
 use Rattle.spec_machine.specs.declared.call.Reply.TheVariants.{Done, Value, Refused, Stopped, AddressCheck}
-use Rattle.spec_machine.proofs.Playing.{small, ten_twenty, fresh, foo, bar, foo_of, parts, by, deposits, named, close}
+use Rattle.spec_machine.proofs.PlayedEvents.{small, ten_twenty, fresh, foo, bar, foo_of, parts, by, deposits, named}
+use Rattle.spec_machine.proofs.PlayedEvents.{close}
 
 -- Job n of [10,20] logs in with a core of 2000 words and opens channel 1 in a mode, with headers for output and
 -- input, by words at 200.
@@ -68,7 +69,7 @@ two_words = record {
 abbrev reads_foo : List Event
 reads_foo = opened 1 0 0 0o1000 ++ named 1 foo ++ by 1 (Lookup 1 0o300) ∷ []
 
--- The first IN sets up a ring and fills its first buffer; at the end no word of core changes.
+-- The first IN sets up a ring and fills its first buffer; at the end no word of the core changes.
 read_back : parts small 1000 two_words (
     (reads_foo ++ in_buffer 1 ∷ Examine 1 0o121 ∷ Examine 1 0o140 ∷ Examine 1 0o141 ∷ Examine 1 0o142 ∷ Examine 1 0o143
     ∷ Examine 1 0o144 ∷ header_at_1000 1)
@@ -92,7 +93,7 @@ unfolding empty insert get remove entries size dump_list areas_from setup in_rea
     out_writes last_words
 read_back = refl
 
--- Where the body has no words the ring isn't set up either.
+-- If the body has no words, the ring isn't set up either.
 nothing_read : parts small 1000 two_words
     ((reads_foo ++ by 1 (Useti 1 2) ∷ in_buffer 1 ∷ Examine 1 0o121 ∷ Examine 1 0o1000 ∷ []) ∷ [])
     ≡ (Done ∷ Done ∷ Done ∷ Stopped 0o020000 ∷ Value 0o140 ∷ Value 0o400000000000 ∷ [], pos 45) ∷ []
@@ -100,7 +101,7 @@ unfolding empty insert get remove entries size dump_list areas_from setup in_rea
     out_writes last_words
 nothing_read = refl
 
--- Eight buffers don't fit behind 140, seven do.
+-- Eight buffers don't fit after 140, seven do.
 eight_or_seven : parts small 1000 fresh ((opened 1 0 0o20 0 ++ by 1 (Outbuf 1 8) ∷ Examine 1 0o121 ∷ by 1 (Outbuf 1 7)
     ∷ Examine 1 0o121 ∷ by 1 (Inbuf 1 1) ∷ []) ∷ [])
     ≡ (Done ∷ AddressCheck ∷ Value 0o140 ∷ Done ∷ Value 0o1765 ∷ Refused 5 ∷ [], pos 47) ∷ []
@@ -134,7 +135,7 @@ unfolding empty insert get remove entries size dump_list areas_from setup in_rea
     out_writes last_words
 second_buffer = refl
 
--- A buffer whose next one is itself is lawful; a byte pointer before its buffer isn't.
+-- A buffer whose next one is itself is valid; a byte pointer before its buffer isn't.
 alone : parts small 1000 long_file (
     (opened 1 0o14 0 0o1000 ++ by 1 (Inbuf 1 1) ∷ named 1 foo ++ by 1 (Lookup 1 0o300) ∷ in_buffer 1 ∷ in_buffer 1
     ∷ Examine 1 0o141 ∷ Examine 1 0o1000 ∷ [])
@@ -176,7 +177,7 @@ unfolding empty insert get remove entries size dump_list areas_from setup in_rea
     out_writes last_words
 two_buffers = refl
 
--- Where there is no room for the last buffer the channel stays open, until what it wrote is dropped.
+-- If there is no room for the last buffer, the channel stays open, until what it wrote is dropped.
 abbrev one_block_left : State
 one_block_left = foo_of 0o057 5760
 

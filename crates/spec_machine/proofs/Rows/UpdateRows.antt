@@ -7,8 +7,8 @@ use Rattle.spec_machine.specs.declared.call.Call.TheVariants.{Useti, Useto}
 use Rattle.spec_machine.specs.declared.call.Event.{Event}
 use Rattle.spec_machine.specs.declared.call.Event.TheVariants.{Deposit, Examine}
 use Rattle.spec_machine.specs.declared.call.Reply.TheVariants.{Done, Value, Refused, Stopped}
-use Rattle.spec_machine.proofs.Playing.{small, ten_twenty, foo, bar, foo_of, parts, by, ready_with, names_words}
-use Rattle.spec_machine.proofs.Playing.{words_at_500, looks_up, enters, out, takes, close}
+use Rattle.spec_machine.proofs.PlayedEvents.{small, ten_twenty, foo, bar, foo_of, parts, by, ready_with, names_words}
+use Rattle.spec_machine.proofs.PlayedEvents.{words_at_500, looks_up, enters, out, takes, close}
 
 -- job n looks the file up on its channel 1, and enters it there
 abbrev updates : ℕ → ℕ → List Event
@@ -44,7 +44,7 @@ lengthened : parts small 1000 (foo_of 0o057 128) (
 unfolding empty insert get remove entries size dump_list areas_from
 lengthened = refl
 
--- An append leaves what stood, also where its input side was given up before.
+-- An append leaves what was there, even if its input side was closed before.
 appended : parts small 1000 (foo_of 0o047 300) (
     updates 2 (join 0o10 0o30)
     ∷ (by 2 (Useto 1 2) ∷ words_at_500 2 1 ++ out 2 ∷ by 2 (Useto 1 4) ∷ out 2 ∷ close 2 0 ∷ [])

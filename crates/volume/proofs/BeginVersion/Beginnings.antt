@@ -1,4 +1,4 @@
--- A version that is begun: what it costs, and that core stays whole.
+-- A version that begins: what it costs, and that memory stays whole.
 use Rattle.std.proofs.Common.{◌≡◌, ◌↔◌, ◌⊎◌, inl, inr, ⊎_elim, IsTrue, ℕ, ◌+◌, ◌^◌, ◌<◌, ◌≤◌, Bool, true, false}
 use Rattle.std.proofs.Common.{if◌then◌else◌, List, [], ◌∷◌, map, length, slice_get, slice_index, get_or, Option, Some}
 use Rattle.std.proofs.Common.{None, is_none, IfSome, IsSome, IsErrOf, Err, option_map, refl, sym, ap, subst, ◌∙◌}
@@ -20,34 +20,34 @@ use Rattle.volume.specs.declared.error.CallError.TheVariants.{Refused}
 use Rattle.volume.specs.declared.live.LiveDirectory.{LiveDirectory}
 use Rattle.volume.specs.declared.live.LiveMap.{LiveMap}
 use Rattle.volume.specs.declared.live.LiveVersion.{LiveVersion}
-use Rattle.volume.specs.declared.pending.Kind.{Kind}
-use Rattle.volume.specs.declared.pending.Kind.TheVariants.{Create, Supersede, Update, Append}
+use Rattle.volume.specs.declared.pending.PendingKind.{PendingKind}
+use Rattle.volume.specs.declared.pending.PendingKind.TheVariants.{Create, Supersede, Update, Append}
 use Rattle.volume.specs.declared.pending.PendingVersion.{PendingVersion}
-use Rattle.volume.specs.Common.{master_view, KnownDirectory, KnownVersion, Before, IsNamed, IsWholeVersion}
-use Rattle.volume.specs.Common.{IsWholeDirectory, cost_before, VolumeCore, as_known, slot, pending_cost}
-use Rattle.volume.specs.Common.{pending_reaches, is_create, IsCurrentAt, IsWholePending, IsWholeCore, core_of}
+use Rattle.volume.specs.Common.{master_view, CurrentDirectory, CurrentVersion, Before, IsNamed, IsWholeVersion}
+use Rattle.volume.specs.Common.{IsWholeDirectory, cost_before, MemoryMap, as_known, slot, pending_cost}
+use Rattle.volume.specs.Common.{pending_reaches, is_create, IsCurrentAt, IsWholePending, IsWholeMemory, memory_of}
 use Rattle.volume.specs.Common.{live_directory, IsKeyOf, is_update, begin_cost, entries_with, no_words, shared_body}
 use Rattle.volume.specs.Common.{begun_prime, begun_version, begun, version_before, is_absent, IsBefore, IsDirectoryOf}
 use Rattle.volume.specs.Common.{IsMisfit, IsBeginRefusal}
 use Rattle.alloctab.specs.Common.{IsTable, holds, space}
-use Rattle.volume.proofs.common.Costing.{few_blocks}
+use Rattle.volume.proofs.common.MapCosts.{few_blocks}
 use Rattle.volume.proofs.VolumeStart.FoundDirectories.{all_at}
-use Rattle.volume.proofs.common.Growing.{absent_at, one_place, Adds, added_total, created_elsewhere, added_growths}
+use Rattle.volume.proofs.common.Growths.{absent_at, one_place, Adds, added_total, created_elsewhere, added_growths}
 use Rattle.volume.proofs.common.LiveLookups.{standing_at}
-use Rattle.volume.proofs.common.LiveTotals.{core_holds}
-use Rattle.volume.proofs.common.Held.{element_at}
+use Rattle.volume.proofs.common.LiveTotals.{memory_holds}
+use Rattle.volume.proofs.common.UsedBlocks.{element_at}
 use Rattle.volume.proofs.common.OnePlace.{first_no_data}
 use Rattle.volume.proofs.PinVersion.Pins.{all_updated}
 use Rattle.volume.proofs.common.PrimeBlocks.{prime_of_place}
 use Rattle.volume.proofs.common.Lists.{one_entry}
-use Rattle.volume.proofs.common.Sharing.{file_once, file_inside, file_apart, begun_apart}
-use Rattle.volume.proofs.common.StillHeld.{counts_whole}
-use Rattle.volume.proofs.common.Answering.{viewed_there}
+use Rattle.volume.proofs.common.SharedBlocks.{file_once, file_inside, file_apart, begun_apart}
+use Rattle.volume.proofs.common.StillMatches.{counts_whole}
+use Rattle.volume.proofs.common.Answers.{viewed_there}
 
 -- the directory at the place of its entry
-pub directory_at : (size : ℕ) (m : LiveMap) (ppn i : ℕ) (v : ℕ × ℕ) (x : LiveDirectory) → IsWholeCore size (core_of m)
+pub directory_at : (size : ℕ) (m : LiveMap) (ppn i : ℕ) (v : ℕ × ℕ) (x : LiveDirectory) → IsWholeMemory size (memory_of m)
     → StandsAt nat_cmp (map master_view m.master.entries) ppn v i → x ≡ get_or m.directories.items i x
-    → slice_get (core_of m).known.directories i ≡ Some (live_directory m.versions.slots x)
+    → slice_get (memory_of m).known.directories i ≡ Some (live_directory m.versions.slots x)
 directory_at size m ppn i v x whole stands is =
     let within = stands.within in
     let aligned = whole.map.aligned in
@@ -55,7 +55,7 @@ directory_at size m ppn i v x whole stands is =
     viewed_there (live_directory m.versions.slots) m.directories.items i x x (omega arith) is
 
 -- one directory has the number
-pub same_directory : (size : ℕ) (c : VolumeCore) (ppn i : ℕ) (v : ℕ × ℕ) (d e : KnownDirectory) → IsWholeCore size c
+pub same_directory : (size : ℕ) (c : MemoryMap) (ppn i : ℕ) (v : ℕ × ℕ) (d e : CurrentDirectory) → IsWholeMemory size c
     → IsDirectoryOf c ppn d → slice_get c.known.master.entries i ≡ Some (ppn, v)
     → slice_get c.known.directories i ≡ Some e → d ≡ e
 same_directory size c ppn i v d e whole there is at =
@@ -69,11 +69,11 @@ no_room space booked cost can says full = ⊎_elim (λ more. more) (λ fits. abs
 
 -- What a name has before.
 
-abbrev before_of : LiveVersion → ℕ × KnownVersion
+abbrev before_of : LiveVersion → ℕ × CurrentVersion
 before_of v = (v.at, as_known v)
 
 -- a name has one version
-pub one_before : (d : KnownDirectory) (name : FileName) (old old' : Before) → IsNamed d name old → IsNamed d name old'
+pub one_before : (d : CurrentDirectory) (name : FileName) (old old' : Before) → IsNamed d name old → IsNamed d name old'
     → EachOnce name_cmp d.chain.entries → old ≡ old'
 one_before d name None None is is' once = refl
 one_before d name None (Some v) is is' once = absurd (some_none (sym is'.1.found ∙ is))
@@ -85,7 +85,7 @@ one_before d name (Some v) (Some w) is is' once =
     λ i. Some (prime i, version i)
 
 -- whether there is one says whether it is new
-pub named_none : (d : KnownDirectory) (name : FileName) (old : Before) → IsNamed d name old
+pub named_none : (d : CurrentDirectory) (name : FileName) (old : Before) → IsNamed d name old
     → is_none old ≡ is_absent name d
 named_none d name None is = sym (ap is_none is)
 named_none d name (Some v) is = sym (ap is_none is.1.found)
@@ -96,14 +96,14 @@ before_none live None there = refl
 before_none live (Some k) there = by (slot live k) there
   where
     by : (q : Option LiveVersion) → IsSome q
-        → is_none {T = ℕ × KnownVersion} (option_map (λ v. (v.at, as_known v)) q) ≡ is_none (Some k)
+        → is_none {T = ℕ × CurrentVersion} (option_map (λ v. (v.at, as_known v)) q) ≡ is_none (Some k)
     by None is = absurd (cc)
     by (Some v) is = refl
 
 -- The version that is begun.
 
--- of no words, where its kind is no update
-pub begun_bare : (kind : Kind) (prime : Prime) (old : Before) → is_update kind ≡ false
+-- of no words, if its kind is no update
+pub begun_bare : (kind : PendingKind) (prime : Prime) (old : Before) → is_update kind ≡ false
     → ◌≡◌ {A = PendingVersion} (record { prime = prime; version = no_words; kind = kind; kept_blocks = 0 })
     (begun kind prime old)
 begun_bare Create prime old bare = refl
@@ -111,7 +111,7 @@ begun_bare Supersede prime old bare = refl
 begun_bare Update prime old bare = cc
 begun_bare Append prime old bare = cc
 
-module _ {size : ℕ} {c : VolumeCore} (whole : IsWholeCore size c) (sound : IsTable c.known.table) (kind : Kind)
+module _ {size : ℕ} {c : MemoryMap} (whole : IsWholeMemory size c) (sound : IsTable c.known.table) (kind : PendingKind)
     (prime : Prime) {o : Option ℕ} (is : IsBefore c prime.ppn prime.file o) where
   abbrev old : Before
   old = version_before c.live o
@@ -123,16 +123,16 @@ module _ {size : ℕ} {c : VolumeCore} (whole : IsWholeCore size c) (sound : IsT
   pub has_version : IfSome o (λ k. IsSome (slot c.live k))
   has_version = there_of o is.key
 
-  -- it is there where the kind wants it
+  -- it is there if the kind requires it
   pub update_there : is_create kind ≡ is_none o → is_update kind ≡ true → (key : ℕ) × (o ≡ Some key)
       × IsSome (slot c.live key)
   update_there fits updates = by o fits has_version kind updates
     where
-      by : (q : Option ℕ) → is_create kind ≡ is_none q → IfSome q (λ k. IsSome (slot c.live k)) → (l : Kind)
+      by : (q : Option ℕ) → is_create kind ≡ is_none q → IfSome q (λ k. IsSome (slot c.live k)) → (l : PendingKind)
           → is_update l ≡ true → (key : ℕ) × (q ≡ Some key) × IsSome (slot c.live key)
       by None new there l up = absurd (creation kind updates new)
         where
-          creation : (l : Kind) → is_update l ≡ true → is_create l ≡ true → ⊥
+          creation : (l : PendingKind) → is_update l ≡ true → is_create l ≡ true → ⊥
           creation Create up new = cc
           creation Supersede up new = cc
           creation Update up new = cc
@@ -247,19 +247,19 @@ module _ {size : ℕ} {c : VolumeCore} (whole : IsWholeCore size c) (sound : IsT
           of None is = absurd (cc)
           of (Some v) is = refl
 
-      by : (l : Kind) → is_create l ≡ is_none o → begin_cost l entries old
+      by : (l : PendingKind) → is_create l ≡ is_none o → begin_cost l entries old
           ≡ cost_of_blocks (length (begun_version l old).blocks) + (if is_create l then growth entries else 0)
       by Create new = refl
       by Supersede new = refl
       by Update new = let e = costs o has_version new in omega arith
       by Append new = let e = costs o has_version new in omega arith
 
-  -- Core with it.
+  -- Memory with it.
 
   module _ (pending : List (Option PendingVersion)) (key : ℕ)
       (adds : Adds c.pending pending key (begun kind prime old)) (fits : is_create kind ≡ is_none o)
       (held : List ℕ) (more : (n : ℕ) → slice_index held n
-      ≡ holds c.known.table n + times n (begun_version kind old).blocks) (i : ℕ) (v : ℕ × ℕ) (d : KnownDirectory)
+      ≡ holds c.known.table n + times n (begun_version kind old).blocks) (i : ℕ) (v : ℕ × ℕ) (d : CurrentDirectory)
       (at : slice_get c.known.master.entries i ≡ Some (prime.ppn, v)) (d_at : slice_get c.known.directories i ≡ Some d)
       (booked : ℕ) (costs : booked ≡ c.known.table.booked + begin_cost kind (entries_with c d prime.ppn) old)
       (room : booked ≤ space size) where
@@ -271,7 +271,7 @@ module _ {size : ℕ} {c : VolumeCore} (whole : IsWholeCore size c) (sound : IsT
     held_before n some = ⊎_elim (λ was. inl was) (λ none. inr (let sum = more n in omega arith))
         (some_or_none (holds c.known.table n))
 
-    pub begun_whole : IsWholeCore size (record c {
+    pub begun_whole : IsWholeMemory size (record c {
       known = record c.known { table = record c.known.table { held = held; booked = booked } };
       pending = pending;
     })
@@ -315,10 +315,10 @@ module _ {size : ℕ} {c : VolumeCore} (whole : IsWholeCore size c) (sound : IsT
           omega arith;
     }
 
--- Which refusal comes when, said of the directory that has the number.
+-- Which refusal comes when, in terms of the directory that has the number.
 
-module _ {size : ℕ} {c : VolumeCore} (whole : IsWholeCore size c) (kind : Kind) (prime : Prime) {o : Option ℕ}
-    (is : IsBefore c prime.ppn prime.file o) (d : KnownDirectory) (there : IsDirectoryOf c prime.ppn d) where
+module _ {size : ℕ} {c : MemoryMap} (whole : IsWholeMemory size c) (kind : PendingKind) (prime : Prime) {o : Option ℕ}
+    (is : IsBefore c prime.ppn prime.file o) (d : CurrentDirectory) (there : IsDirectoryOf c prime.ppn d) where
   same_d : is.directory ≡ d
   same_d = same_directory size c prime.ppn there.0 there.1 is.directory d whole is.there there.2.is there.3
 
@@ -336,7 +336,7 @@ module _ {size : ℕ} {c : VolumeCore} (whole : IsWholeCore size c) (kind : Kind
   before_same prior named =
       let whole_d = all_at (IsWholeDirectory size) c.known.directories there.0 d whole.map.each there.3 in
       one_before d prime.file prior (version_before c.live o) named
-      (subst (λ (x : KnownDirectory). IsNamed x prime.file (version_before c.live o)) same_d is.named)
+      (subst (λ (x : CurrentDirectory). IsNamed x prime.file (version_before c.live o)) same_d is.named)
       whole_d.chain.each_once
 
   module _ (fits : is_create kind ≡ is_none o) where
@@ -347,7 +347,7 @@ module _ {size : ℕ} {c : VolumeCore} (whole : IsWholeCore size c) (kind : Kind
     not_absent both = let no : false ≡ true = sym both.0 ∙ fits ∙ sym absent_same ∙ both.1 in cc
 
   -- what it costs
-  pub cost_is : (place : ℕ) (v : ℕ × ℕ) (e : KnownDirectory) (cost : ℕ)
+  pub cost_is : (place : ℕ) (v : ℕ × ℕ) (e : CurrentDirectory) (cost : ℕ)
       → slice_get c.known.master.entries place ≡ Some (prime.ppn, v) → slice_get c.known.directories place ≡ Some e
       → cost ≡ begin_cost kind (entries_with c e prime.ppn) (version_before c.live o)
       → (prior : Before) → IsNamed d prime.file prior → cost ≡ begin_cost kind (entries_with c d prime.ppn) prior
@@ -355,32 +355,32 @@ module _ {size : ℕ} {c : VolumeCore} (whole : IsWholeCore size c) (kind : Kind
       let same : d ≡ e = same_directory size c prime.ppn place v d e whole there at e_at in
       costs ∙ (λ i. begin_cost kind (entries_with c (sym same i) prime.ppn) (sym (before_same prior named) i))
 
--- A version that is to begin, in a map in core.
+-- A version that will begin, in a map in memory.
 
 -- the directory at the place of its entry
-pub known_place : (m : LiveMap) → IsWholeCore m.table.size (core_of m) → (ppn i : ℕ) (v : ℕ × ℕ)
+pub known_place : (m : LiveMap) → IsWholeMemory m.table.size (memory_of m) → (ppn i : ℕ) (v : ℕ × ℕ)
     → StandsAt nat_cmp (map master_view m.master.entries) ppn v i
-    → (d : KnownDirectory) × (slice_get (core_of m).known.directories i ≡ Some d)
-known_place m whole ppn i v stands = element_at (core_of m).known.directories i
+    → (d : CurrentDirectory) × (slice_get (memory_of m).known.directories i ≡ Some d)
+known_place m whole ppn i v stands = element_at (memory_of m).known.directories i
     (let within = stands.within in let aligned = whole.map.aligned in omega arith)
 
-module _ {size : ℕ} {c : VolumeCore} (whole : IsWholeCore size c) (kind : Kind) (prime : Prime) {o : Option ℕ}
+module _ {size : ℕ} {c : MemoryMap} (whole : IsWholeMemory size c) (kind : PendingKind) (prime : Prime) {o : Option ℕ}
     (is : IsBefore c prime.ppn prime.file o) where
-  pub named_here : (d : KnownDirectory) → IsDirectoryOf c prime.ppn d
+  pub named_here : (d : CurrentDirectory) → IsDirectoryOf c prime.ppn d
       → IsNamed d prime.file (version_before c.live o)
-  named_here d there = subst (λ (x : KnownDirectory). IsNamed x prime.file (version_before c.live o))
+  named_here d there = subst (λ (x : CurrentDirectory). IsNamed x prime.file (version_before c.live o))
       (same_directory size c prime.ppn there.0 there.1 is.directory d whole is.there there.2.is there.3) is.named
 
-  pub fits_before : (d : KnownDirectory) → IsDirectoryOf c prime.ppn d → (prior : Before)
+  pub fits_before : (d : CurrentDirectory) → IsDirectoryOf c prime.ppn d → (prior : Before)
       → IsNamed d prime.file prior → is_create kind ≡ is_none prior → is_create kind ≡ is_none o
   fits_before d there prior named fits = fits ∙ named_none d prime.file prior named
       ∙ absent_same whole kind prime is d there
 
-  -- no block is held more often than a number of 32 bits counts
+  -- no block is held more often than 32 bits can count
   pub begun_hold : (n cost : ℕ) → c.known.table.booked + cost ≤ space c.known.table.size
       → holds c.known.table n + 1 < 2 ^ 32
   begun_hold n cost room =
-      let few = core_holds size c whole n in
+      let few = memory_holds size c whole n in
       let large = whole.map.volume.large in
       let same = whole.map.size_is in
       omega arith

@@ -14,37 +14,37 @@ use Rattle.spec_image.proofs.Common.{some_same, name_total, name_exact}
 use Rattle.alloctab.specs.Common.{space}
 use Rattle.retrieval.specs.declared.prime.Prime.{Prime}
 use Rattle.volume.specs.Common.{is_update, begin_cost, entries_with, begun, shared_prime, IsBegun, IsDirectoryOf}
-use Rattle.volume.specs.Common.{KnownVersion, KnownDirectory, Before, IsNamed, IsWholeVersion, IsWholeDirectory}
-use Rattle.volume.specs.Common.{cost_of_version, VolumeCore, pending_at, as_written, is_create, IsWholeCore, IsNoFile}
-use Rattle.volume.specs.Common.{IsVersionOf, IsFilePinned, IsPinAnswer, BeginsWithFile, HasSomeBody, IsSoundCore}
+use Rattle.volume.specs.Common.{CurrentVersion, CurrentDirectory, Before, IsNamed, IsWholeVersion, IsWholeDirectory}
+use Rattle.volume.specs.Common.{cost_of_version, MemoryMap, pending_at, as_written, is_create, IsWholeMemory, IsNoFile}
+use Rattle.volume.specs.Common.{IsVersionOf, IsFilePinned, IsPinAnswer, BeginsWithFile, HasSomeBody, IsSoundMemory}
 use Rattle.volume.specs.Common.{RestsAt}
 use Rattle.volume.specs.declared.error.CallError.{CallError}
 use Rattle.volume.specs.declared.error.CallError.TheVariants.{Refused}
 use Rattle.volume.specs.declared.handles.Pin.{Pin}
-use Rattle.volume.specs.declared.pending.Kind.{Kind}
-use Rattle.volume.specs.declared.pending.Kind.TheVariants.{Create, Supersede, Update, Append}
-use Rattle.volume.proofs.common.Answering.{Holds, rest_holds, all_at_place}
+use Rattle.volume.specs.declared.pending.PendingKind.{PendingKind}
+use Rattle.volume.specs.declared.pending.PendingKind.TheVariants.{Create, Supersede, Update, Append}
+use Rattle.volume.proofs.common.Answers.{Holds, rest_holds, all_at_place}
 use Rattle.volume.proofs.common.Lookups.{first_place}
 use Rattle.volume.proofs.common.FileDates.{known_dated}
-use Rattle.volume.proofs.common.Held.{element_at}
+use Rattle.volume.proofs.common.UsedBlocks.{element_at}
 use Rattle.volume.proofs.common.Packs.{pack_held}
 use Rattle.volume.proofs.PinVersion.PinnedFiles.{IsFileOf, named_file, file_body, at_rest_holds, pin_refused}
 
-module _ (s : DiskState) (c c' : VolumeCore) (failed : Bool) (key : ℕ) (kind : Kind) (prime : Prime)
-    (sound : IsSoundCore s c failed) (begins : IsBegun c c' key kind prime) (h : s.honest) (ok : failed ≡ false) where
-  file_before : (files : Files File) → Holds s c.known files → (v : ℕ × KnownVersion) → begins.old ≡ Some v
+module _ (s : DiskState) (c c' : MemoryMap) (failed : Bool) (key : ℕ) (kind : PendingKind) (prime : Prime)
+    (sound : IsSoundMemory s c failed) (begins : IsBegun c c' key kind prime) (h : s.honest) (ok : failed ≡ false) where
+  file_before : (files : Files File) → Holds s c.known files → (v : ℕ × CurrentVersion) → begins.old ≡ Some v
       → IsFileOf s files prime.ppn prime.file v.1
   file_before files holds v is = named_file s c files holds prime.ppn prime.file begins.directory v begins.there
       (subst (IsNamed begins.directory prime.file) is begins.named)
 
   -- the version before has its words
-  pub body_before : (v : ℕ × KnownVersion) → begins.old ≡ Some v → HasSomeBody s.contents v.1.version
+  pub body_before : (v : ℕ × CurrentVersion) → begins.old ≡ Some v → HasSomeBody s.contents v.1.version
   body_before v is =
       let holds = at_rest_holds s c failed sound h ok in
       let file = file_before holds.0 holds.1 v is in
       file_body s.contents v.1 file.file file.version_is
 
-  -- and a moment that the layout holds, so that what begins with it has, too
+  -- and the layout has room for its moment, and so for that of what begins with it
   pub date_before : prime.moment.date < date_limit (pack_of s).layout
       → (begun kind prime begins.old).prime.moment.date < date_limit (pack_of s).layout
   date_before timely = by (is_update kind) begins.old refl
@@ -61,7 +61,7 @@ module _ (s : DiskState) (c c' : VolumeCore) (failed : Bool) (key : ℕ) (kind :
           begins.directory there.0 there.1 there.2 there.3 prime.file v
           (subst (IsNamed begins.directory prime.file) is begins.named))
 
-  version_begun : (l : Kind) (v : ℕ × KnownVersion) (file : File) → is_update l ≡ true
+  version_begun : (l : PendingKind) (v : ℕ × CurrentVersion) (file : File) → is_update l ≡ true
       → IsVersionOf s.contents v.1 file → IsVersionOf s.contents (as_written (begun l prime (Some v))) file
   version_begun Create v file updates is = cc
   version_begun Supersede v file updates is = cc
@@ -82,7 +82,7 @@ module _ (s : DiskState) (c c' : VolumeCore) (failed : Bool) (key : ℕ) (kind :
     body = is.body;
   }
 
-  no_creation : (l : Kind) → is_update l ≡ true → is_create l ≡ true → ⊥
+  no_creation : (l : PendingKind) → is_update l ≡ true → is_create l ≡ true → ⊥
   no_creation Create updates creates = cc
   no_creation Supersede updates creates = cc
   no_creation Update updates creates = cc
@@ -106,7 +106,7 @@ module _ (s : DiskState) (c c' : VolumeCore) (failed : Bool) (key : ℕ) (kind :
             version_begun kind v file.file updates file.version_is,
           )
 
--- An error that is handed on is answered where it was.
+-- An error that is passed on is returned.
 pub handed_on : {X Y C : Type 0} (answer : Result Y CallError) (error refused : CallError) → answer ≡ Err error
     → (IsErrOf {T = X} (Err error) refused ↔ C) → (IsErrOf answer refused ↔ C)
 handed_on answer error refused is given = (
@@ -120,22 +120,22 @@ pub not_refused : {X Y C : Type 0} (x : X) (y : Y) (refused : CallError) → (Is
     → (IsErrOf {T = Y} (Ok y) refused ↔ C)
 not_refused x y refused given = (λ said. absurd (cc), λ so. absurd (let no = given.1 so in cc))
 
--- The version that core has of a file, which costs what the file does.
-pub record IsFileKnown (c : VolumeCore) (ppn : ℕ) (name : FileName) (file : File) : Type 0 where
-  pub directory : KnownDirectory
+-- The version that memory has of a file, which costs what the file does.
+pub record IsFileKnown (c : MemoryMap) (ppn : ℕ) (name : FileName) (file : File) : Type 0 where
+  pub directory : CurrentDirectory
   pub there : IsDirectoryOf c ppn directory
-  pub version : ℕ × KnownVersion
+  pub version : ℕ × CurrentVersion
   pub named : IsNamed directory name (Some version)
   pub cost : cost_of_version version.1 ≡ version_cost (length file.body)
 
-module _ (s : DiskState) (c : VolumeCore) (failed : Bool) (sound : IsSoundCore s c failed) (h : s.honest)
+module _ (s : DiskState) (c : MemoryMap) (failed : Bool) (sound : IsSoundMemory s c failed) (h : s.honest)
     (ok : failed ≡ false) (files : Files File) (rest : RestsAt s files) (ppn : ℕ) (name : FileName)
     (directory : Directory File) (there : get files ppn ≡ Some directory) (file : File)
     (has : get directory.files name ≡ Some file) where
   holds : Holds s c.known files
   holds = rest_holds s c failed sound h ok files rest
 
-  -- core has it
+  -- memory has it
   not_missing : (error : CallError) → IsNoFile c ppn name error → ⊥
   not_missing error none =
       let refused : Result Pin CallError = Err error in
@@ -147,7 +147,7 @@ module _ (s : DiskState) (c : VolumeCore) (failed : Bool) (sound : IsSoundCore s
       let no : refused ≡ Ok of_file.0 = of_file.1 in
       cc
 
-  file_cost : (d : KnownDirectory) → IsDirectoryOf c ppn d → (v : ℕ × KnownVersion) → IsNamed d name (Some v)
+  file_cost : (d : CurrentDirectory) → IsDirectoryOf c ppn d → (v : ℕ × CurrentVersion) → IsNamed d name (Some v)
       → cost_of_version v.1 ≡ version_cost (length file.body)
   file_cost d at v named =
       let is = named_file s c files holds ppn name d v at named in
@@ -162,7 +162,7 @@ module _ (s : DiskState) (c : VolumeCore) (failed : Bool) (sound : IsSoundCore s
   pub file_known : IsFileKnown c ppn name file
   file_known = by (find nat_cmp ppn c.known.master.entries) refl
     where
-      named_in : (d : KnownDirectory) (at : IsDirectoryOf c ppn d) (was : Option ℕ)
+      named_in : (d : CurrentDirectory) (at : IsDirectoryOf c ppn d) (was : Option ℕ)
           → find name_cmp name d.chain.entries ≡ was → IsFileKnown c ppn name file
       named_in d at None none =
           absurd (not_missing (Refused NotFound) (inr (at.0, at.1, at.2, d, at.3, none, refl)))
@@ -190,23 +190,23 @@ module _ (s : DiskState) (c : VolumeCore) (failed : Bool) (sound : IsSoundCore s
           named_in d.0 (place.0, w, place.1, d.1) (find name_cmp name d.0.chain.entries) refl
 
 -- what a version costs that begins with another, and that it is no creation
-pub begins_with_cost : (kind : Kind) (entries : ℕ) (v : ℕ × KnownVersion) → is_update kind ≡ true
+pub begins_with_cost : (kind : PendingKind) (entries : ℕ) (v : ℕ × CurrentVersion) → is_update kind ≡ true
     → begin_cost kind entries (Some v) ≡ cost_of_version v.1
 begins_with_cost Create entries v updates = cc
 begins_with_cost Supersede entries v updates = cc
 begins_with_cost Update entries v updates = refl
 begins_with_cost Append entries v updates = refl
 
-pub update_creates : (kind : Kind) → is_update kind ≡ true → is_create kind ≡ false
+pub update_creates : (kind : PendingKind) → is_update kind ≡ true → is_create kind ≡ false
 update_creates Create updates = cc
 update_creates Supersede updates = cc
 update_creates Update updates = refl
 update_creates Append updates = refl
 
--- Where core's directory and its version say whether there is room, the file says it.
-pub full_by_file : {X : Type 0} (size : ℕ) (c : VolumeCore) (kind : Kind) (prime : Prime) (file : File)
-    (answer : Result X CallError) → IsWholeCore size c → IsFileKnown c prime.ppn prime.file file → is_update kind ≡ true
-    → ((d : KnownDirectory) → IsDirectoryOf c prime.ppn d → (old : Before) → IsNamed d prime.file old
+-- If the directory and its version in memory decide whether there is room, so does the file.
+pub full_by_file : {X : Type 0} (size : ℕ) (c : MemoryMap) (kind : PendingKind) (prime : Prime) (file : File)
+    (answer : Result X CallError) → IsWholeMemory size c → IsFileKnown c prime.ppn prime.file file → is_update kind ≡ true
+    → ((d : CurrentDirectory) → IsDirectoryOf c prime.ppn d → (old : Before) → IsNamed d prime.file old
     → is_create kind ≡ is_none old → (IsErrOf answer (Refused NoRoom)
     ↔ (space c.known.table.size < c.known.table.booked + begin_cost kind (entries_with c d prime.ppn) old)))
     → (IsErrOf answer (Refused NoRoom) ↔ (space size < c.known.table.booked + version_cost (length file.body)))

@@ -6,7 +6,7 @@ use Rattle.slab.specs.Slab.{entries_from}
 use Rattle.volume.specs.Common.{is_creation, creates}
 use Rattle.volume.specs.declared.pending.PendingVersion.{PendingVersion}
 
--- so many of these entries will be new ones of the directory
+-- how many of these entries will be new ones of the directory
 abbrev pub created : ℕ → List (ℕ × PendingVersion) → ℕ
 created ppn es = total (λ e. creates ppn (Some e.1)) es
 

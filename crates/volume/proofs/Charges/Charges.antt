@@ -9,45 +9,45 @@ use Rattle.std.specs.FinMap.Entries.{find}
 use Rattle.std.specs.Ordering.{nat_cmp}
 use Rattle.words36.specs.declared.names.FileName.{FileName}
 use Rattle.blockdisk.specs.Common.{DiskState}
-use Rattle.spec_image.specs.Common.{directory_cost, version_cost, MasterEntry, master_word, File, Files, get, size}
+use Rattle.spec_image.specs.Common.{directory_cost, version_cost, SpecMasterEntry, master_word, File, Files, get, size}
 use Rattle.spec_image.specs.Common.{sum_over, total, growth, StoredDirectory, directory_of, entry_of}
 use Rattle.spec_image.proofs.Common.{some_same, some_none, find_first, find_tail_none, get-map_values}
 use Rattle.spec_image.proofs.Common.{get-from_entries, size-map_values, name_total, name_exact, quota_bound}
 use Rattle.volume.specs.Common.{begin_cost, entries_with, version_before, IsBefore, IsDirectoryOf, writes_in, used_by}
-use Rattle.volume.specs.Common.{charge_answer, quota_in_files, quota_in_word, IsCharged, IsOver, Known}
-use Rattle.volume.specs.Common.{KnownDirectory, Before, IsNamed, IsKnownDirectory, IsWholeDirectory, cost_before}
-use Rattle.volume.specs.Common.{cost_of_version, cost_of_directory, VolumeCore, creates, IsWholeCore, IsSoundCore}
+use Rattle.volume.specs.Common.{charge_answer, quota_in_files, quota_in_word, IsCharged, IsOver, CurrentMap}
+use Rattle.volume.specs.Common.{CurrentDirectory, Before, IsNamed, AgreesOnDirectory, IsWholeDirectory, cost_before}
+use Rattle.volume.specs.Common.{cost_of_version, cost_of_directory, MemoryMap, creates, IsWholeMemory, IsSoundMemory}
 use Rattle.volume.specs.Common.{RestsAt}
 use Rattle.volume.specs.declared.charge.Charge.{Charge}
-use Rattle.volume.specs.declared.pending.Kind.{Kind}
-use Rattle.volume.proofs.common.Answering.{Holds, rest_holds, directory_none}
+use Rattle.volume.specs.declared.pending.PendingKind.{PendingKind}
+use Rattle.volume.proofs.common.Answers.{Holds, rest_holds, directory_none}
 use Rattle.volume.proofs.BeginVersion.Beginnings.{same_directory, one_before}
 use Rattle.volume.proofs.common.CostLaws.{size_named, directory_costs}
 use Rattle.volume.proofs.VolumeStart.FoundDirectories.{all_at}
 use Rattle.volume.proofs.common.Lookups.{first_place}
-use Rattle.volume.proofs.common.Held.{element_at}
+use Rattle.volume.proofs.common.UsedBlocks.{element_at}
 use Rattle.spec_image.specs.Costs as costs
 
 -- One charge.
 
 -- the place at which a key comes first
-pub first_once : (es : List MasterEntry) (i j k : ℕ) (v w : ℕ × ℕ) → slice_get es i ≡ Some (k, v)
+pub first_once : (es : List SpecMasterEntry) (i j k : ℕ) (v w : ℕ × ℕ) → slice_get es i ≡ Some (k, v)
     → find nat_cmp k (take i es) ≡ None → slice_get es j ≡ Some (k, w) → find nat_cmp k (take j es) ≡ None → i ≡ j
 first_once [] i j k v w is before is' before' = cc
 first_once (e ∷ es) zero zero k v w is before is' before' = refl
 first_once (e ∷ es) zero (suc j) k v w is before is' before' =
     let same : e ≡ (k, v) = some_same is in
     absurd (some_none (sym (find_first nat_cmp_total e (take j es))
-    ∙ ap (λ (x : MasterEntry). find nat_cmp x.0 (e ∷ take j es)) same ∙ before'))
+    ∙ ap (λ (x : SpecMasterEntry). find nat_cmp x.0 (e ∷ take j es)) same ∙ before'))
 first_once (e ∷ es) (suc i) zero k v w is before is' before' =
     let same : e ≡ (k, w) = some_same is' in
     absurd (some_none (sym (find_first nat_cmp_total e (take i es))
-    ∙ ap (λ (x : MasterEntry). find nat_cmp x.0 (e ∷ take i es)) same ∙ before))
+    ∙ ap (λ (x : SpecMasterEntry). find nat_cmp x.0 (e ∷ take i es)) same ∙ before))
 first_once (e ∷ es) (suc i) (suc j) k v w is before is' before' =
     ap suc (first_once es i j k v w is (find_tail_none nat_cmp e (take i es) k before) is'
     (find_tail_none nat_cmp e (take j es) k before'))
 
-pub charged_once : (c : VolumeCore) (ppn : ℕ) (a b : Charge) → IsCharged c ppn a → IsCharged c ppn b → a ≡ b
+pub charged_once : (c : MemoryMap) (ppn : ℕ) (a b : Charge) → IsCharged c ppn a → IsCharged c ppn b → a ≡ b
 charged_once c ppn a b is is' =
     let places = first_once c.known.master.entries is.place is'.place ppn is.word is'.word is.there.is is.there.before
     is'.there.is is'.there.before in
@@ -55,12 +55,12 @@ charged_once c ppn a b is is' =
     let directory : is.directory ≡ is'.directory = some_same (sym is.directory_at
     ∙ ap (slice_get c.known.directories) places ∙ is'.directory_at) in
     let quota : a.quota ≡ b.quota = is.quota_is ∙ ap (λ (w : ℕ × ℕ). w.0 % 2 ^ 18) word ∙ sym is'.quota_is in
-    let used : a.used ≡ b.used = is.used_is ∙ ap (λ (d : KnownDirectory). used_by c d ppn) directory
+    let used : a.used ≡ b.used = is.used_is ∙ ap (λ (d : CurrentDirectory). used_by c d ppn) directory
     ∙ sym is'.used_is in
     λ i. record { quota = quota i; used = used i }
 
 -- a directory that is found has one
-pub charged_found : (size : ℕ) (c : VolumeCore) → IsWholeCore size c → (ppn : ℕ) (word : ℕ × ℕ)
+pub charged_found : (size : ℕ) (c : MemoryMap) → IsWholeMemory size c → (ppn : ℕ) (word : ℕ × ℕ)
     → find nat_cmp ppn c.known.master.entries ≡ Some word → (charge : Charge) × IsCharged c ppn charge
 charged_found size c whole ppn word found =
     let place = first_place nat_cmp_total nat_cmp-IsAntisymmetric c.known.master.entries ppn word found in
@@ -85,7 +85,7 @@ pub word_quota : (p q : ℕ) → q < 262144 → master_word p q % 2 ^ 18 ≡ q
 word_quota p q few = omega arith
 
 -- what a directory costs with `more` entries
-stored_cost : (size_of_disk : ℕ) (k : KnownDirectory) (s : StoredDirectory) → IsKnownDirectory k s
+stored_cost : (size_of_disk : ℕ) (k : CurrentDirectory) (s : StoredDirectory) → AgreesOnDirectory k s
     → IsWholeDirectory size_of_disk k → (more : ℕ)
     → directory_cost (size (directory_of s).files + more)
     + sum_over (λ f. version_cost (length f.body)) (directory_of s).files
@@ -102,8 +102,8 @@ stored_cost size_of_disk k s known whole more =
     let grown = ap (λ n. directory_cost (n + more)) many in
     omega arith
 
--- The directory with a number, in core and by the files.
-module _ (s : DiskState) (k : Known) (files : Files File) (holds : Holds s k files) (ppn : ℕ) where
+-- The directory with a number, in memory and in terms of the files.
+module _ (s : DiskState) (k : CurrentMap) (files : Files File) (holds : Holds s k files) (ppn : ℕ) where
   files_at : get files ppn ≡ option_map directory_of (get holds.map.directories ppn)
   files_at = ap (λ f. get f ppn) (sym holds.files_are)
       ∙ get-map_values nat_cmp_total directory_of holds.map.directories ppn
@@ -133,7 +133,7 @@ module _ (s : DiskState) (k : Known) (files : Files File) (holds : Holds s k fil
       by (Some stored) at (Some word) found = ap quota_in_word found ∙ stored_word stored word at found
           ∙ sym (ap quota_in_files (files_at ∙ ap (option_map directory_of) at))
 
-module _ (d : DiskState) (c : VolumeCore) (sound : IsSoundCore d c false) (honest : d.honest) (files : Files File)
+module _ (d : DiskState) (c : MemoryMap) (sound : IsSoundMemory d c false) (honest : d.honest) (files : Files File)
     (rest : RestsAt d files) (ppn : ℕ) where
   holds_here : Holds d c.known files
   holds_here = rest_holds d c false sound honest refl files rest
@@ -179,7 +179,7 @@ module _ (d : DiskState) (c : VolumeCore) (sound : IsSoundCore d c false) (hones
 
 -- What the quota leaves.
 
-pub over_charge : (c : VolumeCore) (ppn more : ℕ) (charge : Charge) → IsCharged c ppn charge → (over : Bool)
+pub over_charge : (c : MemoryMap) (ppn more : ℕ) (charge : Charge) → IsCharged c ppn charge → (over : Bool)
     → (IsTrue over ↔ ((0 < charge.quota) × (charge.quota < charge.used + more)))
     → (IsTrue over ↔ IsOver c ppn more)
 over_charge c ppn more charge is over says = (
@@ -189,19 +189,19 @@ over_charge c ppn more charge is over says = (
 )
 
 -- The same of the directory and the version that a caller knows.
-module _ {size : ℕ} {c : VolumeCore} (whole : IsWholeCore size c) (ppn : ℕ) (name : FileName) {o : Option ℕ}
-    (is : IsBefore c ppn name o) (d : KnownDirectory) (there : IsDirectoryOf c ppn d) (old : Before)
+module _ {size : ℕ} {c : MemoryMap} (whole : IsWholeMemory size c) (ppn : ℕ) (name : FileName) {o : Option ℕ}
+    (is : IsBefore c ppn name o) (d : CurrentDirectory) (there : IsDirectoryOf c ppn d) (old : Before)
     (named : IsNamed d name old) where
   before_is : version_before c.live o ≡ old
   before_is =
       let same = same_directory size c ppn there.0 there.1 is.directory d whole is.there there.2.is there.3 in
       let whole_d = all_at (IsWholeDirectory size) c.known.directories there.0 d whole.map.each there.3 in
       one_before d name (version_before c.live o) old
-      (subst (λ (x : KnownDirectory). IsNamed x name (version_before c.live o)) same is.named) named
+      (subst (λ (x : CurrentDirectory). IsNamed x name (version_before c.live o)) same is.named) named
       whole_d.chain.each_once
 
   -- a version that is begun
-  pub begun_over : (kind : Kind) (place : ℕ) (v : ℕ × ℕ) (e : KnownDirectory) (cost : ℕ)
+  pub begun_over : (kind : PendingKind) (place : ℕ) (v : ℕ × ℕ) (e : CurrentDirectory) (cost : ℕ)
       → slice_get c.known.master.entries place ≡ Some (ppn, v) → slice_get c.known.directories place ≡ Some e
       → cost ≡ begin_cost kind (entries_with c e ppn) (version_before c.live o) → (over : Bool)
       → (IsTrue over ↔ IsOver c ppn cost) → (IsTrue over ↔ IsOver c ppn (begin_cost kind (entries_with c d ppn) old))
@@ -212,7 +212,7 @@ module _ {size : ℕ} {c : VolumeCore} (whole : IsWholeCore size c) (ppn : ℕ) 
       subst (λ (n : ℕ). IsTrue over ↔ IsOver c ppn n) path says
 
   -- a file that comes into the directory of another number
-  pub moved_over : (to : ℕ) (t : KnownDirectory) → IsDirectoryOf c to t → (place : ℕ) (v : ℕ × ℕ) (e : KnownDirectory)
+  pub moved_over : (to : ℕ) (t : CurrentDirectory) → IsDirectoryOf c to t → (place : ℕ) (v : ℕ × ℕ) (e : CurrentDirectory)
       (cost more : ℕ) → slice_get c.known.master.entries place ≡ Some (to, v)
       → slice_get c.known.directories place ≡ Some e → cost ≡ cost_before (version_before c.live o)
       → more ≡ growth (entries_with c e to) → (over : Bool) → (IsTrue over ↔ IsOver c to (cost + more))
@@ -224,7 +224,7 @@ module _ {size : ℕ} {c : VolumeCore} (whole : IsWholeCore size c) (ppn : ℕ) 
       ∙ (λ i. growth (entries_with c (sym same i) to)) in
       subst (λ (n : ℕ). IsTrue over ↔ IsOver c to n) (λ i. cost_is i + more_is i) says
 
--- numbers that are told apart are not the same
+-- numbers that a test finds different are not the same
 pub told_apart : (a b : ℕ) → eqb a b ≡ false → a ≡ b → ⊥
 told_apart a b = grind (arith, nat_tests)
 

@@ -6,12 +6,12 @@ use Rattle.std.proofs.lemmas.List.{take_more, take-append-drop}
 use Rattle.std.specs.List.{AllByRecursion}
 use Rattle.spec_image.specs.Common.{total, most_blocks}
 use Rattle.slab.specs.Slab.{entries_from}
-use Rattle.volume.specs.Common.{version_before, writes_in, KnownDirectory, IsWholeVersion, cost_before}
-use Rattle.volume.specs.Common.{cost_of_version, cost_of_directory, VolumeCore, slot, as_known, as_written}
-use Rattle.volume.specs.Common.{pending_cost, AreStanding, AreWaiting, IsWholeCore, known_at}
+use Rattle.volume.specs.Common.{version_before, writes_in, CurrentDirectory, IsWholeVersion, cost_before}
+use Rattle.volume.specs.Common.{cost_of_version, cost_of_directory, MemoryMap, slot, as_known, as_written}
+use Rattle.volume.specs.Common.{pending_cost, AreStanding, AreWaiting, IsWholeMemory, known_at}
 use Rattle.volume.specs.declared.live.LiveVersion.{LiveVersion}
 use Rattle.volume.specs.declared.pending.PendingVersion.{PendingVersion}
-use Rattle.volume.proofs.common.Costing.{few_blocks}
+use Rattle.volume.proofs.common.MapCosts.{few_blocks}
 use Rattle.volume.proofs.common.LiveLookups.{standing_at}
 use Rattle.volume.proofs.common.Lookups.{total-append, total-push}
 use Rattle.volume.proofs.PublishVersion.Blocks.{total_place}
@@ -92,10 +92,10 @@ writes_few ppn (Some p ∷ rest) =
 
 -- Both are booked.
 
-pub writing_fits : (size : ℕ) (c : VolumeCore) → IsWholeCore size c → total pending_cost c.pending < 2 ^ 63
+pub writing_fits : (size : ℕ) (c : MemoryMap) → IsWholeMemory size c → total pending_cost c.pending < 2 ^ 63
 writing_fits size c whole = let booked = whole.booked in let fits = whole.fits in omega arith
 
-pub charge_fits : (size : ℕ) (c : VolumeCore) (ppn place : ℕ) (d : KnownDirectory) → IsWholeCore size c
+pub charge_fits : (size : ℕ) (c : MemoryMap) (ppn place : ℕ) (d : CurrentDirectory) → IsWholeMemory size c
     → slice_get c.known.directories place ≡ Some d
     → total cost_of_version d.versions + total (writes_in ppn) c.pending < 2 ^ 63
 charge_fits size c ppn place d whole at =

@@ -1,4 +1,4 @@
--- A copy of a volume stands for its files, though it has zeros where a block was damaged: what the files reach isn't.
+-- A copy of a volume stands for its files, though it has zeros if a block was damaged: what the files reach isn't.
 use Rattle.std.proofs.Common.{◌≡◌, ◌∙◌, ◌+◌, ◌*◌, ◌/◌, ◌<◌, ◌≤◌, ◌++◌, ℕ, Bool, true, false, cond, List, [], ◌∷◌}
 use Rattle.std.proofs.Common.{Option, Some, None, IsSome, slice_index, refl, sym, ap, subst, arith, inl, inr, ⊎_elim}
 use Rattle.std.proofs.Common.{ltb, ltb-true, Result, Ok, Err, OnOk}
@@ -6,7 +6,8 @@ use Rattle.std.proofs.lemmas.Bool.{cases_eq, cases_lt}
 use Rattle.std.proofs.lemmas.Bool.Decides.{nat_tests}
 use Rattle.blockdisk.specs.Common.{Contents, DiskState, NoneOpen, none_open_leaves}
 use Rattle.spec_image.specs.Common.{File, Files, Place, get, times, IsVolumeSize, table_blocks, table_start}
-use Rattle.spec_image.specs.Common.{open_gate, Home, home_block, IsHomeCopy, IsHome, bit_in, Node, numbers, IsSpelled}
+use Rattle.spec_image.specs.Common.{open_gate, SpecHome, home_block, IsHomeCopy, IsHome, bit_in, Node, numbers}
+use Rattle.spec_image.specs.Common.{IsSpelled}
 use Rattle.spec_image.specs.Common.{master_words, IsMasterEntry, file_words, IsFileEntry, Extension}
 use Rattle.spec_image.specs.Common.{extension_numbers, AreExtensions, StoredFile, StoredDirectory, DiskMap, reaches}
 use Rattle.spec_image.specs.Common.{blocks_of_file, IsVersion, IsWhole, IsMapped, HasMap, place_of, pack_of}
@@ -60,13 +61,13 @@ same_at (Some words) c d n is copy whole = copy ∙ ap (λ o. Some (copied o)) i
 
 -- Zeros are no home copy, and no open gate.
 
-no_home : (size : ℕ) (other : Home) → copied None ≡ home_block size other → ⊥
+no_home : (size : ℕ) (other : SpecHome) → copied None ≡ home_block size other → ⊥
 no_home size other e = let first = ap (λ l. slice_index l 0) e in omega (arith, first)
 
 no_gate : copied None ≡ open_gate → ⊥
 no_gate e = let first = ap (λ l. slice_index l 0) e in omega (arith, first)
 
-home_before : (size : ℕ) (c d : Contents) (o : Option (List ℕ)) → c 1 ≡ o → d 1 ≡ Some (copied (c 1)) → (other : Home)
+home_before : (size : ℕ) (c d : Contents) (o : Option (List ℕ)) → c 1 ≡ o → d 1 ≡ Some (copied (c 1)) → (other : SpecHome)
     → IsHomeCopy size d 1 other → IsHomeCopy size c 1 other
 home_before size c d None is copy other h = absurd (no_home size other
     (some_same (ap (λ o. Some (copied o)) (sym is) ∙ sym copy ∙ h.words)))
@@ -91,7 +92,7 @@ module _ (size : ℕ) (c d : Contents) (copy : AreCopied size c d) (m : DiskMap)
   reached_inside n h = ⊎_elim (λ low. low) (λ past. absurd (let none = has.marked.inside n past in omega arith))
       (cases_lt n size)
 
-  copied_home : (home : Home) → IsHome size c home → IsHome size d home
+  copied_home : (home : SpecHome) → IsHome size c home → IsHome size d home
   copied_home home (inl h) = inl (record {
     words = same 1 (let low = has.volume.small in omega arith) (λ none. some_none (sym h.words ∙ none)) ∙ h.words;
     layout = h.layout;
@@ -192,7 +193,7 @@ pub copy_pack : (s s' : DiskState) (files : Files File) → s'.size ≡ s.size �
 copy_pack s s' files size none copy rest =
     pack_rests s' (pack_of s) files (sym size) (at_rest s s' files size none copy rest)
 
--- What is said of an answer.
+-- What holds for an answer.
 
 pub ok_both : {E : Type 0} (answer : Result (Unit {0}) E) (A B C : Type 0) → OnOk answer A → OnOk answer B
     → (A → B → C) → OnOk answer C

@@ -5,7 +5,7 @@ use Rattle.blockdisk.specs.Common.{leaves_weaker, modifies_on, modifies_wider, n
 use Rattle.spec_image.proofs.Common.{below_or_not}
 use Rattle.volume.specs.Common.{ArePartlyCopied, HomesComeLast}
 
--- a block more of those from `first` on was written
+-- one more of the blocks from `first` was written
 pub part_modified : (first end n : ℕ) (s s' s'' : DiskState) → first ≤ n → n < end
     → Modifies (λ m. (first ≤ m) × (m < end)) s s' → Modifies (λ m. m ≡ n) s' s''
     → Modifies (λ m. (first ≤ m) × (m < end)) s s''
@@ -13,7 +13,7 @@ part_modified first end n s s' s'' low high so_far more =
     modifies_on (λ m. (first ≤ m) × (m < end)) s s' s'' so_far
     (modifies_wider (λ m. m ≡ n) (λ m. (first ≤ m) × (m < end)) s' s'' (λ m same. (omega arith, omega arith)) more)
 
--- while the blocks behind the gate are written, those below it are as they were
+-- while the blocks after the gate are written, those below it are as they were
 pub behind_first : (size behind : ℕ) (from : Contents) (t t' : DiskState) → 3 ≤ behind ⊎ size ≤ behind
     → LeavesOnly t t' (Near (λ n. (behind ≤ n) × (n < size)) t) → LeavesOnly t t' (HomesComeLast size from t)
 behind_first size behind from t t' low leaves = leaves_weaker t t' (Near (λ n. (behind ≤ n) × (n < size)) t)
@@ -26,7 +26,7 @@ behind_first size behind from t t' low leaves = leaves_weaker t t' (Near (λ n. 
         out n below within (inl h) = let a = within.0 in omega arith
         out n below within (inr h) = let a = within.0 in let b = within.1 in omega arith
 
--- and once they are on the disk they stay, while those below the gate are written
+-- and after they are on the disk they stay, while those below the gate are written
 pub homes_last : (size behind : ℕ) (from : Contents) (t t' t'' : DiskState) → behind ≤ 3
     → LeavesOnly t t' (HomesComeLast size from t) → NoneOpen t' → ArePartlyCopied behind size from t'.contents
     → LeavesOnly t' t'' (Near (λ n. (0 ≤ n) × (n < behind)) t') → LeavesOnly t t'' (HomesComeLast size from t)

@@ -1,4 +1,4 @@
--- The puts of a directory that is deleted lead from the map that is held to the one without it.
+-- The puts of a directory that is deleted lead from the map of the disk to the one without it.
 use Rattle.std.proofs.Common.{◌≡◌, ◌⊎◌, inl, inr, ⊎_elim, ℕ, ◌+◌, ◌<◌, ◌≤◌, List, slice_get, Some, IsSome, refl, sym}
 use Rattle.std.proofs.Common.{ap, subst, ◌∙◌, arith}
 use Rattle.std.specs.Cmp.{nat_cmp_total}
@@ -6,7 +6,8 @@ use Rattle.std.specs.FinMap.{nat_cmp-IsAntisymmetric}
 use Rattle.blockdisk.specs.Common.{Contents}
 use Rattle.spec_image.specs.declared.put.Put.{Put}
 use Rattle.spec_image.specs.Common.{head_or_zero, TableFollows, IsMasterChain, entries_of, without_directory}
-use Rattle.spec_image.specs.Common.{MasterEntry, master_words, file_words, InSpace, name_cmp, with_puts, FinMap, get}
+use Rattle.spec_image.specs.Common.{SpecMasterEntry, master_words, file_words, InSpace, name_cmp, with_puts, FinMap}
+use Rattle.spec_image.specs.Common.{get}
 use Rattle.spec_image.specs.Common.{empty, remove, times, map_values, from_entries, table_blocks, table_start}
 use Rattle.spec_image.specs.Common.{space_start, StoredFile, StoredDirectory, DiskMap, HasMap, entry_of, reaches}
 use Rattle.spec_image.specs.Common.{table_bit}
@@ -15,30 +16,31 @@ use Rattle.spec_image.proofs.Common.{map_values-remove, name_total, name_exact, 
 use Rattle.changeset.specs.Common.{some_or_none}
 use Rattle.alloctab.specs.Common.{bit}
 use Rattle.directory.specs.Common.{IsOn, on_kept}
-use Rattle.volume.specs.Common.{KnownDirectory, Known, IsKnownDirectory, IsHeld, IsWholeMap, IsDirectoryRemoved}
-use Rattle.volume.proofs.common.Held.{reached_in_space, chain_reached}
+use Rattle.volume.specs.Common.{CurrentDirectory, CurrentMap, AgreesOnDirectory, MatchesMap, IsWholeMap}
+use Rattle.volume.specs.Common.{IsDirectoryRemoved}
+use Rattle.volume.proofs.common.UsedBlocks.{reached_in_space, chain_reached}
 use Rattle.volume.proofs.common.Lists.{head_front, none_mapped}
 use Rattle.volume.proofs.common.TableBits.{bits_same}
 use Rattle.volume.proofs.MakeDir.Law.{master_stands}
-use Rattle.volume.proofs.DeleteDir.Core.{removed_inside, chain_times, freed_times}
+use Rattle.volume.proofs.DeleteDir.Memory.{removed_inside, chain_times, freed_times}
 use Rattle.volume.proofs.DeleteDir.Places.{stood_at, was_directory}
 
--- a map whose values are none is empty
+-- a map without values is empty
 none_mapped_to : {X Y : Type 0} (f : X → Y) (m : FinMap name_cmp X) → map_values f m ≡ empty → m ≡ empty
 none_mapped_to {X} {Y} f m none = same_map name_total name_exact m empty
     (λ q. none_mapped f (get m q) (sym (get-map_values name_total f m q) ∙ ap (λ n. get n q) none
     ∙ get-empty name_cmp Y q) ∙ sym (get-empty name_cmp X q))
 
-module _ (size : ℕ) (k k' : Known) (m : DiskMap) (ppn : ℕ) (puts : List Put) (whole : IsWholeMap size k)
-    (removed : IsDirectoryRemoved size k k' ppn puts) (c : Contents) (held : IsHeld size k m c) where
+module _ (size : ℕ) (k k' : CurrentMap) (m : DiskMap) (ppn : ℕ) (puts : List Put) (whole : IsWholeMap size k)
+    (removed : IsDirectoryRemoved size k k' ppn puts) (c : Contents) (held : MatchesMap size k m c) where
   mid : Contents
   mid = with_puts removed.chain_puts c
 
-  abbrev d : KnownDirectory
+  abbrev d : CurrentDirectory
   d = removed.directory
 
   -- the directory in the map
-  in_map : (s : StoredDirectory) × (get m.directories ppn ≡ Some s) × IsKnownDirectory d s
+  in_map : (s : StoredDirectory) × (get m.directories ppn ≡ Some s) × AgreesOnDirectory d s
   in_map = held.known.each removed.place (ppn, removed.word) d removed.there.is removed.directory_at
 
   no_files : in_map.0.files ≡ empty
@@ -126,11 +128,11 @@ module _ (size : ℕ) (k k' : Known) (m : DiskMap) (ppn : ℕ) (puts : List Put)
       })
       follows
 
-  -- core
+  -- memory
 
-  each_known : (i : ℕ) (e : MasterEntry) (x : KnownDirectory) → slice_get k'.master.entries i ≡ Some e
+  each_known : (i : ℕ) (e : SpecMasterEntry) (x : CurrentDirectory) → slice_get k'.master.entries i ≡ Some e
       → slice_get k'.directories i ≡ Some x
-      → (s : StoredDirectory) × (get (remove m.directories ppn) e.0 ≡ Some s) × IsKnownDirectory x s
+      → (s : StoredDirectory) × (get (remove m.directories ppn) e.0 ≡ Some s) × AgreesOnDirectory x s
   each_known i e x is also =
       let was = stood_at size k k' ppn puts whole removed i e x is also in
       let old = held.known.each was.0 e x was.1 was.2 in (
@@ -139,7 +141,7 @@ module _ (size : ℕ) (k k' : Known) (m : DiskMap) (ppn : ℕ) (puts : List Put)
         old.2,
       )
 
-  new_chains : (i : ℕ) (x : KnownDirectory) → slice_get k'.directories i ≡ Some x
+  new_chains : (i : ℕ) (x : CurrentDirectory) → slice_get k'.directories i ≡ Some x
       → IsOn file_words (with_puts puts c) x.chain
   new_chains i x is =
       let was = was_directory size k k' ppn puts whole removed i x is in
@@ -148,7 +150,7 @@ module _ (size : ℕ) (k k' : Known) (m : DiskMap) (ppn : ℕ) (puts : List Put)
       let one = once size c m held.stands.marked n in
       reached_stays n (omega arith) (omega arith))
 
-  pub removing_leads : IsHeld size k' (without_directory m k'.master.blocks ppn) (with_puts puts c)
+  pub removing_leads : MatchesMap size k' (without_directory m k'.master.blocks ppn) (with_puts puts c)
   removing_leads = record {
     known = record {
       chain = refl;

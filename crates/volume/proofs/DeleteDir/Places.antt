@@ -1,4 +1,4 @@
--- Where the other directories stand, and their files, when one with no entry is deleted.
+-- Where the other directories are, and their files, after one with no entry is deleted.
 use Rattle.std.proofs.Common.{◌≡◌, ⊎_elim, ℕ, ◌<◌, List, length, slice_get, Option, Some, None, refl, sym, ap, subst}
 use Rattle.std.proofs.Common.{◌∙◌, arith}
 use Rattle.std.proofs.lemmas.Bool.{cases_eq}
@@ -9,19 +9,20 @@ use Rattle.std.specs.FinMap.{nat_cmp-IsAntisymmetric}
 use Rattle.std.specs.FinMap.Entries.{find}
 use Rattle.words36.specs.declared.names.FileName.{FileName}
 use Rattle.spec_image.specs.declared.put.Put.{Put}
-use Rattle.spec_image.specs.Common.{MasterEntry, name_cmp, get, from_entries}
+use Rattle.spec_image.specs.Common.{SpecMasterEntry, name_cmp, get, from_entries}
 use Rattle.spec_image.proofs.Common.{some_same, get-remove_other, get-removed, get-from_entries}
 use Rattle.directory.specs.Common.{StandsAt}
-use Rattle.volume.specs.Common.{IsDirectoryOf, KnownDirectory, Known, IsWholeMap, prime_in, VolumeCore, IsWholeCore}
+use Rattle.volume.specs.Common.{IsDirectoryOf, CurrentDirectory, CurrentMap, IsWholeMap, prime_in, MemoryMap}
+use Rattle.volume.specs.Common.{IsWholeMemory}
 use Rattle.volume.specs.Common.{prime_at, IsDirectoryRemoved}
-use Rattle.volume.proofs.common.Growing.{one_place}
+use Rattle.volume.proofs.common.Growths.{one_place}
 use Rattle.volume.proofs.common.Holes.{IsAt, one_at, hole_stands, entry_hole}
 use Rattle.volume.proofs.common.Lookups.{first_place}
-use Rattle.volume.proofs.common.Held.{element_at}
+use Rattle.volume.proofs.common.UsedBlocks.{element_at}
 use Rattle.volume.proofs.common.PrimeBlocks.{prime_of_place, prime_nowhere}
 use Rattle.volume.proofs.common.HoleLists.{hole, hole_is, hole_at, hole_other, IsFrom, one_from}
 
-module _ (size : ℕ) (k k' : Known) (ppn : ℕ) (puts : List Put) (whole : IsWholeMap size k)
+module _ (size : ℕ) (k k' : CurrentMap) (ppn : ℕ) (puts : List Put) (whole : IsWholeMap size k)
     (removed : IsDirectoryRemoved size k k' ppn puts) where
   pub within : removed.place < length k.directories
   within = slice_get_within k.directories removed.place removed.directory removed.directory_at
@@ -43,12 +44,12 @@ module _ (size : ℕ) (k k' : Known) (ppn : ℕ) (puts : List Put) (whole : IsWh
       ∙ get-remove_other nat_cmp_total nat_cmp-IsAntisymmetric (from_entries k.master.entries) ppn q other
       ∙ get-from_entries nat_cmp_total k.master.entries q
 
-  -- its directory stands somewhere
-  pub stands_on : (q i : ℕ) (v : ℕ × ℕ) (d : KnownDirectory) → (q ≡ ppn → ⊥)
+  -- its directory is at some place
+  pub stands_on : (q i : ℕ) (v : ℕ × ℕ) (d : CurrentDirectory) → (q ≡ ppn → ⊥)
       → StandsAt nat_cmp k.master.entries q v i → slice_get k.directories i ≡ Some d
       → (j : ℕ) × StandsAt nat_cmp k'.master.entries q v j × (slice_get k'.directories j ≡ Some d)
   stands_on q i v d other there is =
-      let apart : i ≡ removed.place → ⊥ = λ same. other (ap (λ (e : MasterEntry). e.0) (some_same (sym there.is
+      let apart : i ≡ removed.place → ⊥ = λ same. other (ap (λ (e : SpecMasterEntry). e.0) (some_same (sym there.is
       ∙ ap (slice_get k.master.entries) same ∙ removed.there.is))) in
       let p = hole_stands k.master.entries removed.place i (q, v) there.is apart removed.there.within in
       let r = hole_stands k.directories removed.place i d is apart within in
@@ -65,8 +66,8 @@ module _ (size : ℕ) (k k' : Known) (ppn : ℕ) (puts : List Put) (whole : IsWh
         ap (slice_get k'.directories) (place ∙ sym same) ∙ ap (λ l. slice_get l r.0) directories_out ∙ r.2,
       )
 
-  -- what stands somewhere now stood somewhere before, under another number
-  pub stood_at : (j : ℕ) (e : MasterEntry) (d : KnownDirectory) → slice_get k'.master.entries j ≡ Some e
+  -- what is at a place now was at a place before, under another number
+  pub stood_at : (j : ℕ) (e : SpecMasterEntry) (d : CurrentDirectory) → slice_get k'.master.entries j ≡ Some e
       → slice_get k'.directories j ≡ Some d
       → (i : ℕ) × (slice_get k.master.entries i ≡ Some e) × (slice_get k.directories i ≡ Some d) × (e.0 ≡ ppn → ⊥)
   stood_at j e d is at =
@@ -85,7 +86,7 @@ module _ (size : ℕ) (k k' : Known) (ppn : ℕ) (puts : List Put) (whole : IsWh
             ∙ ap (λ (n : ℕ). Some (n, e.1)) is_it) removed.there.is),
       )
 
-  pub was_directory : (j : ℕ) (d : KnownDirectory) → slice_get k'.directories j ≡ Some d
+  pub was_directory : (j : ℕ) (d : CurrentDirectory) → slice_get k'.directories j ≡ Some d
       → (i : ℕ) × (slice_get k.directories i ≡ Some d)
   was_directory j d at =
       let q = hole_at k.directories removed.place j d (ap (λ l. slice_get l j) (sym directories_out) ∙ at) in
@@ -117,17 +118,17 @@ module _ (size : ℕ) (k k' : Known) (ppn : ℕ) (puts : List Put) (whole : IsWh
           prime_of_place k'.master.entries k'.directories now.0 q name v d.0 now.1 now.2
           ∙ sym (prime_of_place k.master.entries k.directories was.0 q name v d.0 was.1 d.1)
 
--- The same of core.
+-- The same of memory.
 
-pub directory_stays : (size : ℕ) (c c' : VolumeCore) (ppn : ℕ) (puts : List Put) → IsWholeCore size c
-    → IsDirectoryRemoved size c.known c'.known ppn puts → (owner : ℕ) (d : KnownDirectory) → IsDirectoryOf c owner d
+pub directory_stays : (size : ℕ) (c c' : MemoryMap) (ppn : ℕ) (puts : List Put) → IsWholeMemory size c
+    → IsDirectoryRemoved size c.known c'.known ppn puts → (owner : ℕ) (d : CurrentDirectory) → IsDirectoryOf c owner d
     → (owner ≡ ppn → ⊥) → IsDirectoryOf c' owner d
 directory_stays size c c' ppn puts whole removed owner d there other =
     let now = stands_on size c.known c'.known ppn puts whole.map removed owner there.0 there.1 d other there.2 there.3
     in
     (now.0, there.1, now.1, now.2)
 
-pub primes_stay : (size : ℕ) (c c' : VolumeCore) (ppn : ℕ) (puts : List Put) → IsWholeCore size c
+pub primes_stay : (size : ℕ) (c c' : MemoryMap) (ppn : ℕ) (puts : List Put) → IsWholeMemory size c
     → IsDirectoryRemoved size c.known c'.known ppn puts → (owner : ℕ) (name : FileName)
     → prime_at c' owner name ≡ prime_at c owner name
 primes_stay size c c' ppn puts whole removed = primes_same size c.known c'.known ppn puts whole.map removed

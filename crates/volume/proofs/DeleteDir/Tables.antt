@@ -1,4 +1,4 @@
--- An empty directory is deleted in core: what each step asks for, and the whole of it from what each step did.
+-- An empty directory is deleted in memory: what each step requires, and the whole of it from what each step did.
 use Rattle.std.proofs.Common.{◌≡◌, ℕ, suc, ◌+◌, ◌-◌, ◌<◌, ◌≤◌, false, List, [], ◌∷◌, ◌++◌, map, length, replicate}
 use Rattle.std.proofs.Common.{take, drop, get_or, swap_remove, option_to_list, is_some, Option, Some, None, sym, ap}
 use Rattle.std.proofs.Common.{subst, ◌∙◌, arith, length-append}
@@ -19,27 +19,27 @@ use Rattle.directory.specs.declared.master.MasterEntry.{MasterEntry}
 use Rattle.directory.specs.Common.{ChainState, IsChain, viewed, PutsChain, removed, last_first}
 use Rattle.volume.specs.declared.live.LiveDirectory.{LiveDirectory}
 use Rattle.volume.specs.declared.live.LiveMap.{LiveMap}
-use Rattle.volume.specs.Common.{master_view, KnownDirectory, IsWholeDirectory, reaches_in_known, VolumeCore}
-use Rattle.volume.specs.Common.{IsWholeCore, core_of, live_directory, Marks, ClearsBits, IsEmptyAt, less_master}
+use Rattle.volume.specs.Common.{master_view, CurrentDirectory, IsWholeDirectory, reaches_in_known, MemoryMap}
+use Rattle.volume.specs.Common.{IsWholeMemory, memory_of, live_directory, Marks, ClearsBits, IsEmptyAt, less_master}
 use Rattle.volume.specs.Common.{RemovesDirectory}
 use Rattle.volume.proofs.common.BlockLists.{marks_then}
 use Rattle.volume.proofs.VolumeStart.FoundDirectories.{mapped_at, all_at}
 use Rattle.volume.proofs.common.Holes.{entry_hole}
-use Rattle.volume.proofs.PublishVersion.MakingCurrent.{part_of, changed_many, index_is}
+use Rattle.volume.proofs.PublishVersion.StepPremises.{part_of, changed_many, index_is}
 use Rattle.volume.proofs.common.Tables.{puts_marked}
 use Rattle.volume.proofs.DeleteFile.Removals.{marks_booked}
-use Rattle.volume.proofs.common.Retiring.{set_inside}
+use Rattle.volume.proofs.common.RetiredVersions.{set_inside}
 use Rattle.volume.proofs.common.HoleLists.{hole_is, hole_length, hole_map}
 use Rattle.directory.proofs.EditedEntries.{swap_removed}
 use Rattle.spec_image.specs.Directories as words
 
--- how many blocks a chain gives back
+-- how many blocks a chain frees
 pub count_left : (o : Option ℕ) (n : ℕ) → n ≡ bool_byte (is_some o) → n ≡ length (option_to_list o)
 count_left None n is = is
 count_left (Some x) n is = is
 
--- a chain gives back what it costs less with an entry less
-pub chain_less : (chain chain' : ChainState words.MasterEntry) (left : List ℕ)
+-- a chain frees as many blocks as it costs less with one entry fewer
+pub chain_less : (chain chain' : ChainState words.SpecMasterEntry) (left : List ℕ)
     → IsChain nat_cmp (IsMasterEntryOf 2) chain
     → IsChain nat_cmp (IsMasterEntryOf 2) chain' → chain.blocks ≡ chain'.blocks ++ left
     → length chain'.entries + 1 ≡ length chain.entries
@@ -59,10 +59,10 @@ seen_out f xs ys i x below is =
     ap (map f) (is ∙ swap_removed xs i x below ∙ sym (hole_is xs i below)) ∙ hole_map f xs i
     ∙ hole_is (map f xs) i (let many = length-map xs f in omega arith)
 
-module _ (m : LiveMap) (whole : IsWholeCore m.table.size (core_of m)) (ppn place : ℕ)
-    (at : IsEmptyAt (core_of m) ppn place) where
-  abbrev c : VolumeCore
-  c = core_of m
+module _ (m : LiveMap) (whole : IsWholeMemory m.table.size (memory_of m)) (ppn place : ℕ)
+    (at : IsEmptyAt (memory_of m) ppn place) where
+  abbrev c : MemoryMap
+  c = memory_of m
 
   pub place_inside : place < length m.directories.items
   place_inside =
@@ -94,7 +94,7 @@ module _ (m : LiveMap) (whole : IsWholeCore m.table.size (core_of m)) (ppn place
     blocks_set n =
         let is = whole.map.bits n in
         let part = part_of (reaches_in_known n) c.known.directories place at.directory at.directory_at in
-        let own = ap (λ (x : KnownDirectory). times n x.chain.blocks) same_directory in
+        let own = ap (λ (x : CurrentDirectory). times n x.chain.blocks) same_directory in
         let parts = ap (times n) blocks ∙ times-append n master.blocks (option_to_list left) in
         omega arith
 
@@ -160,7 +160,7 @@ module _ (m : LiveMap) (whole : IsWholeCore m.table.size (core_of m)) (ppn place
               (in_range : AllByRecursion (IsTarget t3.size) (targets set)
               → AllByRecursion (IsTarget t3.size) (targets puts))
               (few_table : length puts ≤ length set + changed_blocks t3) where
-            pub removes_directory : RemovesDirectory m.table.size c (core_of m') ppn puts
+            pub removes_directory : RemovesDirectory m.table.size c (memory_of m') ppn puts
             removes_directory = record {
               removed = record {
                 place = place;
@@ -190,7 +190,7 @@ module _ (m : LiveMap) (whole : IsWholeCore m.table.size (core_of m)) (ppn place
                     let two = second.bits n in
                     let parts = times-append n (option_to_list left) at.directory.chain.blocks in
                     let own = ap (times n) own_is in
-                    let here = ap (λ (x : KnownDirectory). times n x.chain.blocks) same_directory in
+                    let here = ap (λ (x : CurrentDirectory). times n x.chain.blocks) same_directory in
                     omega arith;
                 held = ap (λ (t : TableState). t.held) table ∙ ap (λ (t : TableState). t.held) unbooked ∙ second.held
                     ∙ first.held;

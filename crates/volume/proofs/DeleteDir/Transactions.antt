@@ -3,18 +3,18 @@ use Rattle.std.proofs.Common.{inr, ℕ, List, refl, subst, arith}
 use Rattle.spec_image.specs.declared.put.Put.{Put}
 use Rattle.spec_image.specs.Common.{without_directory}
 use Rattle.spec_image.proofs.Common.{files_without}
-use Rattle.volume.specs.Common.{VolumeCore, IsWholeCore, directory_removed, RemovesDirectory}
+use Rattle.volume.specs.Common.{MemoryMap, IsWholeMemory, directory_removed, RemovesDirectory}
 use Rattle.volume.proofs.common.Edits.{Nowhere, Anyhow, IsEdit}
-use Rattle.volume.proofs.common.HomesKept.{unmade_low}
+use Rattle.volume.proofs.common.UnchangedHomes.{unmade_low}
 use Rattle.volume.proofs.common.LiveBodies.{bodies_of, dated_of}
-use Rattle.volume.proofs.DeleteDir.Core.{removed_core, puts_in_range, puts_few, not_written}
+use Rattle.volume.proofs.DeleteDir.Memory.{removed_memory, puts_in_range, puts_few, not_written}
 use Rattle.volume.proofs.DeleteDir.Law.{removing_leads}
 
-edit : (size : ℕ) (c c' : VolumeCore) (ppn : ℕ) (puts : List Put) → IsWholeCore size c
+edit : (size : ℕ) (c c' : MemoryMap) (ppn : ℕ) (puts : List Put) → IsWholeMemory size c
     → RemovesDirectory size c c' ppn puts → (layout : ℕ)
     → IsEdit size layout c c' Nowhere Anyhow puts (λ f. directory_removed f ppn)
 edit size c c' ppn puts whole is layout = record {
-  whole = removed_core size c c' ppn puts whole is;
+  whole = removed_memory size c c' ppn puts whole is;
   bodies = λ d. bodies_of d c c' is.live is.pending;
   dated = λ n. dated_of n c c' is.pending;
   quiet = λ n none. absurd none;
@@ -31,8 +31,8 @@ edit size c c' ppn puts whole is layout = record {
   );
 }
 
--- Where core says it of a disk of the size that it knows.
-module _ {size : ℕ} {c c' : VolumeCore} {ppn : ℕ} {puts : List Put} (whole : IsWholeCore size c)
+-- If memory states it of a disk of the size that it knows.
+module _ {size : ℕ} {c c' : MemoryMap} {ppn : ℕ} {puts : List Put} (whole : IsWholeMemory size c)
     (is : RemovesDirectory c.known.table.size c c' ppn puts) where
   pub unmade_sized : RemovesDirectory size c c' ppn puts
   unmade_sized = subst (λ (n : ℕ). RemovesDirectory n c c' ppn puts) whole.map.size_is is

@@ -4,10 +4,10 @@ use Rattle.std.proofs.Common.{drop, Option, Some, None, option_map, refl, sym, a
 use Rattle.std.proofs.lemmas.Option.{slice_get_within}
 use Rattle.std.specs.List.{AllZip, cons_option}
 use Rattle.words36.specs.declared.names.FileName.{FileName}
-use Rattle.spec_image.specs.Common.{FileEntry, IsFileEntry, name_cmp, remove, from_entries}
+use Rattle.spec_image.specs.Common.{SpecFileEntry, IsFileEntry, name_cmp, remove, from_entries}
 use Rattle.spec_image.proofs.Common.{some_same}
 use Rattle.directory.specs.Common.{ChainState, IsChain, StandsAt, removed}
-use Rattle.volume.specs.Common.{KnownVersion, KnownDirectory, IsWholeDirectory, reaches_in_entries, cost_of_version}
+use Rattle.volume.specs.Common.{CurrentVersion, CurrentDirectory, IsWholeDirectory, reaches_in_entries, cost_of_version}
 use Rattle.volume.specs.Common.{as_known, slot, IsCurrent, known_at, IsEntryRemoved}
 use Rattle.volume.specs.declared.live.LiveVersion.{LiveVersion}
 use Rattle.volume.proofs.VolumeStart.FoundDirectories.{zip_at}
@@ -54,7 +54,7 @@ zip_length P (x ∷ xs) (y ∷ ys) zip = ap suc (zip_length P xs ys zip.1)
 -- The keys.
 
 -- each key's version is known
-all_known : (live : List (Option LiveVersion)) (es : List FileEntry) (keys : List ℕ) → AreCurrent live es keys
+all_known : (live : List (Option LiveVersion)) (es : List SpecFileEntry) (keys : List ℕ) → AreCurrent live es keys
     → map (known_at live) keys ≡ map Some (filter_map (known_at live) keys)
 all_known live [] [] zip = refl
 all_known live [] (k ∷ keys) zip = absurd zip
@@ -64,7 +64,7 @@ all_known live (e ∷ es) (k ∷ keys) zip =
     let rest = all_known live es keys zip.1 in
     (λ j. now j ∷ rest j) ∙ ap (map Some) (sym (knowns_first live k e.1 keys zip.0))
 
-module _ (live live' : List (Option LiveVersion)) (es : List FileEntry) (keys : List ℕ) (i key : ℕ)
+module _ (live live' : List (Option LiveVersion)) (es : List SpecFileEntry) (keys : List ℕ) (i key : ℕ)
     (zip : AllZip (λ e k. IsCurrent live k e.1) es keys) (at : slice_get keys i ≡ Some key)
     (only : (j : ℕ) → slice_get keys j ≡ Some key → j ≡ i)
     (others : (k : ℕ) → (k ≡ key → ⊥) → slot live' k ≡ slot live k) where
@@ -72,7 +72,7 @@ module _ (live live' : List (Option LiveVersion)) (es : List FileEntry) (keys : 
   below = slice_get_within keys i key at
 
   many : length es ≡ length keys
-  many = zip_length (λ (e : FileEntry) (k : ℕ). IsCurrent live k e.1) es keys zip
+  many = zip_length (λ (e : SpecFileEntry) (k : ℕ). IsCurrent live k e.1) es keys zip
 
   -- the others' versions stay
   same_slot : (j k : ℕ) → slice_get (hole i keys) j ≡ Some k → slot live' k ≡ slot live k
@@ -90,7 +90,7 @@ module _ (live live' : List (Option LiveVersion)) (es : List FileEntry) (keys : 
 
   pub removed_keyed : AllZip (λ e k. IsCurrent live' k e.1) (hole i es) (hole i keys)
   removed_keyed =
-      zip_places (λ (e : FileEntry) (k : ℕ). IsCurrent live' k e.1) (hole i es) (hole i keys)
+      zip_places (λ (e : SpecFileEntry) (k : ℕ). IsCurrent live' k e.1) (hole i es) (hole i keys)
       (let a = hole_length es i (let b = below in let m = many in omega arith) in let b = hole_length keys i below in
       let m = many in omega arith)
       (λ j e k here there.
@@ -98,20 +98,20 @@ module _ (live live' : List (Option LiveVersion)) (es : List FileEntry) (keys : 
       let q = hole_at keys i j k there in
       let from : IsFrom (length keys) i j p.0 = subst (λ (n : ℕ). IsFrom n i j p.0) many p.1 in
       let same : p.0 ≡ q.0 = one_from (length keys) i j p.0 q.0 from q.1 in
-      let pair = zip_at (λ (x : FileEntry) (n : ℕ). IsCurrent live n x.1) es keys q.0 k zip q.2 in
+      let pair = zip_at (λ (x : SpecFileEntry) (n : ℕ). IsCurrent live n x.1) es keys q.0 k zip q.2 in
       let entry : pair.0 ≡ e = some_same (sym pair.1 ∙ ap (slice_get es) (sym same) ∙ p.2) in
       let is = pair.2 in
       record {
         version = is.version;
         there = same_slot j k there ∙ is.there;
-        at = is.at ∙ ap (λ (x : FileEntry). x.1) entry;
+        at = is.at ∙ ap (λ (x : SpecFileEntry). x.1) entry;
         current = is.current;
       })
 
 -- The entry.
 
-pub entry_removed : (size : ℕ) (d : KnownDirectory) (chain : ChainState FileEntry) (name : FileName) (w i : ℕ)
-    (u : KnownVersion) → IsWholeDirectory size d → StandsAt name_cmp d.chain.entries name w i
+pub entry_removed : (size : ℕ) (d : CurrentDirectory) (chain : ChainState SpecFileEntry) (name : FileName) (w i : ℕ)
+    (u : CurrentVersion) → IsWholeDirectory size d → StandsAt name_cmp d.chain.entries name w i
     → slice_get d.versions i ≡ Some u → chain.entries ≡ removed name_cmp d.chain.entries name
     → IsChain name_cmp IsFileEntry chain
     → from_entries {R = name_cmp} chain.entries ≡ remove (from_entries d.chain.entries) name
@@ -120,14 +120,14 @@ entry_removed size d chain name w i u whole stands was entries is_chain names = 
   was = (i, stands, was);
   chain = is_chain;
   aligned = let a = hole_length d.versions i within in let b = hole_length d.chain.entries i stands.within in
-      let aligned = whole.aligned in let same = ap (λ (es : List FileEntry). length es) set in omega arith;
+      let aligned = whole.aligned in let same = ap (λ (es : List SpecFileEntry). length es) set in omega arith;
   count = let b = hole_length d.chain.entries i stands.within in
-      let same = ap (λ (es : List FileEntry). length es) set in omega arith;
+      let same = ap (λ (es : List SpecFileEntry). length es) set in omega arith;
   names = names;
   each = λ j e x here there. by_place j e x (ap (λ es. slice_get es j) (sym set) ∙ here) there;
   reaches = λ n.
       let all = hole_reaches n d.chain.entries d.versions i (name, w) u whole.aligned stands.is was in
-      let same = ap (λ (es : List FileEntry). reaches_in_entries n es (hole i d.versions)) set in
+      let same = ap (λ (es : List SpecFileEntry). reaches_in_entries n es (hole i d.versions)) set in
       omega arith;
   cost = hole_total cost_of_version d.versions i u was;
 }
@@ -138,7 +138,7 @@ entry_removed size d chain name w i u whole stands was entries is_chain names = 
     within : i < length d.versions
     within = slice_get_within d.versions i u was
 
-    by_place : (j : ℕ) (e : FileEntry) (x : KnownVersion) → slice_get (hole i d.chain.entries) j ≡ Some e
+    by_place : (j : ℕ) (e : SpecFileEntry) (x : CurrentVersion) → slice_get (hole i d.chain.entries) j ≡ Some e
         → slice_get (hole i d.versions) j ≡ Some x
         → (e.0 ≡ name → ⊥) × (k : ℕ) × (slice_get d.chain.entries k ≡ Some e) × (slice_get d.versions k ≡ Some x)
     by_place j e x here there =

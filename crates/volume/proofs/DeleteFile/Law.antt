@@ -1,4 +1,4 @@
--- A file is deleted: what the puts make of what is held.
+-- A file is deleted: what the puts make of the disk's map.
 use Rattle.std.proofs.Common.{◌≡◌, ℕ, ◌+◌, ◌<◌, ◌≤◌, ◌⊎◌, inl, inr, ⊎_elim, List, ◌++◌, length, Some, option_map}
 use Rattle.std.proofs.Common.{slice_get, refl, sym, ◌∙◌, ap, subst, arith}
 use Rattle.std.specs.List.{AllByRecursion}
@@ -9,7 +9,8 @@ use Rattle.blockdisk.specs.Common.{Contents}
 use Rattle.spec_image.specs.declared.put.Put.{Put}
 use Rattle.spec_image.specs.Common.{times, get, remove, from_entries, head_or_zero, table_blocks, table_start}
 use Rattle.spec_image.specs.Common.{space_start, log_images, IsTarget, targets, with_puts, table_bit, master_word}
-use Rattle.spec_image.specs.Common.{FileEntry, file_words, IsFileEntry, StoredFile, StoredDirectory, DiskMap, HasMap}
+use Rattle.spec_image.specs.Common.{SpecFileEntry, file_words, IsFileEntry, StoredFile, StoredDirectory, DiskMap}
+use Rattle.spec_image.specs.Common.{HasMap}
 use Rattle.spec_image.specs.Common.{directory_of, files_of, reaches_in_file, reaches, TableFollows, IsFileChain}
 use Rattle.spec_image.specs.Common.{primes_of, with_directory, InSpace}
 use Rattle.spec_image.specs.Changes.{without_file}
@@ -19,15 +20,16 @@ use Rattle.spec_image.proofs.ChangedFiles.{files_removed as files_of_removed}
 use Rattle.alloctab.specs.Common.{bit}
 use Rattle.changeset.specs.Common.{IsPutIn, some_or_none}
 use Rattle.directory.specs.Common.{IsOn, chain_stands, on_kept}
-use Rattle.volume.specs.Common.{KnownVersion, Known, IsKnownFile, IsKnownDirectory, IsHeld, IsWholeDirectory}
+use Rattle.volume.specs.Common.{CurrentVersion, CurrentMap, AgreesOnFile, AgreesOnDirectory, MatchesMap}
+use Rattle.volume.specs.Common.{IsWholeDirectory}
 use Rattle.volume.specs.Common.{IsWholeMap, blocks_reached, files_without, files_removed, IsRemoved}
 use Rattle.volume.proofs.VolumeStart.FoundDirectories.{all_at}
 use Rattle.volume.proofs.common.Puts.{not_put}
-use Rattle.volume.proofs.common.Held.{reached_in_space}
+use Rattle.volume.proofs.common.UsedBlocks.{reached_in_space}
 use Rattle.volume.proofs.common.Lists.{head_front}
 use Rattle.volume.proofs.common.TableBits.{bits_same}
 use Rattle.volume.proofs.common.OneDirectory.{directory_leads}
-use Rattle.volume.proofs.common.Reaching.{file_times}
+use Rattle.volume.proofs.common.ReachedBlocks.{file_times}
 
 -- The map without the file.
 
@@ -45,7 +47,7 @@ removed_files m ppn stored chain name at =
 
 -- The puts.
 
-module _ (size : ℕ) (k k' : Known) (ppn : ℕ) (name : FileName) (old : ℕ × KnownVersion) (puts : List Put)
+module _ (size : ℕ) (k k' : CurrentMap) (ppn : ℕ) (name : FileName) (old : ℕ × CurrentVersion) (puts : List Put)
     (whole : IsWholeMap size k) (is : IsRemoved size k k' ppn name old puts) where
   was_whole : IsWholeDirectory size is.directory
   was_whole = all_at (IsWholeDirectory size) k.directories is.place is.directory whole.each is.directory_at
@@ -80,26 +82,26 @@ module _ (size : ℕ) (k k' : Known) (ppn : ℕ) (name : FileName) (old : ℕ ×
   pub removed_few : length puts ≤ log_images size
   removed_few = let a = is.put.few in let b = is.few in omega arith
 
-  -- a block of the free space isn't put, but for those of the directory's chain
+  -- a block of the free space isn't put, except those of the directory's chain
   pub not_removed : (n : ℕ) → space_start size ≤ n → times n is.directory'.chain.blocks ≡ 0 → IsPutIn puts n → ⊥
   not_removed n from none = not_put puts n (λ c. stays c n (inr from) none)
 
   -- In the directory that the map has there.
 
   module _ (m : DiskMap) (stored : StoredDirectory) (stored_at : get m.directories ppn ≡ Some stored) (c : Contents)
-      (held : IsHeld size k m c) where
+      (held : MatchesMap size k m c) where
     -- which blocks are meant
 
-    stored_is : IsKnownDirectory is.directory stored
+    stored_is : AgreesOnDirectory is.directory stored
     stored_is =
         let found = held.known.each is.place (ppn, is.word) is.directory is.there.is is.directory_at in
-        subst (IsKnownDirectory is.directory) (some_same (sym found.1 ∙ stored_at)) found.2
+        subst (AgreesOnDirectory is.directory) (some_same (sym found.1 ∙ stored_at)) found.2
 
     stored_times : (n : ℕ) → times n stored.chain ≡ times n is.directory.chain.blocks
     stored_times n = ap (times n) stored_is.chain
 
     -- the file
-    file : IsKnownFile stored (name, old.0) old.1
+    file : AgreesOnFile stored (name, old.0) old.1
     file = let named = is.entry.was in stored_is.each named.0 (name, old.0) old.1 named.1.is named.2
 
     abbrev f : StoredFile
@@ -171,24 +173,24 @@ module _ (size : ℕ) (k k' : Known) (ppn : ℕ) (name : FileName) (old : ℕ ×
         })
         follows
 
-    -- core
+    -- memory
 
-    each_file : (i : ℕ) (e : FileEntry) (u : KnownVersion) → slice_get is.directory'.chain.entries i ≡ Some e
+    each_file : (i : ℕ) (e : SpecFileEntry) (u : CurrentVersion) → slice_get is.directory'.chain.entries i ≡ Some e
         → slice_get is.directory'.versions i ≡ Some u
-        → IsKnownFile (without_file stored is.directory'.chain.blocks name) e u
+        → AgreesOnFile (without_file stored is.directory'.chain.blocks name) e u
     each_file i e u here also =
         let kept = is.entry.each i e u here also in
         let found = stored_is.each kept.1 e u kept.2 kept.3 in
         (found.0, get-remove_other name_total name_exact stored.files name e.0 kept.0 ∙ found.1, found.2)
 
-    new_known : IsKnownDirectory is.directory' (without_file stored is.directory'.chain.blocks name)
+    new_known : AgreesOnDirectory is.directory' (without_file stored is.directory'.chain.blocks name)
     new_known = record {
       chain = refl;
       names = map_values-remove name_total name_exact (λ x. x.prime) stored.files name ∙ sym primes;
       each = each_file;
     }
 
-    pub removing_leads_in : IsHeld size k' (map_removed m ppn stored is.directory'.chain.blocks name)
+    pub removing_leads_in : MatchesMap size k' (map_removed m ppn stored is.directory'.chain.blocks name)
         (with_puts puts c)
     removing_leads_in = directory_leads size k k' m ppn is.place is.word is.directory is.directory' whole is.there
         is.directory_at is.master is.directories stored (without_file stored is.directory'.chain.blocks name) stored_at

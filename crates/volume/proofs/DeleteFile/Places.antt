@@ -1,4 +1,4 @@
--- What a deletion makes of the places, and of the versions that readers hold.
+-- What a deletion makes of the places, and of the pinned versions.
 use Rattle.std.proofs.Common.{◌≡◌, ℕ, ◌<◌, Bool, false, List, slice_set, Some, None, sym, ap, ◌∙◌, arith, ⊎_elim}
 use Rattle.std.proofs.lemmas.Bool.{cases_eq}
 use Rattle.std.specs.FinMap.Entries.{find}
@@ -7,8 +7,8 @@ use Rattle.spec_image.specs.declared.put.Put.{Put}
 use Rattle.spec_image.specs.Common.{name_cmp, get, remove, from_entries}
 use Rattle.spec_image.proofs.Common.{some_same, some_none, get-removed, get-remove_other, get-from_entries}
 use Rattle.spec_image.proofs.Common.{name_total, name_exact}
-use Rattle.volume.specs.Common.{Known, KnownVersion, KnownDirectory, prime_in, IsDirectoryOf, VolumeCore, slot}
-use Rattle.volume.specs.Common.{as_known, IsCurrentAt, IsWholeCore, IsKeyOf, prime_at, IsRemoved, RemovesFile}
+use Rattle.volume.specs.Common.{CurrentMap, CurrentVersion, CurrentDirectory, prime_in, IsDirectoryOf, MemoryMap, slot}
+use Rattle.volume.specs.Common.{as_known, IsCurrentAt, IsWholeMemory, IsKeyOf, prime_at, IsRemoved, RemovesFile}
 use Rattle.volume.specs.declared.live.LiveVersion.{LiveVersion}
 use Rattle.volume.proofs.BeginVersion.Beginnings.{same_directory}
 use Rattle.volume.proofs.common.PrimeBlocks.{prime_of_place, prime_elsewhere, prime_set}
@@ -16,17 +16,17 @@ use Rattle.volume.proofs.PublishVersion.Places.{not_zero}
 
 -- The map.
 
-module _ (size : ℕ) (k k' : Known) (ppn : ℕ) (name : FileName) (old : ℕ × KnownVersion) (puts : List Put)
+module _ (size : ℕ) (k k' : CurrentMap) (ppn : ℕ) (name : FileName) (old : ℕ × CurrentVersion) (puts : List Put)
     (is : IsRemoved size k k' ppn name old puts) where
-  abbrev d : KnownDirectory
+  abbrev d : CurrentDirectory
   d = is.directory
 
-  -- where the directories are those from before but for one
+  -- if the directories are those from before except one
   goes : (q : ℕ) (n : FileName) → prime_in k'.master.entries k'.directories q n
       ≡ prime_in k.master.entries (slice_set k.directories is.place is.directory') q n
   goes q n = λ i. prime_in (is.master i).entries (is.directories i) q n
 
-  -- the directory has the names that it had, but for this one
+  -- the directory has the names that it had, except this one
   in_directory : (n : FileName) → prime_in k'.master.entries k'.directories ppn n
       ≡ get (remove (from_entries {R = name_cmp} d.chain.entries) name) n
   in_directory n =
@@ -57,9 +57,9 @@ module _ (size : ℕ) (k k' : Known) (ppn : ℕ) (name : FileName) (old : ℕ ×
       (λ other. goes q n ∙ prime_elsewhere k.master.entries k.directories is.place ppn q n is.word is.directory'
       is.there.is other) (cases_eq q ppn)
 
--- Core.
+-- Memory.
 
-module _ (size : ℕ) (c c' : VolumeCore) (ppn : ℕ) (name : FileName) (key : ℕ) (v : LiveVersion) (puts : List Put)
+module _ (size : ℕ) (c c' : MemoryMap) (ppn : ℕ) (name : FileName) (key : ℕ) (v : LiveVersion) (puts : List Put)
     (is : RemovesFile size c c' ppn name key v puts) where
   -- the version is the one of the place
   pub removed_current : IsCurrentAt c ppn name v
@@ -76,7 +76,7 @@ module _ (size : ℕ) (c c' : VolumeCore) (ppn : ℕ) (name : FileName) (key : �
   pub primes_gone : prime_at c' ppn name ≡ None
   primes_gone = removed_here size c.known c'.known ppn name (v.at, as_known v) puts is.removed
 
-  -- a version that readers hold is still there
+  -- a pinned version is still there
   pub removed_readers : (k : ℕ) (u : LiveVersion) → slot c.live k ≡ Some u → 0 < u.readers
       → (b : Bool) × (slot c'.live k ≡ Some (record u { is_current = b }))
   removed_readers k u there read = ⊎_elim
@@ -91,10 +91,10 @@ module _ (size : ℕ) (c c' : VolumeCore) (ppn : ℕ) (name : FileName) (key : �
       (λ other. (u.is_current, is.others k other ∙ there)) (cases_eq k key)
 
 -- A place whose version has a key has a file.
-pub is_named : (size : ℕ) (c : VolumeCore) → IsWholeCore size c → (ppn : ℕ) (name : FileName) (key : ℕ)
-    → IsKeyOf c ppn name key → (d : KnownDirectory) → IsDirectoryOf c ppn d
+pub is_named : (size : ℕ) (c : MemoryMap) → IsWholeMemory size c → (ppn : ℕ) (name : FileName) (key : ℕ)
+    → IsKeyOf c ppn name key → (d : CurrentDirectory) → IsDirectoryOf c ppn d
     → find name_cmp name d.chain.entries ≡ None → ⊥
 is_named size c whole ppn name key is d there none =
     let same : is.directory ≡ d = same_directory size c ppn there.0 there.1 is.directory d whole
     (is.place, is.word, is.there, is.directory_at) there.2.is there.3 in
-    some_none (sym is.at.found ∙ ap (λ (x : KnownDirectory). find name_cmp name x.chain.entries) same ∙ none)
+    some_none (sym is.at.found ∙ ap (λ (x : CurrentDirectory). find name_cmp name x.chain.entries) same ∙ none)

@@ -1,4 +1,4 @@
--- A file is deleted in core: what each step asks for, and the whole of it from what each step did.
+-- A file is deleted in memory: what each step requires, and the whole of it from what each step did.
 use Rattle.std.proofs.Common.{◌≡◌, ℕ, zero, suc, ◌+◌, ◌-◌, ◌^◌, ◌<◌, ◌≤◌, Bool, true, false, if◌then◌else◌, List, []}
 use Rattle.std.proofs.Common.{◌∷◌, ◌++◌, map, filter_map, length, replicate, take, drop, slice_get, slice_set}
 use Rattle.std.proofs.Common.{slice_index, get_or, Option, Some, None, IfSome, IsSome, refl, sym, ap, subst, ◌∙◌}
@@ -11,7 +11,7 @@ use Rattle.std.specs.FinMap.Entries.{find}
 use Rattle.blockdisk.specs.Common.{Contents}
 use Rattle.words36.specs.declared.names.FileName.{FileName}
 use Rattle.spec_image.specs.declared.put.Put.{Put}
-use Rattle.spec_image.specs.Common.{directory_cost, cost_of_blocks, FileEntry, file_words, IsFileEntry, name_cmp}
+use Rattle.spec_image.specs.Common.{directory_cost, cost_of_blocks, SpecFileEntry, file_words, IsFileEntry, name_cmp}
 use Rattle.spec_image.specs.Common.{IsTarget, targets, with_puts, total, times, remove, from_entries, table_blocks}
 use Rattle.spec_image.specs.Common.{most_blocks, growth}
 use Rattle.spec_image.proofs.Common.{some_same, some_none, times-append}
@@ -23,20 +23,21 @@ use Rattle.volume.specs.declared.live.LiveDirectory.{LiveDirectory}
 use Rattle.volume.specs.declared.live.LiveMap.{LiveMap}
 use Rattle.volume.specs.declared.live.LiveVersion.{LiveVersion}
 use Rattle.volume.specs.declared.pending.PendingVersion.{PendingVersion}
-use Rattle.volume.specs.Common.{entries_with, file_view, master_view, KnownDirectory, blocks_reached}
+use Rattle.volume.specs.Common.{entries_with, file_view, master_view, CurrentDirectory, blocks_reached}
 use Rattle.volume.specs.Common.{reaches_in_known, cost_of_version, cost_of_directory, IsWholeVersion}
-use Rattle.volume.specs.Common.{IsWholeDirectory, VolumeCore, slot, as_known, IsCurrent, IsKeyed, held_reaches}
-use Rattle.volume.specs.Common.{held_cost, cost_beyond, pending_reaches, pending_cost, creates, IsWholeCore, core_of}
+use Rattle.volume.specs.Common.{IsWholeDirectory, MemoryMap, slot, as_known, IsCurrent, IsKeyed, pinned_reaches}
+use Rattle.volume.specs.Common.{pinned_cost, cost_beyond, pending_reaches, pending_cost, creates, IsWholeMemory}
+use Rattle.volume.specs.Common.{memory_of}
 use Rattle.volume.specs.Common.{known_at, live_directory, IsKeyOf, Marks, ClearsBits, MayRetire, Retires, live_left}
 use Rattle.volume.specs.Common.{IsEntryRemoved, RemovesFile}
 use Rattle.volume.proofs.BeginVersion.Beginnings.{same_directory}
 use Rattle.volume.proofs.common.BlockLists.{marks_then}
-use Rattle.volume.proofs.common.Costing.{few_blocks}
+use Rattle.volume.proofs.common.MapCosts.{few_blocks}
 use Rattle.volume.proofs.VolumeStart.FoundDirectories.{mapped_at, zip_at, all_at}
-use Rattle.volume.proofs.common.Growing.{cost_rises, entries_few}
+use Rattle.volume.proofs.common.Growths.{cost_rises, entries_few}
 use Rattle.volume.proofs.common.LiveLookups.{as_many, kept_at, standing_at}
-use Rattle.volume.proofs.common.LiveTotals.{core_holds}
-use Rattle.volume.proofs.PublishVersion.MakingCurrent.{part_of, share_within, changed_many}
+use Rattle.volume.proofs.common.LiveTotals.{memory_holds}
+use Rattle.volume.proofs.PublishVersion.StepPremises.{part_of, share_within, changed_many}
 use Rattle.volume.proofs.common.Tables.{puts_marked}
 use Rattle.volume.proofs.PinVersion.Pins.{current_stands}
 use Rattle.volume.proofs.PublishVersion.Keys.{keys_apart, made_current_directories, made_current_keyed}
@@ -44,19 +45,19 @@ use Rattle.volume.proofs.DeleteFile.Entries.{removed_known, removed_keyed, entry
 use Rattle.volume.proofs.common.HoleLists.{hole, hole_is, removed_is}
 use Rattle.volume.proofs.common.Lists.{set_there}
 
--- No block is held more often than a number of 32 bits counts.
+-- No block is held more often than 32 bits can count.
 
-uncosted : (n : ℕ) (v : LiveVersion) → held_cost (Some v) ≡ 0 → held_reaches n (Some v) ≡ 0
+uncosted : (n : ℕ) (v : LiveVersion) → pinned_cost (Some v) ≡ 0 → pinned_reaches n (Some v) ≡ 0
 uncosted n v none = by v.is_current refl
   where
-    by : (b : Bool) → v.is_current ≡ b → held_reaches n (Some v) ≡ 0
+    by : (b : Bool) → v.is_current ≡ b → pinned_reaches n (Some v) ≡ 0
     by true is = ap (λ (b : Bool). if b then 0 else times n (blocks_reached v.at v.version)) is
     by false is =
-        let here : held_cost (Some v) ≡ cost_of_blocks (length v.version.blocks) = ap (λ (b : Bool). if b then 0
+        let here : pinned_cost (Some v) ≡ cost_of_blocks (length v.version.blocks) = ap (λ (b : Bool). if b then 0
         else cost_of_blocks (length v.version.blocks)) is in
         absurd (omega arith)
 
-none_held : (n : ℕ) (live : List (Option LiveVersion)) → total held_cost live ≡ 0 → total (held_reaches n) live ≡ 0
+none_held : (n : ℕ) (live : List (Option LiveVersion)) → total pinned_cost live ≡ 0 → total (pinned_reaches n) live ≡ 0
 none_held n [] none = refl
 none_held n (None ∷ os) none = let rest = none_held n os (omega arith) in omega arith
 none_held n (Some v ∷ os) none =
@@ -70,11 +71,11 @@ none_waits n [] none = refl
 none_waits n (None ∷ os) none = let rest = none_waits n os (omega arith) in omega arith
 none_waits n (Some p ∷ os) none = absurd (omega arith)
 
--- with anything beyond the files no more is booked than twice the disk; and nothing is held where there is nothing
-pub holds_few : (size : ℕ) (c : VolumeCore) → IsWholeCore size c → (n : ℕ) → holds c.known.table n + 1 < 2 ^ 32
+-- with anything beyond the files no more is booked than twice the disk; and nothing is held if there is nothing
+pub holds_few : (size : ℕ) (c : MemoryMap) → IsWholeMemory size c → (n : ℕ) → holds c.known.table n + 1 < 2 ^ 32
 holds_few size c whole n = ⊎_elim
     (λ (some : 0 < cost_beyond c).
-    let few = core_holds size c whole n in
+    let few = memory_holds size c whole n in
     let most = whole.beyond some in
     let large = whole.map.volume.large in
     omega arith)
@@ -91,7 +92,7 @@ index_of (y ∷ xs) (suc i) x is = index_of xs i x is
 
 -- What is put of its chain is what is put first of all.
 
-pub put_first : (d d' : ChainState FileEntry) (old new : List Put) → old ≡ [] → PutsChain file_words d d' old new
+pub put_first : (d d' : ChainState SpecFileEntry) (old new : List Put) → old ≡ [] → PutsChain file_words d d' old new
     → PutsChain file_words d d' [] new
 put_first d d' old new none put = subst (λ (before : List Put). PutsChain file_words d d' before new) none put
 
@@ -106,9 +107,9 @@ cost_of_last n m e less one is =
     let down : directory_cost (e + m) ≡ directory_cost (n + m - 1) = ap directory_cost (omega arith) in
     omega arith
 
--- what a directory grows by, where it has an entry less
+-- what a directory grows by, if it has one entry fewer
 pub grown_at : (m : LiveMap) (place : ℕ) (d d' : LiveDirectory) → slice_get m.directories.items place ≡ Some d
-    → (ppn less : ℕ) → ((x : KnownDirectory) → slice_get (map (live_directory m.versions.slots)
+    → (ppn less : ℕ) → ((x : CurrentDirectory) → slice_get (map (live_directory m.versions.slots)
     (slice_set m.directories.items place d')) place ≡ Some x
     → less ≡ growth (length x.chain.entries + total (creates ppn) m.pending.slots))
     → less ≡ growth (length (map file_view d'.chain.entries) + total (creates ppn) m.pending.slots)
@@ -127,13 +128,13 @@ marks_booked t u n marks = record {
 
 -- One directory, at its place, and a file of it.
 
-module _ (m : LiveMap) (whole : IsWholeCore m.table.size (core_of m)) (ppn : ℕ) (name : FileName) (place : ℕ) (w : ℕ
+module _ (m : LiveMap) (whole : IsWholeMemory m.table.size (memory_of m)) (ppn : ℕ) (name : FileName) (place : ℕ) (w : ℕ
     × ℕ) (stands : StandsAt nat_cmp (map master_view m.master.entries) ppn w place)
     (d : LiveDirectory) (at : slice_get m.directories.items place ≡ Some d) where
-  abbrev c : VolumeCore
-  c = core_of m
+  abbrev c : MemoryMap
+  c = memory_of m
 
-  abbrev dk : KnownDirectory
+  abbrev dk : CurrentDirectory
   dk = live_directory m.versions.slots d
 
   known_here : slice_get c.known.directories place ≡ Some dk
@@ -145,7 +146,7 @@ module _ (m : LiveMap) (whole : IsWholeCore m.table.size (core_of m)) (ppn : ℕ
   keyed_here : IsKeyed c.live dk d.keys.items
   keyed_here =
       let pair = zip_at (IsKeyed c.live) c.known.directories c.keys place d.keys.items whole.keyed keys_here in
-      subst (λ (x : KnownDirectory). IsKeyed c.live x d.keys.items) (some_same (sym pair.1 ∙ known_here)) pair.2
+      subst (λ (x : CurrentDirectory). IsKeyed c.live x d.keys.items) (some_same (sym pair.1 ∙ known_here)) pair.2
 
   whole_here : IsWholeDirectory m.table.size dk
   whole_here = all_at (IsWholeDirectory m.table.size) c.known.directories place dk whole.map.each known_here
@@ -158,7 +159,7 @@ module _ (m : LiveMap) (whole : IsWholeCore m.table.size (core_of m)) (ppn : ℕ
       let is = file.1 in
       let same = same_directory m.table.size c ppn place w is.directory dk whole
       (is.place, is.word, is.there, is.directory_at) stands.is known_here in
-      subst (λ (x : KnownDirectory). IsSome (find name_cmp name x.chain.entries)) same
+      subst (λ (x : CurrentDirectory). IsSome (find name_cmp name x.chain.entries)) same
       (subst IsSome (sym is.at.found) refl)
 
   module _ (i v k : ℕ) (named : StandsAt name_cmp (map file_view d.chain.entries) name v i)
@@ -166,7 +167,7 @@ module _ (m : LiveMap) (whole : IsWholeCore m.table.size (core_of m)) (ppn : ℕ
     pub had : (u : LiveVersion) × (slot m.versions.slots k ≡ Some u) × (u.is_current ≡ true) × (u.at ≡ v)
         × (slice_get dk.versions i ≡ Some (as_known u))
     had =
-        let pair = zip_at (λ (e : FileEntry) (n : ℕ). IsCurrent c.live n e.1) dk.chain.entries d.keys.items
+        let pair = zip_at (λ (e : SpecFileEntry) (n : ℕ). IsCurrent c.live n e.1) dk.chain.entries d.keys.items
         i k keyed_here key_at in
         let entry : pair.0 ≡ (name, v) = some_same (sym pair.1 ∙ named.is) in
         let current = pair.2 in
@@ -176,7 +177,7 @@ module _ (m : LiveMap) (whole : IsWholeCore m.table.size (core_of m)) (ppn : ℕ
           current.version,
           current.there,
           current.current,
-          current.at ∙ ap (λ (e : FileEntry). e.1) entry,
+          current.at ∙ ap (λ (e : SpecFileEntry). e.1) entry,
           kept.2 ∙ ap (λ (x : LiveVersion). Some (as_known x)) same,
         )
 
@@ -239,14 +240,14 @@ module _ (m : LiveMap) (whole : IsWholeCore m.table.size (core_of m)) (ppn : ℕ
           let b = length-map d'.chain.entries file_view in
           omega arith
 
-      pub grows_few : (live : List (Option LiveVersion)) (x : KnownDirectory)
+      pub grows_few : (live : List (Option LiveVersion)) (x : CurrentDirectory)
           → slice_get (map (live_directory live) (slice_set m.directories.items place d')) place ≡ Some x
           → length x.chain.entries + total (creates ppn) c.pending < 2 ^ 64
       grows_few live x is =
           let there = mapped_at (live_directory live) (slice_set m.directories.items place d') place d'
           (set_there m.directories.items place d d' at) in
           let same : live_directory live d' ≡ x = some_same (sym there ∙ is) in
-          let many = ap (λ (y : KnownDirectory). length y.chain.entries) same in
+          let many = ap (λ (y : CurrentDirectory). length y.chain.entries) same in
           let b = length-map d'.chain.entries file_view in
           let a = length-map d.chain.entries file_view in
           let one = fewer in
@@ -286,7 +287,7 @@ module _ (m : LiveMap) (whole : IsWholeCore m.table.size (core_of m)) (ppn : ℕ
                 let cost = less_cost in
                 omega arith
 
-            -- The booking of what the directory costs less is taken back, and the table's blocks that changed are put.
+            -- What the directory costs less is unbooked, and the table's blocks that changed are put.
             module _ (t3 : TableState) (unbooked : t3 ≡ record t2 { booked = t2.booked - less }) (set : List Put)
                 (put_chain : PutsChain file_words (viewed file_view d.chain) (viewed file_view d'.chain) [] set)
                 (few : length set ≤ 2) where
@@ -347,7 +348,7 @@ module _ (m : LiveMap) (whole : IsWholeCore m.table.size (core_of m)) (ppn : ℕ
                 entered = made_current_directories m.table.size m whole m'.versions.slots place d d' at (Some (k, u))
                     (i, key_at) stay
 
-                pub removes_file : RemovesFile m.table.size c (core_of m') ppn name k u puts
+                pub removes_file : RemovesFile m.table.size c (memory_of m') ppn name k u puts
                 removes_file = record {
                   removed = record {
                     place = place;
@@ -360,7 +361,7 @@ module _ (m : LiveMap) (whole : IsWholeCore m.table.size (core_of m)) (ppn : ℕ
                     directories = ap (map (live_directory m'.versions.slots)) directories ∙ entered;
                     left = block;
                     blocks = blocks;
-                    entry = subst (λ (x : KnownDirectory). IsEntryRemoved dk x name (u.at, as_known u)) (sym known)
+                    entry = subst (λ (x : CurrentDirectory). IsEntryRemoved dk x name (u.at, as_known u)) (sym known)
                         taken_out;
                     chain_puts = set;
                     put_chain = put_chain;

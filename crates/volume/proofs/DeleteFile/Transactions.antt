@@ -8,20 +8,20 @@ use Rattle.spec_image.specs.declared.put.Put.{Put}
 use Rattle.spec_image.specs.Common.{times}
 use Rattle.spec_image.proofs.Common.{some_same, some_none}
 use Rattle.alloctab.specs.Common.{IsTable}
-use Rattle.volume.specs.Common.{VolumeCore, slot, pending_at, as_known, IsWholeCore, files_removed, RemovesFile}
+use Rattle.volume.specs.Common.{MemoryMap, slot, pending_at, as_known, IsWholeMemory, files_removed, RemovesFile}
 use Rattle.volume.specs.Common.{HasSomeBody}
 use Rattle.volume.specs.declared.live.LiveVersion.{LiveVersion}
 use Rattle.volume.proofs.common.Edits.{Nowhere, Anyhow, IsEdit}
-use Rattle.volume.proofs.common.KeptBlocks.{IsKept}
+use Rattle.volume.proofs.common.MapStays.{IsKept}
 use Rattle.volume.proofs.common.LiveBodies.{HaveBodies, dated_of}
-use Rattle.volume.proofs.PublishVersion.MakingCurrent.{part_of}
+use Rattle.volume.proofs.PublishVersion.StepPremises.{part_of}
 use Rattle.volume.proofs.PublishVersion.Slots.{left_cases}
-use Rattle.volume.proofs.DeleteFile.Core.{removed_whole}
+use Rattle.volume.proofs.DeleteFile.Memory.{removed_whole}
 use Rattle.volume.proofs.DeleteFile.Law.{map_removed, removed_files, removing_leads_in, removed_in_range, removed_few}
 use Rattle.volume.proofs.DeleteFile.Law.{removed_low, not_removed, chain_times}
 
-module _ (size : ℕ) (c c' : VolumeCore) (ppn : ℕ) (name : FileName) (key : ℕ) (v : LiveVersion) (puts : List Put)
-    (whole : IsWholeCore size c) (is : RemovesFile size c c' ppn name key v puts) where
+module _ (size : ℕ) (c c' : MemoryMap) (ppn : ℕ) (name : FileName) (key : ℕ) (v : LiveVersion) (puts : List Put)
+    (whole : IsWholeMemory size c) (is : RemovesFile size c c' ppn name key v puts) where
   -- a block of a version in use isn't put
   spares : (n : ℕ) → IsKept size c n → IsPutIn puts n → ⊥
   spares n kept = not_removed size c.known c'.known ppn name (v.at, as_known v) puts whole.map is.removed n kept.from
@@ -73,9 +73,9 @@ module _ (size : ℕ) (c c' : VolumeCore) (ppn : ℕ) (name : FileName) (key : �
         );
   }
 
--- Where core says it of a disk of the size that it knows.
-module _ {size : ℕ} {c c' : VolumeCore} {ppn : ℕ} {name : FileName} {key : ℕ} {v : LiveVersion} {puts : List Put}
-    (whole : IsWholeCore size c) (is : RemovesFile c.known.table.size c c' ppn name key v puts) where
+-- If memory states it of a disk of the size that it knows.
+module _ {size : ℕ} {c c' : MemoryMap} {ppn : ℕ} {name : FileName} {key : ℕ} {v : LiveVersion} {puts : List Put}
+    (whole : IsWholeMemory size c) (is : RemovesFile c.known.table.size c c' ppn name key v puts) where
   pub removed_sized : RemovesFile size c c' ppn name key v puts
   removed_sized = subst (λ (n : ℕ). RemovesFile n c c' ppn name key v puts) whole.map.size_is is
 

@@ -14,9 +14,10 @@ use Rattle.volume.specs.declared.handles.VersionHandle.{VersionHandle}
 use Rattle.volume.specs.declared.handles.VersionHandle.TheVariants.{Pinned, Pending}
 use Rattle.volume.specs.declared.live.LiveVersion.{LiveVersion}
 use Rattle.volume.specs.declared.pending.PendingVersion.{PendingVersion}
-use Rattle.volume.specs.Common.{blocks_reached, IsHeld, VolumeCore, slot, held_reaches, IsWholePending, IsWholeCore}
-use Rattle.volume.specs.Common.{version_under, IsReadable, AreDated, HasSomeBody, IsSoundCore, RestsAt}
-use Rattle.volume.proofs.common.KeptBlocks.{read_kept}
+use Rattle.volume.specs.Common.{blocks_reached, MatchesMap, MemoryMap, slot, pinned_reaches, IsWholePending}
+use Rattle.volume.specs.Common.{IsWholeMemory}
+use Rattle.volume.specs.Common.{version_under, IsReadable, AreDated, HasSomeBody, IsSoundMemory, RestsAt}
+use Rattle.volume.proofs.common.MapStays.{read_kept}
 use Rattle.volume.proofs.common.LiveBodies.{body_stays}
 use Rattle.volume.proofs.PinVersion.Pins.{total_at, each_slot, current_stands}
 use Rattle.volume.proofs.VolumeStart.Starts.{rest_read}
@@ -29,16 +30,16 @@ pub rests_read : (s s' : DiskState) (files : Files File) → s'.size ≡ s.size 
 rests_read s s' files size reads rests = rests_in s' (pack_of s) files (sym size)
     (rest_read s s' (λ c. SettledStandsOn (pack_of s) c files) size reads rests)
 
-pub sound_read : (s s' : DiskState) (c : VolumeCore) (failed : Bool) → s'.size ≡ s.size → (s'.honest → s.honest)
-    → (s'.honest → OnlyReads s s') → IsSoundCore s c failed → IsSoundCore s' c failed
+pub sound_read : (s s' : DiskState) (c : MemoryMap) (failed : Bool) → s'.size ≡ s.size → (s'.honest → s.honest)
+    → (s'.honest → OnlyReads s s') → IsSoundMemory s c failed → IsSoundMemory s' c failed
 sound_read s s' c failed size honest reads sound = record {
-  whole = subst (λ (n : ℕ). IsWholeCore n c) (sym size) sound.whole;
+  whole = subst (λ (n : ℕ). IsWholeMemory n c) (sym size) sound.whole;
   rest = λ h ok.
       let own = sound.rest (honest h) ok in
       record {
         map = own.map;
-        rest = subst (λ (n : ℕ). AtRest s' (IsHeld n c.known own.map)) (sym size)
-            (rest_read s s' (IsHeld s.size c.known own.map) size (reads h) own.rest);
+        rest = subst (λ (n : ℕ). AtRest s' (MatchesMap n c.known own.map)) (sym size)
+            (rest_read s s' (MatchesMap s.size c.known own.map) size (reads h) own.rest);
       };
   read = λ h ok key v at some. body_stays s.contents s'.contents v.version (sound.read (honest h) ok key v at some)
       (λ n there. (reads h).still.contents n);
@@ -50,7 +51,7 @@ sound_read s s' c failed size honest reads sound = record {
 
 -- What can be read lies in the free space.
 
-module _ (size : ℕ) (c : VolumeCore) (whole : IsWholeCore size c) (table : IsTable c.known.table) where
+module _ (size : ℕ) (c : MemoryMap) (whole : IsWholeMemory size c) (table : IsTable c.known.table) where
   set_below : (n : ℕ) → 0 < bit c.known.table n → n < size
   set_below n some = ⊎_elim (λ below. below)
       (λ past.
@@ -73,8 +74,8 @@ module _ (size : ℕ) (c : VolumeCore) (whole : IsWholeCore size c) (table : IsT
       by true current = set_below n (let most = current_stands size c whole key v is current n in let here = stands in
           let is = whole.map.bits n in omega arith)
       by false ended = (whole.inside n
-          (let part = total_at (held_reaches n) refl c.live key in
-          let here = ap (held_reaches n) is
+          (let part = total_at (pinned_reaches n) refl c.live key in
+          let here = ap (pinned_reaches n) is
           ∙ ap (λ (b : Bool). if b then 0 else times n (blocks_reached v.at v.version)) ended in
           let all = whole.held n in
           let one = stands in
@@ -100,7 +101,7 @@ module _ (size : ℕ) (c : VolumeCore) (whole : IsWholeCore size c) (table : IsT
 
 -- On an honest disk none of its blocks is damaged.
 
-pub readable_body : (s : DiskState) (c : VolumeCore) (failed : Bool) → IsSoundCore s c failed → s.honest → failed
+pub readable_body : (s : DiskState) (c : MemoryMap) (failed : Bool) → IsSoundMemory s c failed → s.honest → failed
     ≡ false
     → (handle : VersionHandle) (v : VersionState) → IsReadable c handle → version_under c handle ≡ Some v
     → HasSomeBody s.contents v

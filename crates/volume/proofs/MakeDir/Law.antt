@@ -1,4 +1,4 @@
--- A directory is made: what the puts make of what is held.
+-- A directory is made: what the puts make of the disk's map.
 use Rattle.std.proofs.Common.{◌≡◌, ℕ, zero, suc, ◌+◌, ◌*◌, ◌/◌, ◌<◌, ◌≤◌, ◌⊎◌, inl, inr, ⊎_elim, List, [], ◌∷◌, ◌++◌}
 use Rattle.std.proofs.Common.{map, length, replicate, Some, None, slice_get, refl, sym, ◌∙◌, ap, subst, arith}
 use Rattle.std.proofs.lemmas.Bool.{cases_eq}
@@ -10,7 +10,7 @@ use Rattle.std.specs.FinMap.{nat_cmp-IsAntisymmetric}
 use Rattle.blockdisk.specs.Common.{Contents}
 use Rattle.spec_image.specs.declared.put.Put.{Put}
 use Rattle.spec_image.specs.Common.{FinMap, times, get, insert, map_values, from_entries, head_or_zero, name_cmp}
-use Rattle.spec_image.specs.Common.{table_blocks, table_start, space_start, with_puts, table_bit, MasterEntry}
+use Rattle.spec_image.specs.Common.{table_blocks, table_start, space_start, with_puts, table_bit, SpecMasterEntry}
 use Rattle.spec_image.specs.Common.{master_words, IsMasterEntry, master_word, file_words, IsFileEntry, items}
 use Rattle.spec_image.specs.Common.{StoredFile, StoredDirectory, DiskMap, HasMap, entry_of, reaches, TableFollows}
 use Rattle.spec_image.specs.Common.{IsMasterChain, entries_of, bare_directory, InSpace, IsMasterEntryOf}
@@ -20,11 +20,12 @@ use Rattle.spec_image.proofs.Common.{times-append, once, each_times, directory_m
 use Rattle.changeset.specs.Common.{times_head, times_tail, some_or_none}
 use Rattle.alloctab.specs.Common.{flag_at, bit}
 use Rattle.directory.specs.Common.{ChainState, IsChain, IsOn, chain_stands, on_kept, bare_on}
-use Rattle.volume.specs.Common.{KnownDirectory, Known, IsKnownDirectory, IsHeld, IsWholeMap, bare_known, entry_made}
+use Rattle.volume.specs.Common.{CurrentDirectory, CurrentMap, AgreesOnDirectory, MatchesMap, IsWholeMap, bare_known}
+use Rattle.volume.specs.Common.{entry_made}
 use Rattle.volume.specs.Common.{map_made, IsMade}
 use Rattle.volume.proofs.common.LayoutLimits.{some_quota}
 use Rattle.volume.proofs.common.Lookups.{all_each}
-use Rattle.volume.proofs.common.Held.{reached_in_space, chain_reached, master_reached}
+use Rattle.volume.proofs.common.UsedBlocks.{reached_in_space, chain_reached, master_reached}
 use Rattle.alloctab.proofs.WordLaws.{digit_few}
 use Rattle.volume.proofs.common.Lists.{head_front, none_mapped}
 use Rattle.volume.proofs.common.TableBits.{bits_same}
@@ -38,8 +39,8 @@ pushed_at [] x y (suc i) is = absurd (some_none (sym is))
 pushed_at (z ∷ xs) x y zero is = inl is
 pushed_at (z ∷ xs) x y (suc i) is = ⊎_elim (λ old. inl old) (λ new. inr (ap suc new.0, new.1)) (pushed_at xs x y i is)
 
--- the chain of the master directory, where it stands
-pub master_stands : (contents : Contents) (chain : ChainState MasterEntry) (entries : FinMap nat_cmp (ℕ × ℕ))
+-- the chain of the master directory, at its place
+pub master_stands : (contents : Contents) (chain : ChainState SpecMasterEntry) (entries : FinMap nat_cmp (ℕ × ℕ))
     → IsChain nat_cmp (IsMasterEntryOf 2) chain → IsOn master_words contents chain
     → from_entries chain.entries ≡ entries → IsMasterChain contents chain.blocks entries
 master_stands contents chain entries is on names =
@@ -63,7 +64,7 @@ bare_chain first = record { counted = refl; are_entries = tt; each_once = tt; bl
     once_at n = ⊎_elim (λ is. let e = times_head n first [] is in
         omega arith) (λ other. let e = times_tail n first [] other in omega arith) (cases_eq n first)
 
-bare_is_known : (protection first : ℕ) → IsKnownDirectory (bare_known first) (bare_directory protection 0 (first ∷ []))
+bare_is_known : (protection first : ℕ) → AgreesOnDirectory (bare_known first) (bare_directory protection 0 (first ∷ []))
 bare_is_known protection first = record {
   chain = refl;
   names = ap (λ es. from_entries (map (λ e. (e.0, e.1.prime)) es)) (entries-empty name_cmp StoredFile);
@@ -72,9 +73,9 @@ bare_is_known protection first = record {
 
 -- The law.
 
-module _ (size : ℕ) (k k' : Known) (m : DiskMap) (ppn protection first : ℕ) (puts : List Put)
+module _ (size : ℕ) (k k' : CurrentMap) (m : DiskMap) (ppn protection first : ℕ) (puts : List Put)
     (whole : IsWholeMap size k) (made : IsMade size k k' ppn protection first puts) (fits : protection < 512)
-    (c : Contents) (held : IsHeld size k m c) (zeros : c first ≡ Some (replicate 128 0)) where
+    (c : Contents) (held : MatchesMap size k m c) (zeros : c first ≡ Some (replicate 128 0)) where
   d : Contents
   d = with_puts puts c
 
@@ -210,12 +211,12 @@ module _ (size : ℕ) (k k' : Known) (m : DiskMap) (ppn protection first : ℕ) 
       })
       follows
 
-  -- core
+  -- memory
 
-  each_known : (i : ℕ) (e : MasterEntry) (x : KnownDirectory) → slice_get k'.master.entries i ≡ Some e
+  each_known : (i : ℕ) (e : SpecMasterEntry) (x : CurrentDirectory) → slice_get k'.master.entries i ≡ Some e
       → slice_get k'.directories i ≡ Some x
       → (s : StoredDirectory) × (get (insert m.directories ppn (bare_directory protection 0 (first ∷ []))) e.0 ≡ Some s)
-      × IsKnownDirectory x s
+      × AgreesOnDirectory x s
   each_known i e x is also =
       by_place (pushed_at k.master.entries (entry_made ppn protection first) e i
       (ap (λ es. slice_get es i) (sym made.entered.entries) ∙ is))
@@ -225,7 +226,7 @@ module _ (size : ℕ) (k k' : Known) (m : DiskMap) (ppn protection first : ℕ) 
           ⊎ ((i ≡ length k.master.entries) × (e ≡ entry_made ppn protection first))
           → (slice_get k.directories i ≡ Some x) ⊎ ((i ≡ length k.directories) × (x ≡ bare_known first))
           → (s : StoredDirectory) × (get (insert m.directories ppn (bare_directory protection 0 (first ∷ []))) e.0
-          ≡ Some s) × IsKnownDirectory x s
+          ≡ Some s) × AgreesOnDirectory x s
       by_place (inl a) (inl b) =
           let old = held.known.each i e x a b in (
             old.0,
@@ -236,9 +237,9 @@ module _ (size : ℕ) (k k' : Known) (m : DiskMap) (ppn protection first : ℕ) 
           )
       by_place (inr a) (inr b) = (
         bare_directory protection 0 (first ∷ []),
-        ap (λ (z : MasterEntry). get (insert m.directories ppn (bare_directory protection 0 (first ∷ []))) z.0) a.1
+        ap (λ (z : SpecMasterEntry). get (insert m.directories ppn (bare_directory protection 0 (first ∷ []))) z.0) a.1
             ∙ get-insert_same nat_cmp_total m.directories ppn (bare_directory protection 0 (first ∷ [])),
-        subst (λ (z : KnownDirectory). IsKnownDirectory z (bare_directory protection 0 (first ∷ []))) (sym b.1)
+        subst (λ (z : CurrentDirectory). AgreesOnDirectory z (bare_directory protection 0 (first ∷ []))) (sym b.1)
             (bare_is_known protection first),
       )
       by_place (inl a) (inr b) = absurd (let l = slice_get_within k.master.entries i e a in let r = b.0 in
@@ -246,18 +247,18 @@ module _ (size : ℕ) (k k' : Known) (m : DiskMap) (ppn protection first : ℕ) 
       by_place (inr a) (inl b) = absurd (let l = slice_get_within k.directories i x b in let r = a.0 in
           let w = whole.aligned in omega arith)
 
-  new_chains : (i : ℕ) (x : KnownDirectory) → slice_get k'.directories i ≡ Some x
+  new_chains : (i : ℕ) (x : CurrentDirectory) → slice_get k'.directories i ≡ Some x
       → IsOn file_words (with_puts puts c) x.chain
   new_chains i x is = ⊎_elim
       (λ old. on_kept file_words c (with_puts puts c) x.chain (held.chains i x old) (λ n there.
       let most = chain_reached k m held.known whole.aligned i x old n in
       let one = once size c m held.stands.marked n in
       reached_stays n (omega arith) (omega arith)))
-      (λ new. subst (λ (z : KnownDirectory). IsOn file_words (with_puts puts c) z.chain) (sym new.1)
+      (λ new. subst (λ (z : CurrentDirectory). IsOn file_words (with_puts puts c) z.chain) (sym new.1)
       (bare_on file_words (with_puts puts c) first new_first))
       (pushed_at k.directories (bare_known first) x i (ap (λ ds. slice_get ds i) (sym made.entered.directories) ∙ is))
 
-  pub making_leads : IsHeld size k' (map_made m k'.master.blocks ppn protection first) (with_puts puts c)
+  pub making_leads : MatchesMap size k' (map_made m k'.master.blocks ppn protection first) (with_puts puts c)
   making_leads = record {
     known = record {
       chain = refl;

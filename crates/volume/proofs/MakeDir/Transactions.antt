@@ -5,24 +5,24 @@ use Rattle.blockdisk.specs.Common.{Contents, DiskState, MayLeave, SameDisk, Writ
 use Rattle.spec_image.specs.declared.put.Put.{Put}
 use Rattle.spec_image.proofs.ChangedFiles.{files_made as files_of_made}
 use Rattle.alloctab.specs.Common.{IsFree}
-use Rattle.volume.specs.Common.{IsWrittenBy, IsCommitted, IsEdited, Known, VolumeCore, IsWholeCore, map_made}
-use Rattle.volume.specs.Common.{files_made, IsMade, IsSoundCore}
+use Rattle.volume.specs.Common.{IsWrittenBy, IsCommitted, IsEdited, CurrentMap, MemoryMap, IsWholeMemory, map_made}
+use Rattle.volume.specs.Common.{files_made, IsMade, IsSoundMemory}
 use Rattle.volume.specs.declared.error.CallError.{CallError}
 use Rattle.volume.specs.declared.error.CallError.TheVariants.{Device}
 use Rattle.volume.proofs.common.Edits.{IsEdit, interrupted, not_written_stays}
-use Rattle.volume.proofs.common.HomesKept.{made_low}
+use Rattle.volume.proofs.common.UnchangedHomes.{made_low}
 use Rattle.volume.proofs.common.LiveBodies.{bodies_of, dated_of}
-use Rattle.volume.proofs.MakeDir.MakingDirectories.{made_core, puts_in_range, puts_few, not_written}
+use Rattle.volume.proofs.MakeDir.MadeDirectories.{made_memory, puts_in_range, puts_few, not_written}
 use Rattle.volume.proofs.MakeDir.Law.{making_leads}
 
--- Core says it of a disk of the size that it knows.
-pub made_sized : {size : ℕ} {c : VolumeCore} {k' : Known} {ppn protection first : ℕ} {puts : List Put}
-    → IsWholeCore size c → IsMade c.known.table.size c.known k' ppn protection first puts
+-- Memory states it of a disk of the size that it knows.
+pub made_sized : {size : ℕ} {c : MemoryMap} {k' : CurrentMap} {ppn protection first : ℕ} {puts : List Put}
+    → IsWholeMemory size c → IsMade c.known.table.size c.known k' ppn protection first puts
     → IsMade size c.known k' ppn protection first puts
 made_sized {size} {c} {k'} {ppn} {protection} {first} {puts} whole is =
     subst (λ (n : ℕ). IsMade n c.known k' ppn protection first puts) whole.map.size_is is
 
-pub made_edit : {size : ℕ} {c c' : VolumeCore} {ppn protection first : ℕ} {puts : List Put} → IsWholeCore size c
+pub made_edit : {size : ℕ} {c c' : MemoryMap} {ppn protection first : ℕ} {puts : List Put} → IsWholeMemory size c
     → IsMade c.known.table.size c.known c'.known ppn protection first puts → c'.live ≡ c.live
     → c'.pending ≡ c.pending → c'.keys ≡ c.keys ++ [] ∷ [] → protection < 512 → (layout : ℕ)
     → IsEdit size layout c c' (λ n. n ≡ first) (λ d. d first ≡ Some (replicate 128 0)) puts
@@ -30,7 +30,7 @@ pub made_edit : {size : ℕ} {c c' : VolumeCore} {ppn protection first : ℕ} {p
 made_edit {size} {c} {c'} {ppn} {protection} {first} {puts} whole is live pending keys fits layout =
     let made = made_sized whole is in
     record {
-      whole = made_core size c.known c'.known ppn protection first puts whole.map made c c' whole refl refl live pending
+      whole = made_memory size c.known c'.known ppn protection first puts whole.map made c c' whole refl refl live pending
           keys;
       bodies = λ d. bodies_of d c c' live pending;
       dated = λ n. dated_of n c c' pending;
@@ -48,9 +48,9 @@ made_edit {size} {c} {c'} {ppn} {protection} {first} {puts} whole is live pendin
       );
     }
 
--- where the write of the block failed
-pub made_ended : {s mid : DiskState} {c c' : VolumeCore} {ppn protection first : ℕ} {puts : List Put} {alive : Bool}
-    → IsSoundCore s c alive → alive ≡ false
+-- if the write of the block failed
+pub made_ended : {s mid : DiskState} {c c' : MemoryMap} {ppn protection first : ℕ} {puts : List Put} {alive : Bool}
+    → IsSoundMemory s c alive → alive ≡ false
     → (s.honest → (d : Contents) → s.left_since s.clock d → MayLeave s d) → SameDisk s mid
     → (mid.honest → Writes first s mid) → IsMade c.known.table.size c.known c'.known ppn protection first puts
     → c'.live ≡ c.live → c'.pending ≡ c.pending → c'.keys ≡ c.keys ++ [] ∷ [] → protection < 512

@@ -8,14 +8,14 @@ use Rattle.blockdisk.specs.Common.{leaves_on, modifies_wider}
 use Rattle.changeset.specs.Common.{IsGateOrLog, IsShut, AllOrNone, IsRecovered, SyncsFirst, IsPutIn, Ignores}
 use Rattle.changeset.specs.Common.{SettlesTo, AtRest, commit_leaves, commit_rest, recover_rest}
 use Rattle.spec_image.specs.declared.put.Put.{Put}
-use Rattle.spec_image.specs.Common.{head_or_zero, in_layout, File, Files, Home, home_block, IsHome, IsLayout}
+use Rattle.spec_image.specs.Common.{head_or_zero, in_layout, File, Files, SpecHome, home_block, IsHome, IsLayout}
 use Rattle.spec_image.specs.Common.{layout_number, pack_in, pack_of, SettledStandsOn, StandsOn, IsGateOpen, with_puts}
 use Rattle.spec_image.specs.Common.{date_limit, DiskMap, HasMap, home_of, quota_limit, files_of}
 use Rattle.spec_image.proofs.Common.{log_ignored, stands_same, homes_raised, layout_is, settled_layout}
 use Rattle.spec_image.proofs.Common.{settled_in_any, settled_same}
 use Rattle.volume.specs.Common.{RaisedLike, RaisedLikeBefore, StandsOrRaised, IsHomeBlock, AreCopies, IsMigrated}
 use Rattle.volume.specs.Common.{home_puts, known_of, home_in, IsAtRest, StandsLike, StandsLikeBefore}
-use Rattle.volume.specs.declared.map.DiskMap.{DiskMap as CoreMap}
+use Rattle.volume.specs.declared.volume.LoadedMap.{LoadedMap}
 use Rattle.volume.proofs.common.Packs.{pack_held}
 use Rattle.volume.proofs.VolumeStart.Starts.{stands_ignores_gate}
 
@@ -103,7 +103,7 @@ home_written size puts words s s' are modified =
         (λ not_first. ⊎_elim (λ second. inr second) (λ not_second. absurd (grind (arith, nat_tests))) (cases_eq n 2))
         (cases_eq n 1)
 
--- Behind the recovery.
+-- After the recovery.
 
 -- what the disk stood for is what its map says, in the map's layout
 pub stood_as : (s s1 : DiskState) (m : DiskMap) → s1.size ≡ s.size
@@ -169,13 +169,13 @@ synced_raised {D} state old new fault fault' on first = ⊎_elim
           (λ c like layout files stands. inl (like layout files stands)),
     )) first
 
--- What is known behind the reading.
+-- What is known after the reading.
 
 first_is : (blocks others : List ℕ) → blocks ≡ others → head_or_zero others ≡ slice_index blocks 0
 first_is [] others same = ap head_or_zero (sym same)
 first_is (block ∷ blocks) others same = ap head_or_zero (sym same)
 
-module _ (s s1 : DiskState) (map : CoreMap) (size : s1.size ≡ s.size)
+module _ (s s1 : DiskState) (map : LoadedMap) (size : s1.size ≡ s.size)
     (recovered : IsRecovered s.size s.contents s1.contents) (none : NoneOpen s1) (rest : IsAtRest s1 (known_of map))
     (layout_is : layout_number map.layout ≡ (pack_of s1).layout) where
   pub here : HasMap s1.size s1.contents rest.map
@@ -240,7 +240,7 @@ module _ (s s1 : DiskState) (map : CoreMap) (size : s1.size ≡ s.size)
         gate = λ opened. shut s2.contents (λ n closed. refl)
             (subst (λ (n : ℕ). IsGateOpen n s2.contents) (sym (size2 ∙ size)) opened);
         master = master;
-        home = subst (λ (h : Home). IsHome s.size recovered.settled h)
+        home = subst (λ (h : SpecHome). IsHome s.size recovered.settled h)
             (λ i. home_in ((map_layout ∙ one) i) (head i)) before.mapped.home;
         copies = subst (λ (n : ℕ). AreCopies (home_block n (home_in 2 master)) s2.contents) size copies;
       }

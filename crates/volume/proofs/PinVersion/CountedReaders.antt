@@ -1,4 +1,4 @@
--- That no version has many readers, looked at one slot after the other.
+-- That no version has many readers, checked one slot after the other.
 use Rattle.std.proofs.Common.{◌≡◌, ◌+◌, ◌<◌, ◌^◌, ℕ, zero, suc, List, [], ◌∷◌, Option, Some, None, refl, sym, subst}
 use Rattle.std.specs.List.{AllByRecursion}
 use Rattle.slab.specs.Slab.{entries_from}

@@ -1,11 +1,11 @@
--- The version of a file under its key: its blocks stand in the directories, and have the words of the file.
+-- The version of a file under its key: its blocks occur in the directories, and have the words of the file.
 use Rattle.std.proofs.Common.{◌≡◌, ◌⊎◌, inl, inr, ⊎_elim, ℕ, zero, suc, ◌+◌, ◌-◌, ◌<◌, ◌≤◌, Bool, true, false, List}
 use Rattle.std.proofs.Common.{[], ◌∷◌, slice_get, Option, Some, None, option_map, Result, Ok, Err, refl, sym, ap}
 use Rattle.std.proofs.Common.{subst, ◌∙◌, arith}
 use Rattle.std.specs.Cmp.{nat_cmp_total}
 use Rattle.words36.specs.declared.names.FileName.{FileName}
 use Rattle.blockdisk.specs.Common.{Contents, DiskState}
-use Rattle.spec_image.specs.Common.{FileEntry, File, Files, get, total, times, HasBody, master_words, StoredFile}
+use Rattle.spec_image.specs.Common.{SpecFileEntry, File, Files, get, total, times, HasBody, master_words, StoredFile}
 use Rattle.spec_image.specs.Common.{StoredDirectory, DiskMap, directory_of, files_of}
 use Rattle.alloctab.specs.Common.{bit}
 use Rattle.directory.specs.Common.{IsOn}
@@ -14,13 +14,14 @@ use Rattle.spec_image.proofs.Common.{some_none, some_same, get-map_values, get-f
 use Rattle.volume.specs.declared.error.CallError.{CallError}
 use Rattle.volume.specs.declared.handles.Pin.{Pin}
 use Rattle.volume.specs.declared.live.LiveVersion.{LiveVersion}
-use Rattle.volume.specs.Common.{IsDirectoryOf, Known, KnownVersion, KnownDirectory, IsNamed, IsKnownMap, IsHeld}
-use Rattle.volume.specs.Common.{blocks_reached, reaches_in_entries, reaches_in_known, VolumeCore, slot, pending_at}
-use Rattle.volume.specs.Common.{as_known, IsWholeCore, IsKeyOf, IsNoFile, IsVersionOf, IsFilePinned, IsPinAnswer}
-use Rattle.volume.specs.Common.{HasSomeBody, IsAtRest, IsSoundCore}
-use Rattle.volume.proofs.common.Answering.{Holds, directory_none}
+use Rattle.volume.specs.Common.{IsDirectoryOf, CurrentMap, CurrentVersion, CurrentDirectory, IsNamed, AgreesOnMap}
+use Rattle.volume.specs.Common.{MatchesMap}
+use Rattle.volume.specs.Common.{blocks_reached, reaches_in_entries, reaches_in_known, MemoryMap, slot, pending_at}
+use Rattle.volume.specs.Common.{as_known, IsWholeMemory, IsKeyOf, IsNoFile, IsVersionOf, IsFilePinned, IsPinAnswer}
+use Rattle.volume.specs.Common.{HasSomeBody, IsAtRest, IsSoundMemory}
+use Rattle.volume.proofs.common.Answers.{Holds, directory_none}
 
-entries_reach : (n : ℕ) (es : List FileEntry) (vs : List KnownVersion) (i : ℕ) (e : FileEntry) (v : KnownVersion)
+entries_reach : (n : ℕ) (es : List SpecFileEntry) (vs : List CurrentVersion) (i : ℕ) (e : SpecFileEntry) (v : CurrentVersion)
     → slice_get es i ≡ Some e → slice_get vs i ≡ Some v → times n (blocks_reached e.1 v.version)
     ≤ reaches_in_entries n es vs
 entries_reach n [] vs i e v here there = cc
@@ -32,13 +33,13 @@ entries_reach n (x ∷ es) (y ∷ vs) zero e v here there =
 entries_reach n (x ∷ es) (y ∷ vs) (suc i) e v here there = let rest = entries_reach n es vs i e v here there in
     omega arith
 
-directories_reach : (n : ℕ) (ds : List KnownDirectory) (i : ℕ) (d : KnownDirectory) → slice_get ds i ≡ Some d
+directories_reach : (n : ℕ) (ds : List CurrentDirectory) (i : ℕ) (d : CurrentDirectory) → slice_get ds i ≡ Some d
     → reaches_in_known n d ≤ total (reaches_in_known n) ds
 directories_reach n [] i d here = cc
 directories_reach n (x ∷ ds) zero d here = let same = ap (reaches_in_known n) (some_same here) in omega arith
 directories_reach n (x ∷ ds) (suc i) d here = let rest = directories_reach n ds i d here in omega arith
 
-pub key_stands : (c : VolumeCore) (ppn : ℕ) (name : FileName) (key : ℕ) → (is : IsKeyOf c ppn name key) → (n : ℕ)
+pub key_stands : (c : MemoryMap) (ppn : ℕ) (name : FileName) (key : ℕ) → (is : IsKeyOf c ppn name key) → (n : ℕ)
     → times n (blocks_reached is.version.at is.version.version) ≤ total (reaches_in_known n) c.known.directories
 key_stands c ppn name key is n =
     let entry = entries_reach n is.directory.chain.entries is.directory.versions is.index (name, is.prime)
@@ -50,15 +51,15 @@ key_stands c ppn name key is n =
     omega arith
 
 -- On an honest disk it is the file's.
-pub record IsFileOf (s : DiskState) (files : Files File) (ppn : ℕ) (name : FileName) (v : KnownVersion) : Type 0 where
+pub record IsFileOf (s : DiskState) (files : Files File) (ppn : ℕ) (name : FileName) (v : CurrentVersion) : Type 0 where
   pub stored : StoredDirectory
   pub get_is : get files ppn ≡ Some (directory_of stored)
   pub file : File
   pub file_is : get (directory_of stored).files name ≡ Some file
   pub version_is : IsVersionOf s.contents v file
 
-pub named_file : (s : DiskState) (c : VolumeCore) (files : Files File) → Holds s c.known files
-    → (ppn : ℕ) (name : FileName) (d : KnownDirectory) (v : ℕ × KnownVersion) → IsDirectoryOf c ppn d
+pub named_file : (s : DiskState) (c : MemoryMap) (files : Files File) → Holds s c.known files
+    → (ppn : ℕ) (name : FileName) (d : CurrentDirectory) (v : ℕ × CurrentVersion) → IsDirectoryOf c ppn d
     → IsNamed d name (Some v) → IsFileOf s files ppn name v.1
 named_file s c files holds ppn name d v there named =
     let found = holds.held.known.each there.0 (ppn, there.1) d there.2.is there.3 in
@@ -82,17 +83,17 @@ named_file s c files holds ppn name d v there named =
       };
     }
 
-pub key_file : (s : DiskState) (c : VolumeCore) (files : Files File) → Holds s c.known files
+pub key_file : (s : DiskState) (c : MemoryMap) (files : Files File) → Holds s c.known files
     → (ppn : ℕ) (name : FileName) (key : ℕ) → (is : IsKeyOf c ppn name key)
     → IsFileOf s files ppn name (as_known is.version)
 key_file s c files holds ppn name key is = named_file s c files holds ppn name is.directory
     (is.prime, as_known is.version) (is.place, is.word, is.there, is.directory_at) (is.index, is.at, is.known)
 
-pub file_body : (contents : Contents) (v : KnownVersion) (file : File) → IsVersionOf contents v file
+pub file_body : (contents : Contents) (v : CurrentVersion) (file : File) → IsVersionOf contents v file
     → HasSomeBody contents v.version
 file_body contents v file is = (file.body, sym is.words, is.body)
 
--- What is answered.
+-- The answer.
 
 pub pin_answered : (s : DiskState) (files : Files File) (ppn : ℕ) (name : FileName) (v : LiveVersion)
     (live : List (Option LiveVersion)) (pin : Pin) (readers : ℕ) → IsFileOf s files ppn name (as_known v)
@@ -103,7 +104,7 @@ pin_answered s files ppn name v live pin readers is here =
     (subst (IsFilePinned s.contents live (Ok pin)) (sym is.file_is)
     (pin, refl, record v { readers = readers }, here, is.version_is))
 
-pub pin_refused : (s : DiskState) (c : VolumeCore) (files : Files File) → Holds s c.known files
+pub pin_refused : (s : DiskState) (c : MemoryMap) (files : Files File) → Holds s c.known files
     → (ppn : ℕ) (name : FileName) (live : List (Option LiveVersion)) (error : CallError) (answer : Result Pin CallError)
     → answer ≡ Err error → IsNoFile c ppn name error
     → IsPinAnswer s.contents live name answer (get files ppn)
@@ -129,18 +130,18 @@ pin_refused s c files holds ppn name live error answer is none = ⊎_elim
     by None e = refl
     by (Some f) e = cc
 
--- The versions that readers hold have their words, with another number of readers under one key.
+-- The pinned versions have their words, with another number of readers under one key.
 
-pub at_rest_holds : (s : DiskState) (c : VolumeCore) (failed : Bool) → IsSoundCore s c failed → (h : s.honest)
+pub at_rest_holds : (s : DiskState) (c : MemoryMap) (failed : Bool) → IsSoundMemory s c failed → (h : s.honest)
     → (ok : failed ≡ false) → (files : Files File) × Holds s c.known files
 at_rest_holds s c failed sound h ok =
     let own = sound.rest h ok in
     (files_of own.map, record { map = own.map; held = own.rest.all s.contents (λ n closed. refl); files_are = refl })
 
-pub pinned_sound : (s : DiskState) (c c' : VolumeCore) (failed : Bool) (ppn : ℕ) (name : FileName) (key : ℕ)
-    → IsSoundCore s c failed → (is : IsKeyOf c ppn name key) → IsWholeCore s.size c' → c' ≡ record c { live = c'.live }
+pub pinned_sound : (s : DiskState) (c c' : MemoryMap) (failed : Bool) (ppn : ℕ) (name : FileName) (key : ℕ)
+    → IsSoundMemory s c failed → (is : IsKeyOf c ppn name key) → IsWholeMemory s.size c' → c' ≡ record c { live = c'.live }
     → slot c'.live key ≡ Some (record is.version { readers = is.version.readers + 1 })
-    → ((k : ℕ) → (k ≡ key → ⊥) → slot c'.live k ≡ slot c.live k) → IsSoundCore s c' failed
+    → ((k : ℕ) → (k ≡ key → ⊥) → slot c'.live k ≡ slot c.live k) → IsSoundMemory s c' failed
 pinned_sound s c c' failed ppn name key sound is whole same here others = record {
   whole = whole;
   rest = λ h ok. subst (IsAtRest s) (ap (λ x. x.known) (sym same)) (sound.rest h ok);
@@ -162,13 +163,13 @@ one_or_more zero some other = absurd (omega arith)
 one_or_more (suc zero) some other = absurd (other refl)
 one_or_more (suc (suc n)) some other = omega arith
 
-pub unpinned_sound : (s : DiskState) (c c' : VolumeCore) (failed : Bool) (key : ℕ) (v : LiveVersion)
-    → IsSoundCore s c failed → slot c.live key ≡ Some v → IsWholeCore s.size c' → c'.pending ≡ c.pending
+pub unpinned_sound : (s : DiskState) (c c' : MemoryMap) (failed : Bool) (key : ℕ) (v : LiveVersion)
+    → IsSoundMemory s c failed → slot c.live key ≡ Some v → IsWholeMemory s.size c' → c'.pending ≡ c.pending
     → c'.known ≡ record c.known { table = c'.known.table }
     → ((n : ℕ) → bit c'.known.table n ≡ bit c.known.table n)
     → ((v.is_current ≡ true) ⊎ (1 < v.readers) → slot c'.live key ≡ Some (record v { readers = v.readers - 1 }))
     → (v.is_current ≡ false → v.readers ≡ 1 → slot c'.live key ≡ None)
-    → 0 < v.readers → ((k : ℕ) → (k ≡ key → ⊥) → slot c'.live k ≡ slot c.live k) → IsSoundCore s c' failed
+    → 0 < v.readers → ((k : ℕ) → (k ≡ key → ⊥) → slot c'.live k ≡ slot c.live k) → IsSoundMemory s c' failed
 unpinned_sound s c c' failed key v sound was whole pending known bits stays gone some others = record {
   whole = whole;
   rest = λ h ok.
@@ -177,7 +178,7 @@ unpinned_sound s c c' failed key v sound was whole pending known bits stays gone
         map = own.map;
         rest = record {
           shut = own.rest.shut;
-          all = λ contents left. held_by own.map contents (own.rest.all contents left);
+          all = λ contents left. pinned_by own.map contents (own.rest.all contents left);
         };
       };
   read = λ h ok k w at more. ⊎_elim
@@ -189,9 +190,9 @@ unpinned_sound s c c' failed key v sound was whole pending known bits stays gone
   dated = λ h ok k p at. sound.dated h ok k p (ap (λ x. pending_at x k) (sym pending) ∙ at);
 }
   where
-    held_by : (m : DiskMap) (contents : Contents) → IsHeld s.size c.known m contents → IsHeld s.size c'.known m contents
-    held_by m contents held = record {
-      known = subst (λ (k : Known). IsKnownMap k m) (sym known)
+    pinned_by : (m : DiskMap) (contents : Contents) → MatchesMap s.size c.known m contents → MatchesMap s.size c'.known m contents
+    pinned_by m contents held = record {
+      known = subst (λ (k : CurrentMap). AgreesOnMap k m) (sym known)
           (record {
             chain = held.known.chain;
             names = held.known.names;

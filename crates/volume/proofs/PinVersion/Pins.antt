@@ -1,4 +1,4 @@
--- A version with another number of readers, or one that goes: what is in core stays whole.
+-- A version with another number of readers, or one that is removed: what is in memory stays whole.
 use Rattle.std.proofs.Common.{◌≡◌, ◌↔◌, IsTrue, ℕ, zero, suc, ◌+◌, ◌≤◌, Bool, true, false, if◌then◌else◌, List, []}
 use Rattle.std.proofs.Common.{◌∷◌, map, filter_map, length, slice_index, Option, Some, None, IfSome, IsSome}
 use Rattle.std.proofs.Common.{slice_index_or, refl, sym, ap, subst, ◌∙◌, arith, ⊎_elim}
@@ -8,16 +8,17 @@ use Rattle.std.specs.Option.{option_map}
 use Rattle.spec_image.specs.Common.{cost_of_blocks, total, times, most_blocks}
 use Rattle.spec_image.proofs.Common.{some_same, some_none}
 use Rattle.alloctab.specs.Common.{TableState, holds}
-use Rattle.volume.specs.Common.{KnownDirectory, Known, blocks_reached, reaches_in_known, IsWholeVersion, IsWholeMap}
-use Rattle.volume.specs.Common.{VolumeCore, as_known, slot, held_reaches, held_cost, current_reaches, entry_reaches}
-use Rattle.volume.specs.Common.{IsWholeCore, core_of, known_at, live_directory}
+use Rattle.volume.specs.Common.{CurrentDirectory, CurrentMap, blocks_reached, reaches_in_known, IsWholeVersion}
+use Rattle.volume.specs.Common.{IsWholeMap}
+use Rattle.volume.specs.Common.{MemoryMap, as_known, slot, pinned_reaches, pinned_cost, current_reaches, entry_reaches}
+use Rattle.volume.specs.Common.{IsWholeMemory, memory_of, known_at, live_directory}
 use Rattle.slab.specs.Slab.{Slab, Updates}
 use Rattle.volume.specs.declared.live.LiveVersion.{LiveVersion}
 use Rattle.volume.specs.declared.live.LiveDirectory.{LiveDirectory}
 use Rattle.volume.specs.declared.live.LiveMap.{LiveMap}
 use Rattle.volume.proofs.common.Apart.{apart_stays, current_stays}
-use Rattle.volume.proofs.common.Costing.{few_blocks}
-use Rattle.volume.proofs.common.Keeping.{StayCurrent, directories_keyed_on, directories_known_on, all_slots}
+use Rattle.volume.proofs.common.MapCosts.{few_blocks}
+use Rattle.volume.proofs.common.VersionKeys.{StayCurrent, directories_keyed_on, directories_known_on, all_slots}
 use Rattle.volume.proofs.common.LiveTotals.{total_updated}
 
 -- One slot is another.
@@ -43,7 +44,7 @@ module _ {X : Type 0} (P : Option X → Type 0) (old new : List (Option X)) (key
       (λ (same : k ≡ key). subst (λ n. P (slice_index_or new n None)) (sym same) here)
       (λ other. subst P (sym (others k other)) (each_slot P none old all k)) (cases_eq k key))
 
--- The same version but for its readers.
+-- The same version except for its readers.
 module _ (old new : List (Option LiveVersion)) (key : ℕ) (v : LiveVersion) (readers : ℕ) (was : slot old key
     ≡ Some v) (now : slot new key ≡ Some (record v { readers = readers }))
     (others : (k : ℕ) → (k ≡ key → ⊥) → slot new k ≡ slot old k) where
@@ -84,12 +85,12 @@ module _ (old new : List (Option LiveVersion)) (key : ℕ) (v : LiveVersion) (re
       let here = ap f was in
       omega arith
 
-pub entries_within : (n : ℕ) (ds : List KnownDirectory) → entry_reaches n ds ≤ total (reaches_in_known n) ds
+pub entries_within : (n : ℕ) (ds : List CurrentDirectory) → entry_reaches n ds ≤ total (reaches_in_known n) ds
 entries_within n [] = omega arith
 entries_within n (d ∷ ds) = let rest = entries_within n ds in omega arith
 
--- a version that is current stands in a directory
-pub current_stands : (size : ℕ) (c : VolumeCore) → IsWholeCore size c → (key : ℕ) (v : LiveVersion)
+-- a version that is current occurs in a directory
+pub current_stands : (size : ℕ) (c : MemoryMap) → IsWholeMemory size c → (key : ℕ) (v : LiveVersion)
     → slot c.live key ≡ Some v → v.is_current ≡ true → (n : ℕ) → times n (blocks_reached v.at v.version)
     ≤ total (reaches_in_known n) c.known.directories
 current_stands size c whole key v is current n =
@@ -101,9 +102,9 @@ current_stands size c whole key v is current n =
     omega arith
 
 -- with another number of readers
-pub counted_whole : (size : ℕ) (c : VolumeCore) (new : List (Option LiveVersion)) (key : ℕ) (v : LiveVersion)
-    (readers : ℕ) → IsWholeCore size c → slot c.live key ≡ Some v → slot new key ≡ Some (record v { readers = readers })
-    → ((k : ℕ) → (k ≡ key → ⊥) → slot new k ≡ slot c.live k) → IsWholeCore size (record c { live = new })
+pub counted_whole : (size : ℕ) (c : MemoryMap) (new : List (Option LiveVersion)) (key : ℕ) (v : LiveVersion)
+    (readers : ℕ) → IsWholeMemory size c → slot c.live key ≡ Some v → slot new key ≡ Some (record v { readers = readers })
+    → ((k : ℕ) → (k ≡ key → ⊥) → slot new k ≡ slot c.live k) → IsWholeMemory size (record c { live = new })
 counted_whole size c new key v readers whole was now others = record {
   map = whole.map;
   keyed = directories_keyed_on c.live new (still_counted c.live new key v readers was now others) c.known.directories
@@ -116,7 +117,7 @@ counted_whole size c new key v readers whole was now others = record {
   current = λ n. same_total c.live new key v readers was now others (current_reaches n) refl refl ∙ whole.current n;
   housed = whole.housed;
   held = λ n. let before = whole.held n in
-      let same = same_total c.live new key v readers was now others (held_reaches n) refl refl in omega arith;
+      let same = same_total c.live new key v readers was now others (pinned_reaches n) refl refl in omega arith;
   own = λ k p at. apart_stays c (record c { live = new }) p (whole.own k p at) (record {
     bits = λ n there set. set;
     file = current_stays c (record c { live = new }) p.prime.ppn p.prime.file
@@ -132,25 +133,25 @@ counted_whole size c new key v readers whole was now others = record {
       (whole.primes key v was (ap (λ (x : LiveVersion). x.is_current) is ∙ current)))
       (λ other. whole.primes k w (sym (others k other) ∙ there) current) (cases_eq k key);
   fits = whole.fits;
-  beyond = λ some. let same = same_total c.live new key v readers was now others held_cost refl refl in
+  beyond = λ some. let same = same_total c.live new key v readers was now others pinned_cost refl refl in
       whole.beyond (omega arith);
   within = whole.within;
   booked = let before = whole.booked in
-      let same = same_total c.live new key v readers was now others held_cost refl refl in omega arith;
+      let same = same_total c.live new key v readers was now others pinned_cost refl refl in omega arith;
 }
 
--- what holds of the core does so with other readers
+-- what holds in memory still does with other readers
 pub readers_whole : (size : ℕ) (m : LiveMap) (versions : Slab LiveVersion) (key : ℕ) (readers : ℕ
     → ℕ) (o : Option LiveVersion) → slot m.versions.slots key ≡ o → IsSome o
     → IfSome o (λ v. slot versions.slots key ≡ Some (record v { readers = readers v.readers }))
     → ((k : ℕ) → (k ≡ key → ⊥) → slot versions.slots k ≡ slot m.versions.slots k)
-    → IsWholeCore size (core_of m) → IsWholeCore size (core_of (record m { versions = versions }))
+    → IsWholeMemory size (memory_of m) → IsWholeMemory size (memory_of (record m { versions = versions }))
 readers_whole size m versions key readers None was there counted others whole = absurd (cc)
 readers_whole size m versions key readers (Some v) was there counted others whole =
-    let c = core_of m in
+    let c = memory_of m in
     let same = same_directories m.versions.slots versions.slots key v
     (readers v.readers) was counted others m.directories.items in
-    subst (IsWholeCore size) (λ i. record {
+    subst (IsWholeMemory size) (λ i. record {
       known = record c.known { directories = sym same i };
       keys = c.keys;
       live = versions.slots;
@@ -158,7 +159,7 @@ readers_whole size m versions key readers (Some v) was there counted others whol
     })
     (counted_whole size c versions.slots key v (readers v.readers) whole was counted others)
 
--- A version that goes.
+-- A version that is removed.
 
 gone_stay : (old new : List (Option LiveVersion)) (key : ℕ) (v : LiveVersion) → slot old key ≡ Some v
     → v.is_current ≡ false → ((k : ℕ) → (k ≡ key → ⊥) → slot new k ≡ slot old k) → StayCurrent old new
@@ -172,15 +173,15 @@ gone_stay old new key v was ended others k w there current = ⊎_elim
     (cases_eq k key)
 
 pub gone_directories : (size : ℕ) (m : LiveMap) (new : List (Option LiveVersion)) (key : ℕ) (v : LiveVersion)
-    → IsWholeCore size (core_of m) → slot m.versions.slots key ≡ Some v → v.is_current ≡ false
+    → IsWholeMemory size (memory_of m) → slot m.versions.slots key ≡ Some v → v.is_current ≡ false
     → ((k : ℕ) → (k ≡ key → ⊥) → slot new k ≡ slot m.versions.slots k)
     → map (live_directory new) m.directories.items ≡ map (live_directory m.versions.slots) m.directories.items
 gone_directories size m new key v whole was ended others =
     directories_known_on m.versions.slots new (gone_stay m.versions.slots new key v was ended others)
-    (core_of m).known.directories m.directories.items whole.keyed
+    (memory_of m).known.directories m.directories.items whole.keyed
 
 -- the map with other counts in its table
-pub counts_whole : (size : ℕ) (k : Known) (held : List ℕ) (booked : ℕ) → IsWholeMap size k
+pub counts_whole : (size : ℕ) (k : CurrentMap) (held : List ℕ) (booked : ℕ) → IsWholeMap size k
     → IsWholeMap size (record k { table = record k.table { held = held; booked = booked } })
 counts_whole size k held booked whole = record {
   volume = whole.volume;
@@ -193,14 +194,14 @@ counts_whole size k held booked whole = record {
   unchanged = whole.unchanged;
 }
 
--- with a version less, whose blocks are held no longer
-pub gone_whole : (size : ℕ) (c : VolumeCore) (new : List (Option LiveVersion)) (key : ℕ) (v : LiveVersion)
-    (held : List ℕ) (booked : ℕ) → IsWholeCore size c → slot c.live key ≡ Some v → v.is_current ≡ false
+-- without a version, whose blocks are no longer held
+pub gone_whole : (size : ℕ) (c : MemoryMap) (new : List (Option LiveVersion)) (key : ℕ) (v : LiveVersion)
+    (held : List ℕ) (booked : ℕ) → IsWholeMemory size c → slot c.live key ≡ Some v → v.is_current ≡ false
     → slot new key ≡ None
     → ((k : ℕ) → (k ≡ key → ⊥) → slot new k ≡ slot c.live k)
     → ((n : ℕ) → slice_index held n + times n (blocks_reached v.at v.version) ≡ holds c.known.table n)
     → booked + cost_of_blocks (length v.version.blocks) ≡ c.known.table.booked
-    → IsWholeCore size
+    → IsWholeMemory size
     (record c { known = record c.known { table = record c.known.table { held = held; booked = booked } }; live = new })
 gone_whole size c new key v held booked whole was ended now others less fewer = record {
   map = counts_whole size c.known held booked whole.map;
@@ -217,8 +218,8 @@ gone_whole size c new key v held booked whole was ended now others less fewer = 
       omega arith;
   housed = whole.housed;
   held = λ n.
-      let all = total_updated (held_reaches n) refl c.live new key None now others in
-      let here = ap (held_reaches n) was ∙ ap (λ b. if b then 0 else times n (blocks_reached v.at v.version)) ended in
+      let all = total_updated (pinned_reaches n) refl c.live new key None now others in
+      let here = ap (pinned_reaches n) was ∙ ap (λ b. if b then 0 else times n (blocks_reached v.at v.version)) ended in
       let old = whole.held n in
       omega (arith, less n);
   own = λ k p at. apart_stays c (record c {
@@ -241,31 +242,31 @@ gone_whole size c new key v held booked whole was ended now others less fewer = 
       omega (arith, less w.at)) (cases_eq k key);
   fits = let fits = whole.fits in omega arith;
   beyond = λ some.
-      let all = total_updated held_cost refl c.live new key None now others in
+      let all = total_updated pinned_cost refl c.live new key None now others in
       let most = whole.beyond (omega arith) in
       omega arith;
   within = λ some. let most = whole.within some in omega arith;
   booked =
-      let all = total_updated held_cost refl c.live new key None now others in
-      let here = ap held_cost was ∙ ap (λ b. if b then 0 else cost_of_blocks (length v.version.blocks)) ended in
+      let all = total_updated pinned_cost refl c.live new key None now others in
+      let here = ap pinned_cost was ∙ ap (λ b. if b then 0 else cost_of_blocks (length v.version.blocks)) ended in
       let old = whole.booked in
       omega arith;
 }
 
--- a version that is held no longer by files: its blocks are held, and what it costs is booked
-module _ (size : ℕ) (c : VolumeCore) (whole : IsWholeCore size c) (key : ℕ) (v : LiveVersion) (was : slot c.live key
+-- a version that no file has any more: its blocks are held, and what it costs is booked
+module _ (size : ℕ) (c : MemoryMap) (whole : IsWholeMemory size c) (key : ℕ) (v : LiveVersion) (was : slot c.live key
     ≡ Some v) (ended : v.is_current ≡ false) where
   pub ended_held : (n : ℕ) → times n (blocks_reached v.at v.version) ≤ holds c.known.table n
   ended_held n =
-      let part = total_at (held_reaches n) refl c.live key in
-      let here = ap (held_reaches n) was ∙ ap (λ b. if b then 0 else times n (blocks_reached v.at v.version)) ended in
+      let part = total_at (pinned_reaches n) refl c.live key in
+      let here = ap (pinned_reaches n) was ∙ ap (λ b. if b then 0 else times n (blocks_reached v.at v.version)) ended in
       let all = whole.held n in
       omega arith
 
   pub ended_booked : cost_of_blocks (length v.version.blocks) ≤ c.known.table.booked
   ended_booked =
-      let part = total_at held_cost refl c.live key in
-      let here = ap held_cost was ∙ ap (λ b. if b then 0 else cost_of_blocks (length v.version.blocks)) ended in
+      let part = total_at pinned_cost refl c.live key in
+      let here = ap pinned_cost was ∙ ap (λ b. if b then 0 else cost_of_blocks (length v.version.blocks)) ended in
       let all = whole.booked in
       omega arith
 
@@ -280,16 +281,16 @@ has_ended o v b is says goes = let both : IsTrue b
     ↔ ((v.is_current ≡ false) × (v.readers ≡ 1)) = subst (λ o. IfSome o (λ v. IsTrue b
     ↔ ((v.is_current ≡ false) × (v.readers ≡ 1)))) is says in (both.0 goes).0
 
-pub gone_core : (size : ℕ) (m : LiveMap) (versions : Slab LiveVersion) (t : TableState) (key : ℕ) (v : LiveVersion)
+pub gone_memory : (size : ℕ) (m : LiveMap) (versions : Slab LiveVersion) (t : TableState) (key : ℕ) (v : LiveVersion)
     → slot m.versions.slots key ≡ Some v → v.is_current ≡ false → Updates m.versions versions key None
     → t ≡ record m.table { held = t.held; booked = t.booked }
     → ((n : ℕ) → holds t n + times n (blocks_reached v.at v.version) ≡ holds m.table n)
     → t.booked + cost_of_blocks (length v.version.blocks) ≡ m.table.booked
-    → IsWholeCore size (core_of m) → IsWholeCore size (core_of (record m { versions = versions; table = t }))
-gone_core size m versions t key v was ended updates rest less fewer whole =
-    let c = core_of m in
+    → IsWholeMemory size (memory_of m) → IsWholeMemory size (memory_of (record m { versions = versions; table = t }))
+gone_memory size m versions t key v was ended updates rest less fewer whole =
+    let c = memory_of m in
     let same = gone_directories size m versions.slots key v whole was ended updates.others in
-    subst (IsWholeCore size)
+    subst (IsWholeMemory size)
     (λ i. record {
       known = record { master = c.known.master; directories = sym same i; table = sym rest i };
       keys = c.keys;

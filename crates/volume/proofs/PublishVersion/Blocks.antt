@@ -9,26 +9,26 @@ use Rattle.spec_image.proofs.Common.{some_same, some_none, times-append, each_ti
 use Rattle.alloctab.specs.Common.{bit, IsFree}
 use Rattle.changeset.specs.Common.{IsPutIn, times_head}
 use Rattle.retrieval.specs.Common.{AreApart}
-use Rattle.volume.specs.Common.{KnownDirectory, VolumeCore, slot, IsWholePending, IsWholeCore, before, MakesCurrent}
-use Rattle.volume.specs.Common.{IsSoundCore}
+use Rattle.volume.specs.Common.{CurrentDirectory, MemoryMap, slot, IsWholePending, IsWholeMemory, before, MakesCurrent}
+use Rattle.volume.specs.Common.{IsSoundMemory}
 use Rattle.volume.specs.declared.live.LiveVersion.{LiveVersion}
 use Rattle.volume.specs.declared.pending.PendingVersion.{PendingVersion}
-use Rattle.volume.proofs.common.KeptBlocks.{IsKept}
-use Rattle.volume.proofs.common.Marking.{all_weaker}
-use Rattle.volume.proofs.common.HomesKept.{published_low}
+use Rattle.volume.proofs.common.MapStays.{IsKept}
+use Rattle.volume.proofs.common.MarkedBlocks.{all_weaker}
+use Rattle.volume.proofs.common.UnchangedHomes.{published_low}
 use Rattle.volume.proofs.PublishVersion.Puts.{published_times, published_in_range, published_few, published_elsewhere}
-use Rattle.volume.proofs.PutWords.Core.{waits}
+use Rattle.volume.proofs.PutWords.Memory.{waits}
 
--- The version that was put into core, under its new key, is the one that was written.
-pub record IsMadeCurrent (size : ℕ) (c c' : VolumeCore) (key : ℕ) (p : PendingVersion) (v : LiveVersion)
+-- The version that was put into memory, under its new key, is the one that was written.
+pub record IsMadeCurrent (size : ℕ) (c c' : MemoryMap) (key : ℕ) (p : PendingVersion) (v : LiveVersion)
     (puts : List Put) : Type 0 where
   pub makes_current : MakesCurrent size c c' key p v.at v.version.ribs puts
   pub prime : v.prime ≡ p.prime
   pub words : v.version.words ≡ p.version.words
   pub blocks : v.version.blocks ≡ p.version.blocks
 
-pub made_current_of : {s : DiskState} {c c' : VolumeCore} {key : ℕ} {p : PendingVersion} {v : LiveVersion}
-    {puts : List Put} {current : ℕ} → IsSoundCore s c false
+pub made_current_of : {s : DiskState} {c c' : MemoryMap} {key : ℕ} {p : PendingVersion} {v : LiveVersion}
+    {puts : List Put} {current : ℕ} → IsSoundMemory s c false
     → (at : ℕ) × (ribs : List ℕ) × (makes_current : MakesCurrent c.known.table.size c c' key p at ribs puts)
     × (current ≡ makes_current.new_key) → Some v ≡ slot c'.live current → IsMadeCurrent s.size c c' key p v puts
 made_current_of {s} {c} {c'} {key} {p} {v} {puts} sound made_current there =
@@ -54,8 +54,8 @@ apart_once (n ∷ ns) once = (
 
 -- The blocks of one that is published.
 
-module _ {size : ℕ} {c c' : VolumeCore} {key : ℕ} {p : PendingVersion} {v : LiveVersion} {puts : List Put}
-    (whole : IsWholeCore size c) (made_current : IsMadeCurrent size c c' key p v puts) where
+module _ {size : ℕ} {c c' : MemoryMap} {key : ℕ} {p : PendingVersion} {v : LiveVersion} {puts : List Put}
+    (whole : IsWholeMemory size c) (made_current : IsMadeCurrent size c c' key p v puts) where
   abbrev is : MakesCurrent size c c' key p v.at v.version.ribs puts
   is = made_current.makes_current
 
@@ -68,7 +68,7 @@ module _ {size : ℕ} {c c' : VolumeCore} {key : ℕ} {p : PendingVersion} {v : 
   in_space : AllByRecursion (InSpace size) (v.at ∷ v.version.ribs)
   in_space = (inside.0, all_left (InSpace size) v.version.ribs p.version.blocks inside.1)
 
-  -- each block that is taken for it was in none
+  -- each block that is taken for it was in no place
   taken : (n : ℕ) → bit c.known.table n + times n is.published.grown + times n (v.at ∷ v.version.ribs) ≤ 1
   taken n =
       let few = is.published.fresh n in
@@ -136,7 +136,7 @@ module _ {size : ℕ} {c c' : VolumeCore} {key : ℕ} {p : PendingVersion} {v : 
       by zero none =
           let all = published_times size c.known c'.known p.prime.ppn p.prime.file v.at _
           (before is.old) puts whole.map is.published n in
-          let part = total_place (λ (d : KnownDirectory). times n d.chain.blocks) c.known.directories is.published.place
+          let part = total_place (λ (d : CurrentDirectory). times n d.chain.blocks) c.known.directories is.published.place
           is.published.directory is.published.directory_at in
           let apart = kept.apart in
           omega arith

@@ -1,26 +1,26 @@
--- The keys of the directories' versions: each stands once, and where one directory changes the others keep theirs.
+-- The keys of the directories' versions: each occurs once, and if one directory changes, the others keep theirs.
 use Rattle.std.proofs.Common.{◌≡◌, ℕ, zero, suc, ◌<◌, ◌≤◌, ⊎_elim, List, [], ◌∷◌, ◌++◌, map, filter_map, length}
 use Rattle.std.proofs.Common.{slice_get, slice_set, true, Option, Some, None, IfSome, option_map, refl, sym, ap}
 use Rattle.std.proofs.Common.{subst, ◌∙◌, arith}
 use Rattle.std.proofs.lemmas.Bool.{cases_eq}
 use Rattle.std.specs.List.{AllByRecursion, AllZip, cons_option}
-use Rattle.spec_image.specs.Common.{FileEntry, times, total}
+use Rattle.spec_image.specs.Common.{SpecFileEntry, times, total}
 use Rattle.spec_image.proofs.Common.{some_same, some_none}
 use Rattle.changeset.specs.Common.{times_head, times_tail}
-use Rattle.volume.specs.Common.{file_view, KnownVersion, KnownDirectory, IsWholeDirectory, reaches_in_entries}
-use Rattle.volume.specs.Common.{reaches_in_known, VolumeCore, as_known, slot, IsCurrent, IsKeyed, IsWholeCore}
-use Rattle.volume.specs.Common.{known_at, live_directory, core_of, Entered, HasOtherKey}
+use Rattle.volume.specs.Common.{file_view, CurrentVersion, CurrentDirectory, IsWholeDirectory, reaches_in_entries}
+use Rattle.volume.specs.Common.{reaches_in_known, MemoryMap, as_known, slot, IsCurrent, IsKeyed, IsWholeMemory}
+use Rattle.volume.specs.Common.{known_at, live_directory, memory_of, Entered, HasOtherKey}
 use Rattle.volume.specs.declared.live.LiveVersion.{LiveVersion}
 use Rattle.volume.specs.declared.live.LiveDirectory.{LiveDirectory}
 use Rattle.volume.specs.declared.live.LiveMap.{LiveMap}
 use Rattle.volume.proofs.VolumeStart.FoundDirectories.{zip_at, mapped_at}
-use Rattle.volume.proofs.common.Keeping.{Stay, all_stay, keyed_on, known_on, filter_map_push}
+use Rattle.volume.proofs.common.VersionKeys.{Stay, all_stay, keyed_on, known_on, filter_map_push}
 use Rattle.volume.proofs.common.LiveLookups.{AreCurrent, knowns_first}
 use Rattle.volume.proofs.common.Lookups.{zip_behind}
 use Rattle.volume.proofs.common.TableBits.{bit_few}
 use Rattle.directory.proofs.Orders.{times_at}
 
--- Numbers that stand once.
+-- Numbers that occur once.
 
 one_index : (ns : List ℕ) (i j n : ℕ) → times n ns ≤ 1 → slice_get ns i ≡ Some n → slice_get ns j ≡ Some n → i ≡ j
 one_index [] i j n few is is' = absurd (some_none (sym is))
@@ -58,10 +58,10 @@ one_place (l ∷ lists) (suc place) i zero j n ns ms few here is there is' =
 one_place (l ∷ lists) (suc place) i (suc other) j n ns ms few here is there is' =
     let rest = one_place lists place i other j n ns ms (omega arith) here is there is' in (ap suc rest.0, rest.1)
 
--- A key stands no more often than its version's prime block is reached.
+-- A key occurs no more often than its version's prime block is reached.
 
 module _ (live : List (Option LiveVersion)) (key : ℕ) (v : LiveVersion) (there : slot live key ≡ Some v) where
-  keys_reach : (es : List FileEntry) (keys : List ℕ) (vs : List KnownVersion) → AreCurrent live es keys
+  keys_reach : (es : List SpecFileEntry) (keys : List ℕ) (vs : List CurrentVersion) → AreCurrent live es keys
       → length vs ≡ length es → times key keys ≤ reaches_in_entries v.at es vs
   keys_reach [] [] vs zip same = omega arith
   keys_reach [] (k ∷ keys) vs zip same = absurd zip
@@ -78,7 +78,7 @@ module _ (live : List (Option LiveVersion)) (key : ℕ) (v : LiveVersion) (there
       omega arith)
       (λ other. let here = times_tail key k keys other in omega arith) (cases_eq key k)
 
-  directories_reach : (size : ℕ) (ds : List KnownDirectory) (keys : List (List ℕ)) → AllZip (IsKeyed live) ds keys
+  directories_reach : (size : ℕ) (ds : List CurrentDirectory) (keys : List (List ℕ)) → AllZip (IsKeyed live) ds keys
       → AllByRecursion (IsWholeDirectory size) ds → total (times key) keys ≤ total (reaches_in_known v.at) ds
   directories_reach size [] [] zip all = omega arith
   directories_reach size [] (ks ∷ keys) zip all = absurd zip
@@ -88,14 +88,14 @@ module _ (live : List (Option LiveVersion)) (key : ℕ) (v : LiveVersion) (there
       let rest = directories_reach size ds keys zip.1 all.1 in
       omega arith
 
--- each key stands once in the directories
-pub keys_apart : (size : ℕ) (c : VolumeCore) → IsWholeCore size c → (place i other j : ℕ) (ks ls : List ℕ) (key : ℕ)
+-- each key occurs once in the directories
+pub keys_apart : (size : ℕ) (c : MemoryMap) → IsWholeMemory size c → (place i other j : ℕ) (ks ls : List ℕ) (key : ℕ)
     → slice_get c.keys place ≡ Some ks → slice_get ks i ≡ Some key → slice_get c.keys other ≡ Some ls
     → slice_get ls j ≡ Some key
     → (place ≡ other) × (i ≡ j)
 keys_apart size c whole place i other j ks ls key here is there is' =
     let directory = zip_at (IsKeyed c.live) c.known.directories c.keys place ks whole.keyed here in
-    let entry = zip_at (λ (e : FileEntry) (k : ℕ). IsCurrent c.live k e.1) directory.0.chain.entries ks
+    let entry = zip_at (λ (e : SpecFileEntry) (k : ℕ). IsCurrent c.live k e.1) directory.0.chain.entries ks
     i key directory.2 is in
     let v = entry.2.version in
     let reached = directories_reach c.live key v entry.2.there size c.known.directories c.keys whole.keyed
@@ -149,13 +149,13 @@ abbrev pub StayIn : List (Option LiveVersion) → List (Option LiveVersion) → 
 StayIn live live' keys = (j k : ℕ) (v : LiveVersion) → slice_get keys j ≡ Some k → slot live k ≡ Some v
     → slot live' k ≡ Some v
 
--- but for the one at this place
+-- except the one at this place
 abbrev StayBut : List (Option LiveVersion) → List (Option LiveVersion) → List ℕ → ℕ → Type 0
 StayBut live live' keys i = (j k : ℕ) (v : LiveVersion) → slice_get keys j ≡ Some k → (j ≡ i → ⊥) → slot live k ≡ Some v
     → slot live' k ≡ Some v
 
 module _ (live live' : List (Option LiveVersion)) where
-  pub kept_keyed : (es : List FileEntry) (keys : List ℕ) → AreCurrent live es keys → StayIn live live' keys
+  pub kept_keyed : (es : List SpecFileEntry) (keys : List ℕ) → AreCurrent live es keys → StayIn live live' keys
       → AreCurrent live' es keys
   kept_keyed [] [] zip stay = tt
   kept_keyed [] (k ∷ keys) zip stay = absurd zip
@@ -166,7 +166,7 @@ module _ (live live' : List (Option LiveVersion)) where
         kept_keyed es keys zip.1 (λ j q v at was. stay (suc j) q v at was),
       )
 
-  pub kept_known : (es : List FileEntry) (keys : List ℕ) → AreCurrent live es keys → StayIn live live' keys
+  pub kept_known : (es : List SpecFileEntry) (keys : List ℕ) → AreCurrent live es keys → StayIn live live' keys
       → filter_map (known_at live') keys ≡ filter_map (known_at live) keys
   kept_known [] [] zip stay = refl
   kept_known [] (k ∷ keys) zip stay = absurd zip
@@ -181,7 +181,7 @@ module _ (live live' : List (Option LiveVersion)) where
     known_now : (ks : List ℕ) → filter_map (known_at live') (key ∷ ks) ≡ as_known v ∷ filter_map (known_at live') ks
     known_now ks = ap (λ o. cons_option o (filter_map (known_at live') ks)) (ap (option_map as_known) there)
 
-    set_known : (es : List FileEntry) (keys : List ℕ) (i : ℕ) → AreCurrent live es keys → StayBut live live' keys i
+    set_known : (es : List SpecFileEntry) (keys : List ℕ) (i : ℕ) → AreCurrent live es keys → StayBut live live' keys i
         → filter_map (known_at live') (slice_set keys i key)
         ≡ slice_set (filter_map (known_at live) keys) i (as_known v)
     set_known [] [] i zip stay = refl
@@ -191,16 +191,16 @@ module _ (live live' : List (Option LiveVersion)) where
         known_now keys
         ∙ ap (λ vs. as_known v ∷ vs)
         (kept_known es keys zip.1 (λ j q w at was. stay (suc j) q w at (λ same. omega arith) was))
-        ∙ sym (ap (λ (vs : List KnownVersion). slice_set vs 0 (as_known v)) (knowns_first live k e.1 keys zip.0))
+        ∙ sym (ap (λ (vs : List CurrentVersion). slice_set vs 0 (as_known v)) (knowns_first live k e.1 keys zip.0))
     set_known (e ∷ es) (k ∷ keys) (suc i) zip stay =
         let now : known_at live' k ≡ Some (as_known zip.0.version) = ap (option_map as_known)
         (stay 0 k zip.0.version refl (λ same. omega arith) zip.0.there) in
         let rest = set_known es keys i zip.1
         (λ j q w at other was. stay (suc j) q w at (λ same. other (omega arith)) was) in
         (λ j. cons_option (now j) (rest j))
-        ∙ sym (ap (λ (vs : List KnownVersion). slice_set vs (suc i) (as_known v)) (knowns_first live k e.1 keys zip.0))
+        ∙ sym (ap (λ (vs : List CurrentVersion). slice_set vs (suc i) (as_known v)) (knowns_first live k e.1 keys zip.0))
 
-    set_keyed : (es : List FileEntry) (keys : List ℕ) (i : ℕ) (e : FileEntry) → v.at ≡ e.1 → v.is_current ≡ true
+    set_keyed : (es : List SpecFileEntry) (keys : List ℕ) (i : ℕ) (e : SpecFileEntry) → v.at ≡ e.1 → v.is_current ≡ true
         → AreCurrent live es keys → StayBut live live' keys i
         → AreCurrent live' (slice_set es i e) (slice_set keys i key)
     set_keyed [] [] i e at current zip stay = tt
@@ -222,8 +222,8 @@ module _ (live live' : List (Option LiveVersion)) where
               (λ j q w at other was. stay (suc j) q w at (λ same. other (omega arith)) was),
         )
 
--- a key in the place of one that stands nowhere else
-module _ (live live' : List (Option LiveVersion)) (keys : List ℕ) (es : List FileEntry) (i key : ℕ) (o : ℕ
+-- a key in place of one that occurs nowhere else
+module _ (live live' : List (Option LiveVersion)) (keys : List ℕ) (es : List SpecFileEntry) (i key : ℕ) (o : ℕ
     × LiveVersion) (v : LiveVersion) (zip : AllZip (λ e k. IsCurrent live k e.1) es keys) (only : (j : ℕ)
     → slice_get keys j ≡ Some o.0 → j ≡ i)
     (there : slot live' key ≡ Some v) (stay : (k : ℕ) (v : LiveVersion) → slot live k ≡ Some v → HasOtherKey (Some o) k
@@ -235,12 +235,12 @@ module _ (live live' : List (Option LiveVersion)) (keys : List ℕ) (es : List F
       ≡ slice_set (filter_map (known_at live) keys) i (as_known v)
   replaced_known = set_known live live' key v there es keys i zip stay_but
 
-  pub replaced_keyed : (e : FileEntry) → v.at ≡ e.1 → v.is_current ≡ true
+  pub replaced_keyed : (e : SpecFileEntry) → v.at ≡ e.1 → v.is_current ≡ true
       → AllZip (λ e k. IsCurrent live' k e.1) (slice_set es i e) (slice_set keys i key)
   replaced_keyed e at current = set_keyed live live' key v there es keys i e at current zip stay_but
 
 -- a key more
-module _ (live live' : List (Option LiveVersion)) (keys : List ℕ) (es : List FileEntry) (key : ℕ) (v : LiveVersion)
+module _ (live live' : List (Option LiveVersion)) (keys : List ℕ) (es : List SpecFileEntry) (key : ℕ) (v : LiveVersion)
     (zip : AllZip (λ e k. IsCurrent live k e.1) es keys) (there : slot live' key ≡ Some v)
     (stay : Stay live live') where
   pub added_known : filter_map (known_at live') (keys ++ key ∷ []) ≡ filter_map (known_at live) keys ++ as_known v ∷ []
@@ -248,7 +248,7 @@ module _ (live live' : List (Option LiveVersion)) (keys : List ℕ) (es : List F
       filter_map_push (known_at live') keys key (as_known v) (ap (option_map as_known) there)
       ∙ ap (λ vs. vs ++ as_known v ∷ []) (known_on live live' (all_stay live live' stay) es keys zip)
 
-  pub added_keyed : (e : FileEntry) → v.at ≡ e.1 → v.is_current ≡ true
+  pub added_keyed : (e : SpecFileEntry) → v.at ≡ e.1 → v.is_current ≡ true
       → AllZip (λ e k. IsCurrent live' k e.1) (es ++ e ∷ []) (keys ++ key ∷ [])
   added_keyed e at current =
       zip_behind (λ e k. IsCurrent live' k e.1) es keys e key
@@ -257,8 +257,8 @@ module _ (live live' : List (Option LiveVersion)) (keys : List ℕ) (es : List F
 
 -- All directories, of which one changes.
 
--- where the version before has a key of one directory, no other directory has this key
-other_keys : (size : ℕ) (c : VolumeCore) → IsWholeCore size c → (place other : ℕ) (ks ls : List ℕ) (old : Entered)
+-- if the version before has a key of one directory, no other directory has this key
+other_keys : (size : ℕ) (c : MemoryMap) → IsWholeMemory size c → (place other : ℕ) (ks ls : List ℕ) (old : Entered)
     → IfSome old (λ o. (i : ℕ) × (slice_get ks i ≡ Some o.0)) → slice_get c.keys place ≡ Some ks
     → slice_get c.keys other ≡ Some ls → (other ≡ place → ⊥)
     → (j k : ℕ) → slice_get ls j ≡ Some k → HasOtherKey old k
@@ -266,7 +266,7 @@ other_keys size c whole place other ks ls None from here there apart j k at = tt
 other_keys size c whole place other ks ls (Some o) from here there apart j k at =
     λ same. apart (sym (keys_apart size c whole place from.0 other j ks ls o.0 here from.1 there (at ∙ ap Some same)).0)
 
-module _ (size : ℕ) (m : LiveMap) (whole : IsWholeCore size (core_of m)) (live' : List (Option LiveVersion))
+module _ (size : ℕ) (m : LiveMap) (whole : IsWholeMemory size (memory_of m)) (live' : List (Option LiveVersion))
     (place : ℕ) (d₀ d : LiveDirectory) (at : slice_get m.directories.items place ≡ Some d₀) (old : Entered)
     (from : IfSome old (λ o. (i : ℕ) × (slice_get d₀.keys.items i ≡ Some o.0)))
     (stay : (k : ℕ) (v : LiveVersion) → slot m.versions.slots k ≡ Some v → HasOtherKey old k
@@ -274,7 +274,7 @@ module _ (size : ℕ) (m : LiveMap) (whole : IsWholeCore size (core_of m)) (live
   stay_in : (j : ℕ) (x : LiveDirectory) → slice_get m.directories.items j ≡ Some x → (j ≡ place → ⊥)
       → StayIn m.versions.slots live' x.keys.items
   stay_in j x is other l k v here was =
-      stay k v was (other_keys size (core_of m) whole place j d₀.keys.items x.keys.items old from
+      stay k v was (other_keys size (memory_of m) whole place j d₀.keys.items x.keys.items old from
       (mapped_at (λ (y : LiveDirectory). y.keys.items) m.directories.items place d₀ at)
       (mapped_at (λ (y : LiveDirectory). y.keys.items) m.directories.items j x is) other l k here)
 
@@ -292,13 +292,13 @@ module _ (size : ℕ) (m : LiveMap) (whole : IsWholeCore size (core_of m)) (live
 
   -- the other directories are as before
   pub made_current_directories : map (live_directory live') (slice_set m.directories.items place d)
-      ≡ slice_set (core_of m).known.directories place (live_directory live' d)
+      ≡ slice_set (memory_of m).known.directories place (live_directory live' d)
   made_current_directories = mapped_set (live_directory live') (live_directory m.versions.slots) m.directories.items
       place d same_directory
 
-  -- and keyed, where this one is
+  -- and keyed, if this one is
   pub made_current_keyed : IsKeyed live' (live_directory live' d) d.keys.items
-      → AllZip (IsKeyed live') (slice_set (core_of m).known.directories place (live_directory live' d))
+      → AllZip (IsKeyed live') (slice_set (memory_of m).known.directories place (live_directory live' d))
       (map (λ x. x.keys.items) (slice_set m.directories.items place d))
   made_current_keyed is =
       pairs_set (IsKeyed live') (live_directory m.versions.slots) (λ (x : LiveDirectory). x.keys.items)

@@ -1,4 +1,4 @@
--- A version becomes the file of its name: what the puts make of what is held.
+-- A version becomes the file of its name: what the puts make of the disk's map.
 use Rattle.std.proofs.Common.{◌≡◌, ℕ, ◌+◌, ◌<◌, ◌≤◌, ◌⊎◌, inl, inr, ⊎_elim, List, ◌∷◌, ◌++◌, Some, option_map}
 use Rattle.std.proofs.Common.{slice_get, refl, sym, ◌∙◌, ap, subst, arith}
 use Rattle.std.specs.Option.{IsSome}
@@ -8,7 +8,7 @@ use Rattle.words36.specs.declared.names.FileName.{FileName}
 use Rattle.blockdisk.specs.Common.{Contents}
 use Rattle.spec_image.specs.declared.put.Put.{Put}
 use Rattle.spec_image.specs.Common.{times, get, insert, from_entries, sum_over, head_or_zero, table_blocks}
-use Rattle.spec_image.specs.Common.{table_start, space_start, with_puts, table_bit, master_word, FileEntry}
+use Rattle.spec_image.specs.Common.{table_start, space_start, with_puts, table_bit, master_word, SpecFileEntry}
 use Rattle.spec_image.specs.Common.{file_words, IsFileEntry, StoredFile, StoredDirectory, DiskMap, HasMap, IsVersion}
 use Rattle.spec_image.specs.Common.{directory_of, files_of, place_of, reaches_in_file, reaches_in_directory, reaches}
 use Rattle.spec_image.specs.Common.{TableFollows, IsFileChain, primes_of, reaches_in_found, with_directory, InSpace}
@@ -19,12 +19,13 @@ use Rattle.spec_image.proofs.Common.{each_times, version_kept, published}
 use Rattle.spec_image.proofs.ChangedFiles.{files_published as files_of_published}
 use Rattle.alloctab.specs.Common.{bit}
 use Rattle.directory.specs.Common.{IsOn, chain_stands, on_kept}
-use Rattle.volume.specs.Common.{facts_of, known_facts, KnownVersion, Known, IsKnownFile, IsKnownDirectory, IsKnownMap}
-use Rattle.volume.specs.Common.{IsHeld, IsWholeMap, blocks_reached, Before, given_up, files_put_in, files_published}
+use Rattle.volume.specs.Common.{facts_of, known_facts, CurrentVersion, CurrentMap, AgreesOnFile, AgreesOnDirectory}
+use Rattle.volume.specs.Common.{AgreesOnMap}
+use Rattle.volume.specs.Common.{MatchesMap, IsWholeMap, blocks_reached, Before, given_up, files_put_in, files_published}
 use Rattle.volume.specs.Common.{IsPublished}
-use Rattle.volume.proofs.common.Held.{reached_in_space}
+use Rattle.volume.proofs.common.UsedBlocks.{reached_in_space}
 use Rattle.volume.proofs.common.OneDirectory.{directory_leads}
-use Rattle.volume.proofs.common.Reaching.{file_times}
+use Rattle.volume.proofs.common.ReachedBlocks.{file_times}
 use Rattle.volume.proofs.PublishVersion.Puts.{given_up_is, was_whole, published_times, published_inside}
 use Rattle.volume.proofs.PublishVersion.Puts.{published_apart, published_stays}
 use Rattle.volume.proofs.common.Lists.{head_front}
@@ -47,17 +48,17 @@ published_files m ppn stored chain name f at =
 
 -- In the directory that the map has there.
 
-module _ (size : ℕ) (k k' : Known) (m : DiskMap) (ppn : ℕ) (name : FileName) (at : ℕ) (v : KnownVersion)
+module _ (size : ℕ) (k k' : CurrentMap) (m : DiskMap) (ppn : ℕ) (name : FileName) (at : ℕ) (v : CurrentVersion)
     (old : Before) (puts : List Put) (whole : IsWholeMap size k) (is : IsPublished size k k' ppn name at v old puts)
     (stored : StoredDirectory) (stored_at : get m.directories ppn ≡ Some stored) (c : Contents)
-    (held : IsHeld size k m c) (f : StoredFile) (facts : facts_of f ≡ known_facts at v.prime v.version)
+    (held : MatchesMap size k m c) (f : StoredFile) (facts : facts_of f ≡ known_facts at v.prime v.version)
     (version : IsVersion m.layout c (place_of ppn name) f) where
   -- which blocks are meant
 
-  stored_is : IsKnownDirectory is.directory stored
+  stored_is : AgreesOnDirectory is.directory stored
   stored_is =
       let found = held.known.each is.place (ppn, is.word) is.directory is.there.is is.directory_at in
-      subst (IsKnownDirectory is.directory) (some_same (sym found.1 ∙ stored_at)) found.2
+      subst (AgreesOnDirectory is.directory) (some_same (sym found.1 ∙ stored_at)) found.2
 
   stored_times : (n : ℕ) → times n stored.chain ≡ times n is.directory.chain.blocks
   stored_times n = ap (times n) stored_is.chain
@@ -95,7 +96,7 @@ module _ (size : ℕ) (k k' : Known) (m : DiskMap) (ppn : ℕ) (name : FileName)
       omega arith
 
   -- A block of the file is not in its directory's chain: one that the chain takes is nowhere else, and one that the map
-  -- reaches stands in the version of before.
+  -- reaches occurs in the version before.
   new_apart : (n : ℕ) → 0 < reaches_in_file n f → times n is.directory'.chain.blocks ≡ 0
   new_apart n there =
       let e = new_times n in
@@ -188,17 +189,17 @@ module _ (size : ℕ) (k k' : Known) (m : DiskMap) (ppn : ℕ) (name : FileName)
       })
       follows
 
-  -- core
+  -- memory
 
-  each_file : (i : ℕ) (e : FileEntry) (u : KnownVersion) → slice_get is.directory'.chain.entries i ≡ Some e
+  each_file : (i : ℕ) (e : SpecFileEntry) (u : CurrentVersion) → slice_get is.directory'.chain.entries i ≡ Some e
       → slice_get is.directory'.versions i ≡ Some u
-      → IsKnownFile (with_file stored is.directory'.chain.blocks name f) e u
+      → AgreesOnFile (with_file stored is.directory'.chain.blocks name f) e u
   each_file i e u here also = ⊎_elim
       (λ new.
       let entry : e ≡ (name, at) = new.0 in
       let known : u ≡ v = new.1 in (
         f,
-        ap (λ (z : FileEntry). get (insert stored.files name f) z.0) entry
+        ap (λ (z : SpecFileEntry). get (insert stored.files name f) z.0) entry
             ∙ get-insert_same name_total stored.files name f,
         facts ∙ sym (λ j. known_facts (entry j).1 (known j).prime (known j).version),
       ))
@@ -207,7 +208,7 @@ module _ (size : ℕ) (k k' : Known) (m : DiskMap) (ppn : ℕ) (name : FileName)
       (found.0, get-insert_other name_total name_exact stored.files name f e.0 kept.0 ∙ found.1, found.2))
       (is.entry.each i e u here also)
 
-  new_known : IsKnownDirectory is.directory' (with_file stored is.directory'.chain.blocks name f)
+  new_known : AgreesOnDirectory is.directory' (with_file stored is.directory'.chain.blocks name f)
   new_known = record {
     chain = refl;
     names = map_values-insert name_total name_exact (λ x. x.prime) stored.files name f
@@ -215,28 +216,28 @@ module _ (size : ℕ) (k k' : Known) (m : DiskMap) (ppn : ℕ) (name : FileName)
     each = each_file;
   }
 
-  pub publishing_leads_in : IsHeld size k' (map_published m ppn stored is.directory'.chain.blocks name f)
+  pub publishing_leads_in : MatchesMap size k' (map_published m ppn stored is.directory'.chain.blocks name f)
       (with_puts puts c)
   publishing_leads_in = directory_leads size k k' m ppn is.place is.word is.directory is.directory' whole is.there
       is.directory_at is.master is.directories stored (with_file stored is.directory'.chain.blocks name f) stored_at c
       held puts (λ n there none. reached_stays n there (let s = stored_times n in omega arith)) new_known
       (λ i. (master_word stored.protection stored.quota, first_block i)) new_on new_map new_bits
 
--- In the directory that the map has for the place in core.
+-- In the directory that the map has for the place in memory.
 
-module _ (size : ℕ) (k k' : Known) (m : DiskMap) (ppn : ℕ) (name : FileName) (at : ℕ) (v : KnownVersion)
-    (old : Before) (puts : List Put) (is : IsPublished size k k' ppn name at v old puts) (known : IsKnownMap k m) where
+module _ (size : ℕ) (k k' : CurrentMap) (m : DiskMap) (ppn : ℕ) (name : FileName) (at : ℕ) (v : CurrentVersion)
+    (old : Before) (puts : List Put) (is : IsPublished size k k' ppn name at v old puts) (known : AgreesOnMap k m) where
   abbrev pub stored : StoredDirectory
   stored = (known.each is.place (ppn, is.word) is.directory is.there.is is.directory_at).0
 
   pub stored_at : get m.directories ppn ≡ Some stored
   stored_at = (known.each is.place (ppn, is.word) is.directory is.there.is is.directory_at).1
 
-module _ (size : ℕ) (k k' : Known) (m : DiskMap) (ppn : ℕ) (name : FileName) (at : ℕ) (v : KnownVersion)
+module _ (size : ℕ) (k k' : CurrentMap) (m : DiskMap) (ppn : ℕ) (name : FileName) (at : ℕ) (v : CurrentVersion)
     (old : Before) (puts : List Put) (whole : IsWholeMap size k) (is : IsPublished size k k' ppn name at v old puts)
-    (c : Contents) (held : IsHeld size k m c) (f : StoredFile) (facts : facts_of f ≡ known_facts at v.prime v.version)
+    (c : Contents) (held : MatchesMap size k m c) (f : StoredFile) (facts : facts_of f ≡ known_facts at v.prime v.version)
     (version : IsVersion m.layout c (place_of ppn name) f) where
-  pub publishing_leads : IsHeld size k'
+  pub publishing_leads : MatchesMap size k'
       (map_published m ppn (stored size k k' m ppn name at v old puts is held.known) is.directory'.chain.blocks name f)
       (with_puts puts c)
   publishing_leads = publishing_leads_in size k k' m ppn name at v old puts whole is

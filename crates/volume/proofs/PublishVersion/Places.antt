@@ -1,4 +1,4 @@
--- What a publication makes of the places, and of the versions that readers hold.
+-- What a publication makes of the places, and of the pinned versions.
 use Rattle.std.proofs.Common.{◌≡◌, ◌⊎◌, inl, inr, ℕ, ◌<◌, ◌==◌, true, false, if◌then◌else◌, List, slice_set, Some}
 use Rattle.std.proofs.Common.{None, option_map, refl, sym, ap, ◌∙◌, arith, ⊎_elim}
 use Rattle.std.proofs.lemmas.Bool.{cases_eq}
@@ -9,9 +9,10 @@ use Rattle.spec_image.specs.declared.put.Put.{Put}
 use Rattle.spec_image.specs.Common.{name_cmp, get, insert, from_entries}
 use Rattle.spec_image.proofs.Common.{some_same, some_none, same_or_other, get-insert_same, get-insert_other}
 use Rattle.spec_image.proofs.Common.{get-from_entries, name_total, name_exact}
-use Rattle.volume.specs.Common.{Known, KnownVersion, KnownDirectory, prime_in, Before, IsNamed, VolumeCore, slot}
-use Rattle.volume.specs.Common.{IsWholeCore, prime_at, IsPublished, Entered, before, live_left, IsEnded, HasOtherKey}
-use Rattle.volume.specs.Common.{IsPublishedCore}
+use Rattle.volume.specs.Common.{CurrentMap, CurrentVersion, CurrentDirectory, prime_in, Before, IsNamed, MemoryMap}
+use Rattle.volume.specs.Common.{slot}
+use Rattle.volume.specs.Common.{IsWholeMemory, prime_at, IsPublished, Entered, before, live_left, IsEnded, HasOtherKey}
+use Rattle.volume.specs.Common.{IsPublishedMemory}
 use Rattle.volume.specs.declared.live.LiveVersion.{LiveVersion}
 use Rattle.volume.specs.declared.pending.PendingVersion.{PendingVersion}
 use Rattle.volume.proofs.common.OnePlace.{one_key, one_place}
@@ -20,17 +21,17 @@ use Rattle.volume.proofs.common.PrimeBlocks.{prime_of_place, primes_table, prime
 -- The map.
 
 -- the prime block that a name had
-was_named : (d : KnownDirectory) (name : FileName) (old : Before) → IsNamed d name old
+was_named : (d : CurrentDirectory) (name : FileName) (old : Before) → IsNamed d name old
     → find name_cmp name d.chain.entries ≡ option_map (λ o. o.0) old
 was_named d name None is = is
 was_named d name (Some o) is = is.1.found
 
-module _ (size : ℕ) (k k' : Known) (ppn : ℕ) (name : FileName) (at : ℕ) (v : KnownVersion) (old : Before)
+module _ (size : ℕ) (k k' : CurrentMap) (ppn : ℕ) (name : FileName) (at : ℕ) (v : CurrentVersion) (old : Before)
     (puts : List Put) (published : IsPublished size k k' ppn name at v old puts) where
-  abbrev d : KnownDirectory
+  abbrev d : CurrentDirectory
   d = published.directory
 
-  -- where the directories are those from before but for one
+  -- if the directories are those from before except one
   goes : (q : ℕ) (n : FileName) → prime_in k'.master.entries k'.directories q n
       ≡ prime_in k.master.entries (slice_set k.directories published.place published.directory') q n
   goes q n = λ i. prime_in (published.master i).entries (published.directories i) q n
@@ -67,10 +68,10 @@ module _ (size : ℕ) (k k' : Known) (ppn : ℕ) (name : FileName) (at : ℕ) (v
       (λ other. goes q n ∙ prime_elsewhere k.master.entries k.directories published.place ppn q n published.word
       published.directory' published.there.is other) (cases_eq q ppn)
 
--- Core.
+-- Memory.
 
--- The place has this prime block, where it had that of the version before, and every other place has what it had.
-pub record PrimesGoOn (c c' : VolumeCore) (ppn : ℕ) (name : FileName) (at : ℕ) (old : Entered) : Type 0 where
+-- The place has this prime block, in place of that of the version before, and every other place has what it had.
+pub record PrimesGoOn (c c' : MemoryMap) (ppn : ℕ) (name : FileName) (at : ℕ) (old : Entered) : Type 0 where
   pub others : (q : ℕ) (n : FileName) → ((q ≡ ppn) × (n ≡ name) → ⊥) → prime_at c' q n ≡ prime_at c q n
   pub here : prime_at c' ppn name ≡ Some at
   pub before : prime_at c ppn name ≡ option_map (λ o. o.1.at) old
@@ -79,8 +80,8 @@ entered_before : (old : Entered) → option_map (λ o. o.0) (before old) ≡ opt
 entered_before None = refl
 entered_before (Some o) = refl
 
-pub primes_published : (size : ℕ) (c c' : VolumeCore) (key : ℕ) (p : PendingVersion) (words : ℕ)
-    → (is : IsPublishedCore size c c' key p words) → PrimesGoOn c c' p.prime.ppn p.prime.file is.at is.makes_current.old
+pub primes_published : (size : ℕ) (c c' : MemoryMap) (key : ℕ) (p : PendingVersion) (words : ℕ)
+    → (is : IsPublishedMemory size c c' key p words) → PrimesGoOn c c' p.prime.ppn p.prime.file is.at is.makes_current.old
 primes_published size c c' key p words is = record {
   others = λ q n differ. published_elsewhere size is.put.known c'.known p.prime.ppn p.prime.file is.at _
       (before is.makes_current.old) is.puts is.makes_current.published q n differ
@@ -94,12 +95,12 @@ primes_published size c c' key p words is = record {
 }
 
 -- The place has a file then.
-pub published_named : (size : ℕ) (c c' : VolumeCore) (key : ℕ) (p : PendingVersion) (words : ℕ)
-    → IsPublishedCore size c c' key p words → prime_at c' p.prime.ppn p.prime.file ≡ None → ⊥
+pub published_named : (size : ℕ) (c c' : MemoryMap) (key : ℕ) (p : PendingVersion) (words : ℕ)
+    → IsPublishedMemory size c c' key p words → prime_at c' p.prime.ppn p.prime.file ≡ None → ⊥
 published_named size c c' key p words is none =
     some_none (sym (primes_published size c c' key p words is).here ∙ none)
 
--- The versions that readers hold.
+-- The pinned versions.
 
 pub same_place : (q ppn : ℕ) (n name : FileName) → ((q ≡ ppn) × (n ≡ name)) ⊎ ((q ≡ ppn) × (n ≡ name) → ⊥)
 same_place q ppn n name = ⊎_elim
@@ -110,8 +111,8 @@ same_place q ppn n name = ⊎_elim
 pub not_zero : {A : Type 0} (n : ℕ) (x y : A) → 0 < n → (if n == 0 then x else y) ≡ y
 not_zero n x y some = grind (arith, nat_tests)
 
-module _ (size : ℕ) (c c' : VolumeCore) (key : ℕ) (p : PendingVersion) (words : ℕ) (whole : IsWholeCore size c)
-    (is : IsPublishedCore size c c' key p words) (k : ℕ) (v : LiveVersion) (there : slot c.live k ≡ Some v) where
+module _ (size : ℕ) (c c' : MemoryMap) (key : ℕ) (p : PendingVersion) (words : ℕ) (whole : IsWholeMemory size c)
+    (is : IsPublishedMemory size c c' key p words) (k : ℕ) (v : LiveVersion) (there : slot c.live k ≡ Some v) where
   not_new : k ≡ is.makes_current.new_key → ⊥
   not_new same = some_none (sym there ∙ ap (λ l. slot l k) (sym is.live) ∙ ap (slot is.put.live) same
       ∙ is.makes_current.vacant)
@@ -119,7 +120,7 @@ module _ (size : ℕ) (c c' : VolumeCore) (key : ℕ) (p : PendingVersion) (word
   was_live : (o : ℕ × LiveVersion) → slot is.put.live o.0 ≡ Some o.1 → slot c.live o.0 ≡ Some o.1
   was_live o at = ap (λ l. slot l o.0) (sym is.live) ∙ at
 
-  -- under the key of the one before stands that one
+  -- that one is under the key of the one before
   is_before : (o : ℕ × LiveVersion) → slot is.put.live o.0 ≡ Some o.1 → k ≡ o.0 → o.1 ≡ v
   is_before o at same = some_same (sym (was_live o at) ∙ ap (slot c.live) (sym same) ∙ there)
 

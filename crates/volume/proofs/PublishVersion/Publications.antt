@@ -5,13 +5,14 @@ use Rattle.changeset.specs.Common.{rest_settles}
 use Rattle.spec_image.specs.Common.{blocks_of, File, Files, pack_of, SettledStandsOn, StandsOn, Pack}
 use Rattle.directory.specs.Common.{Places}
 use Rattle.retrieval.specs.Common.{VersionState, rib_count}
-use Rattle.volume.specs.Common.{IsDirectoryOf, KnownDirectory, Known, VolumeCore, pending_at, IsWholeCore, IsPlaced}
+use Rattle.volume.specs.Common.{IsDirectoryOf, CurrentDirectory, CurrentMap, MemoryMap, pending_at, IsWholeMemory}
+use Rattle.volume.specs.Common.{IsPlaced}
 use Rattle.volume.specs.Common.{IsSupplied, RestsAt, StandsForOneOf}
 use Rattle.volume.specs.declared.pending.PendingVersion.{PendingVersion}
 use Rattle.volume.proofs.common.Packs.{pack_kept}
-use Rattle.volume.proofs.PutWords.Core.{waits}
+use Rattle.volume.proofs.PutWords.Memory.{waits}
 
--- Where nothing was done, a crash leaves what stands for the files.
+-- If nothing was done, a crash leaves what stands for the files.
 pub unchanged_leaves : (s : DiskState) (f g : Files File) → RestsAt s f
     → ((c : Contents) → s.left_since s.clock c → MayLeave s c) → LeavesOnly s s (StandsForOneOf (pack_of s) f g)
 unchanged_leaves s f g rests only_now = leaves_start s (StandsForOneOf (pack_of s) f g) only_now
@@ -34,12 +35,12 @@ both_leave s mid s' f g size rests first second =
     either second (λ c. subst (λ (p : Pack). StandsForOneOf p f g c) (pack_kept s mid f g f size either rests))
 
 -- The chains stay when words are put.
-module _ (c c' : VolumeCore) (known : c'.known ≡ record c.known { table = c'.known.table }) where
-  directory_on : (ppn : ℕ) (d : KnownDirectory) → IsDirectoryOf c ppn d → IsDirectoryOf c' ppn d
-  directory_on ppn d there = subst (λ (k : Known). IsDirectoryOf (record c' { known = k }) ppn d) (sym known) there
+module _ (c c' : MemoryMap) (known : c'.known ≡ record c.known { table = c'.known.table }) where
+  directory_on : (ppn : ℕ) (d : CurrentDirectory) → IsDirectoryOf c ppn d → IsDirectoryOf c' ppn d
+  directory_on ppn d there = subst (λ (k : CurrentMap). IsDirectoryOf (record c' { known = k }) ppn d) (sym known) there
 
-  directory_back : (ppn : ℕ) (d : KnownDirectory) → IsDirectoryOf c' ppn d → IsDirectoryOf c ppn d
-  directory_back ppn d there = subst (λ (k : Known). IsDirectoryOf (record c' { known = k }) ppn d) known there
+  directory_back : (ppn : ℕ) (d : CurrentDirectory) → IsDirectoryOf c' ppn d → IsDirectoryOf c ppn d
+  directory_back ppn d there = subst (λ (k : CurrentMap). IsDirectoryOf (record c' { known = k }) ppn d) known there
 
   pub placed_on : (p : PendingVersion) (v : VersionState) → IsPlaced c p → IsPlaced c' (record p { version = v })
   placed_on p v placed = record {
@@ -59,8 +60,8 @@ module _ (c c' : VolumeCore) (known : c'.known ≡ record c.known { table = c'.k
         supplied.roomy i w d ks there.2 there.3 (ap (λ l. slice_get l i) (sym same) ∙ is) absent;
   }
 
--- There are as many ribs as the version's blocks ask for.
-pub ribs_on : (size : ℕ) (c : VolumeCore) (key : ℕ) (p : PendingVersion) (words blocks ribs : ℕ) → IsWholeCore size c
+-- There are as many ribs as the version's blocks need.
+pub ribs_on : (size : ℕ) (c : MemoryMap) (key : ℕ) (p : PendingVersion) (words blocks ribs : ℕ) → IsWholeMemory size c
     → pending_at c.pending key ≡ Some p → p.version.words ≡ words → blocks ≡ blocks_of words → ribs ≡ rib_count blocks
     → ribs ≡ rib_count (length p.version.blocks)
 ribs_on size c key p words blocks ribs whole there long many is =

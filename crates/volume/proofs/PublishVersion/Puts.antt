@@ -10,19 +10,20 @@ use Rattle.spec_image.specs.Common.{StoredFile, StoredDirectory, reaches_in_foun
 use Rattle.spec_image.proofs.Common.{name_total, get-from_entries, get-map_values, times-append, each_times}
 use Rattle.spec_image.proofs.Common.{all_append, all_left}
 use Rattle.changeset.specs.Common.{IsPutIn, some_or_none}
-use Rattle.volume.specs.Common.{KnownVersion, KnownDirectory, Known, IsKnownDirectory, IsWholeDirectory, IsWholeMap}
+use Rattle.volume.specs.Common.{CurrentVersion, CurrentDirectory, CurrentMap, AgreesOnDirectory, IsWholeDirectory}
+use Rattle.volume.specs.Common.{IsWholeMap}
 use Rattle.volume.specs.Common.{blocks_reached, Before, given_up, IsNamed, IsPublished}
 use Rattle.volume.proofs.VolumeStart.FoundDirectories.{all_at}
 use Rattle.volume.proofs.common.Puts.{not_put}
 use Rattle.volume.proofs.common.Lists.{none_mapped}
-use Rattle.volume.proofs.common.Reaching.{file_times}
+use Rattle.volume.proofs.common.ReachedBlocks.{file_times}
 
 -- Lists.
 
 -- One version.
 
--- a file that there was reaches what core knew of it
-pub given_up_is : (d : KnownDirectory) (s : StoredDirectory) (name : FileName) (old : Before) → IsKnownDirectory d s
+-- an existing file reaches what memory knew of it
+pub given_up_is : (d : CurrentDirectory) (s : StoredDirectory) (name : FileName) (old : Before) → AgreesOnDirectory d s
     → IsNamed d name old → (n : ℕ) → reaches_in_found n (get s.files name) ≡ given_up n old
 given_up_is d s name None known none n =
     ap (reaches_in_found n) (none_mapped (λ (f : StoredFile). f.prime) (get s.files name)
@@ -34,7 +35,7 @@ given_up_is d s name (Some v) known named n =
 
 -- The puts.
 
-module _ (size : ℕ) (k k' : Known) (ppn : ℕ) (name : FileName) (at : ℕ) (v : KnownVersion) (old : Before)
+module _ (size : ℕ) (k k' : CurrentMap) (ppn : ℕ) (name : FileName) (at : ℕ) (v : CurrentVersion) (old : Before)
     (puts : List Put) (whole : IsWholeMap size k) (is : IsPublished size k k' ppn name at v old puts) where
   pub was_whole : IsWholeDirectory size is.directory
   was_whole = all_at (IsWholeDirectory size) k.directories is.place is.directory whole.each is.directory_at
@@ -66,6 +67,6 @@ module _ (size : ℕ) (k k' : Known) (ppn : ℕ) (name : FileName) (at : ℕ) (v
   pub published_few : length puts ≤ log_images size
   published_few = let a = is.put.few in let b = is.few in omega arith
 
-  -- a block of the free space isn't put, but for those of the directory's chain
+  -- a block of the free space isn't put, except those of the directory's chain
   pub published_elsewhere : (n : ℕ) → space_start size ≤ n → times n is.directory'.chain.blocks ≡ 0 → IsPutIn puts n → ⊥
   published_elsewhere n from none = not_put puts n (λ c. published_stays c n (inr from) none)

@@ -1,5 +1,5 @@
--- A version becomes the file of its name: the slots in which it and the one before stand, and lists of which one
--- element is another.
+-- A version becomes the file of its name: the slots of it and of the one before, and lists of which one element
+-- changes.
 use Rattle.std.proofs.Common.{◌≡◌, ℕ, zero, suc, ◌+◌, ◌-◌, ◌<◌, ◌≤◌, ◌==◌, ◌⊎◌, inl, inr, ⊎_elim, Bool, true, false}
 use Rattle.std.proofs.Common.{if◌then◌else◌, List, [], ◌∷◌, slice_set, Option, Some, None, slice_index_or, refl, sym}
 use Rattle.std.proofs.Common.{ap, subst, ◌∙◌, arith, eqb-true}
@@ -10,19 +10,19 @@ use Rattle.blockdisk.specs.Common.{Contents}
 use Rattle.spec_image.specs.declared.put.Put.{Put}
 use Rattle.spec_image.specs.Common.{total, times}
 use Rattle.spec_image.proofs.Common.{some_same, some_none}
-use Rattle.volume.specs.Common.{blocks_reached, given_up, cost_before, VolumeCore, slot, pending_at, held_reaches}
-use Rattle.volume.specs.Common.{held_cost, current_reaches, Entered, before, live_left, IsEnded, HasOtherKey}
+use Rattle.volume.specs.Common.{blocks_reached, given_up, cost_before, MemoryMap, slot, pending_at, pinned_reaches}
+use Rattle.volume.specs.Common.{pinned_cost, current_reaches, Entered, before, live_left, IsEnded, HasOtherKey}
 use Rattle.volume.specs.Common.{MakesCurrent, AreDated, HasSomeBody}
 use Rattle.volume.specs.declared.live.LiveVersion.{LiveVersion}
 use Rattle.volume.specs.declared.pending.PendingVersion.{PendingVersion}
-use Rattle.volume.proofs.common.Keeping.{all_slots}
+use Rattle.volume.proofs.common.VersionKeys.{all_slots}
 use Rattle.volume.proofs.common.LiveBodies.{HaveBodies}
 use Rattle.volume.proofs.common.LiveTotals.{total_updated}
 use Rattle.volume.proofs.PinVersion.Pins.{each_slot, total_at}
 
 -- One element of a list is another.
 
--- The cost of directories with their entries and such as are to come.
+-- The cost of directories with their entries and those that will come.
 
 -- The version of before.
 
@@ -48,22 +48,22 @@ left_cases v = by (v.readers == 0) refl
 left_reaches : (n : ℕ) (v : LiveVersion) → current_reaches n (left v) ≡ 0
 left_reaches n v = ⊎_elim (λ none. ap (current_reaches n) none.1) (λ some. ap (current_reaches n) some) (left_cases v)
 
-left_held : (n : ℕ) (v : LiveVersion) → held_reaches n (left v) ≤ times n (blocks_reached v.at v.version)
-left_held n v = ⊎_elim (λ none. let is = ap (held_reaches n) none.1 in
-    omega arith) (λ some. let is = ap (held_reaches n) some in omega arith) (left_cases v)
+left_held : (n : ℕ) (v : LiveVersion) → pinned_reaches n (left v) ≤ times n (blocks_reached v.at v.version)
+left_held n v = ⊎_elim (λ none. let is = ap (pinned_reaches n) none.1 in
+    omega arith) (λ some. let is = ap (pinned_reaches n) some in omega arith) (left_cases v)
 
-left_cost : (v : LiveVersion) → held_cost (left v) ≤ cost_before (before (Some (0, v)))
-left_cost v = ⊎_elim (λ none. let is = ap held_cost none.1 in omega arith) (λ some. let is = ap held_cost some in
+left_cost : (v : LiveVersion) → pinned_cost (left v) ≤ cost_before (before (Some (0, v)))
+left_cost v = ⊎_elim (λ none. let is = ap pinned_cost none.1 in omega arith) (λ some. let is = ap pinned_cost some in
     omega arith) (left_cases v)
 
 -- What it counts for, before and after.
 pub record Counts (live : List (Option LiveVersion)) (old : Entered) (n : ℕ) : Type 0 where
   pub current : current_reaches n (entered old) ≡ given_up n (before old)
-  pub unheld : held_reaches n (entered old) ≡ 0
-  pub uncosted : held_cost (entered old) ≡ 0
+  pub unheld : pinned_reaches n (entered old) ≡ 0
+  pub uncosted : pinned_cost (entered old) ≡ 0
   pub ended : current_reaches n (live_left old) ≡ 0
-  pub held : held_reaches n (live_left old) ≤ given_up n (before old)
-  pub cost : held_cost (live_left old) ≤ cost_before (before old)
+  pub held : pinned_reaches n (live_left old) ≤ given_up n (before old)
+  pub cost : pinned_cost (live_left old) ≤ cost_before (before old)
   pub within : given_up n (before old) ≤ total (current_reaches n) live
 
 pub counts : (live live' : List (Option LiveVersion)) (old : Entered) (n : ℕ) → IsEnded live live' old
@@ -93,7 +93,7 @@ counts live live' (Some o) n is =
           omega arith;
     }
 
--- The versions in use: one is new, and what is left of the one before stands in its slot.
+-- The versions in use: one is new, and what is left of the one before is in its slot.
 
 pub set_here : {X : Type 0} (slots : List (Option X)) (k : ℕ) (q : X) (x : Option X) → slice_index_or slots k None ≡ Some q
     → slice_index_or (slice_set slots k x) k None ≡ x
@@ -127,7 +127,7 @@ made_current_total f none live live' (Some o) key x vacant here ended others =
     elsewhere : (k : ℕ) → (k ≡ o.0 → ⊥) → slot (slice_set live o.0 (live_left (Some o))) k ≡ slot live k
     elsewhere k other = get_or-set_other live o.0 k (live_left (Some o)) None other
 
--- another slot is as it was, or holds what is left of the one before
+-- another slot is as it was, or has what is left of the one before
 pub made_current_slot : (live live' : List (Option LiveVersion)) (old : Entered) (key : ℕ) → IsEnded live live' old
     → ((k : ℕ) → (k ≡ key → ⊥) → HasOtherKey old k → slot live' k ≡ slot live k)
     → (k : ℕ) → (k ≡ key → ⊥) → (slot live' k ≡ slot live k)
@@ -137,7 +137,7 @@ made_current_slot live live' (Some o) key ended others k other = ⊎_elim
     (λ (same : k ≡ o.0). inr (o.1, ap (slot live) same ∙ ended.0, ap (slot live') same ∙ ended.2))
     (λ differs. inl (others k other differs)) (cases_eq k o.0)
 
-module _ (size : ℕ) (c c' : VolumeCore) (key : ℕ) (p : PendingVersion) (at : ℕ) (ribs : List ℕ) (puts : List Put)
+module _ (size : ℕ) (c c' : MemoryMap) (key : ℕ) (p : PendingVersion) (at : ℕ) (ribs : List ℕ) (puts : List Put)
     (is : MakesCurrent size c c' key p at ribs puts) where
   pub slot_of : (k : ℕ) → (k ≡ is.new_key → ⊥) → (slot c'.live k ≡ slot c.live k)
       ⊎ ((v : LiveVersion) × (slot c.live k ≡ Some v) × (slot c'.live k ≡ left v))
@@ -157,7 +157,7 @@ module _ (size : ℕ) (c c' : VolumeCore) (key : ℕ) (p : PendingVersion) (at :
       (left_cases ended.0)))
       (slot_of k other)) (cases_eq k is.new_key))
 
-  -- a version that readers hold is still there
+  -- a pinned version is still there
   pub made_current_readers : (k : ℕ) (v : LiveVersion) → slot c.live k ≡ Some v → 0 < v.readers
       → (b : Bool) × (slot c'.live k ≡ Some (record v { is_current = b }))
   made_current_readers k v there read = ⊎_elim
@@ -174,7 +174,7 @@ module _ (size : ℕ) (c c' : VolumeCore) (key : ℕ) (p : PendingVersion) (at :
       (slot_of k (λ (same : k ≡ is.new_key). some_none (sym there ∙ ap (slot c.live) same ∙ is.vacant)))
 
 -- each that is still being written has its moment
-pub published_dated : (size : ℕ) (c c' : VolumeCore) (key : ℕ) (p : PendingVersion) (at : ℕ) (ribs : List ℕ)
+pub published_dated : (size : ℕ) (c c' : MemoryMap) (key : ℕ) (p : PendingVersion) (at : ℕ) (ribs : List ℕ)
     (puts : List Put) → MakesCurrent size c c' key p at ribs puts → (layout : ℕ) → AreDated layout c
     → AreDated layout c'
 published_dated size c c' key p at ribs puts is layout dated k q there = ⊎_elim
@@ -182,7 +182,7 @@ published_dated size c c' key p at ribs puts is layout dated k q there = ⊎_eli
     (λ other. dated k q (sym (is.other_pending k other) ∙ there)) (cases_eq k key)
 
 -- the words of each are there, and nobody reads the new one yet
-pub made_current_bodies : (contents : Contents) (size : ℕ) (c c' : VolumeCore) (key : ℕ) (p : PendingVersion)
+pub made_current_bodies : (contents : Contents) (size : ℕ) (c c' : MemoryMap) (key : ℕ) (p : PendingVersion)
     (at : ℕ) (ribs : List ℕ) (puts : List Put) → MakesCurrent size c c' key p at ribs puts → HaveBodies contents c
     → HaveBodies contents c'
 made_current_bodies contents size c c' key p at ribs puts is bodies = record {

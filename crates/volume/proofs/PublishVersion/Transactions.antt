@@ -9,17 +9,17 @@ use Rattle.spec_image.specs.Common.{StoredFile, StoredDirectory, DiskMap, IsVers
 use Rattle.spec_image.proofs.Common.{body_kept}
 use Rattle.retrieval.specs.Common.{with_length}
 use Rattle.retrieval.specs.declared.prime.Prime.{Prime}
-use Rattle.volume.specs.Common.{IsCommitted, IsEdited, facts_of, known_facts, KnownVersion, IsHeld, VolumeCore}
-use Rattle.volume.specs.Common.{IsWholeCore, file_of, files_published, before, IsPublished, IsSoundCore}
+use Rattle.volume.specs.Common.{IsCommitted, IsEdited, facts_of, known_facts, CurrentVersion, MatchesMap, MemoryMap}
+use Rattle.volume.specs.Common.{IsWholeMemory, file_of, files_published, before, IsPublished, IsSoundMemory}
 use Rattle.volume.specs.declared.error.CallError.{CallError}
 use Rattle.volume.specs.declared.error.CallError.TheVariants.{Device}
 use Rattle.volume.specs.declared.live.LiveVersion.{LiveVersion}
 use Rattle.volume.specs.declared.pending.PendingVersion.{PendingVersion}
 use Rattle.volume.proofs.common.Edits.{IsEdit, interrupted, edited}
-use Rattle.volume.proofs.common.KeptBlocks.{written_kept}
+use Rattle.volume.proofs.common.MapStays.{written_kept}
 use Rattle.volume.proofs.PublishVersion.Blocks.{IsMadeCurrent, retrieval_free, puts_in_range, puts_low, puts_few}
 use Rattle.volume.proofs.PublishVersion.Blocks.{kept_put}
-use Rattle.volume.proofs.PublishVersion.Core.{made_current_whole}
+use Rattle.volume.proofs.PublishVersion.Memory.{made_current_whole}
 use Rattle.volume.proofs.PublishVersion.Law.{map_published, published_files, publishing_leads_in, stored, stored_at}
 use Rattle.volume.proofs.PublishVersion.Slots.{made_current_bodies, published_dated}
 
@@ -42,16 +42,16 @@ retrieved_as layout contents prime prime' words words' at ribs blocks blocks' sa
 abbrev pub IsRetrievalOf : LiveVersion → ℕ → Type 0
 IsRetrievalOf v n = 0 < times n (v.at ∷ v.version.ribs)
 
--- The version's retrieval blocks and its words stand on the disk, in a layout that holds its moment.
+-- The version's retrieval blocks and its words are on the disk, in a layout that has room for its moment.
 pub record IsStanding (layout : ℕ) (p : PendingVersion) (v : LiveVersion) (body : List ℕ) (d : Contents) : Type 0 where
   pub dated : p.prime.moment.date < date_limit layout
   pub retrieved : (n : ℕ) → v.prime.moment.date < date_limit n
       → IsRetrieved n d (with_length v.prime v.version.words) v.at v.version.ribs v.version.blocks
   pub has : HasBody d p.version.blocks body
 
-module _ {size : ℕ} {c c' : VolumeCore} {key : ℕ} {p : PendingVersion} {v : LiveVersion} {puts : List Put}
-    (whole : IsWholeCore size c) (made_current : IsMadeCurrent size c c' key p v puts) where
-  abbrev as_file : KnownVersion
+module _ {size : ℕ} {c c' : MemoryMap} {key : ℕ} {p : PendingVersion} {v : LiveVersion} {puts : List Put}
+    (whole : IsWholeMemory size c) (made_current : IsMadeCurrent size c c' key p v puts) where
+  abbrev as_file : CurrentVersion
   as_file = record { prime = p.prime; version = record p.version { ribs = v.version.ribs } }
 
   abbrev published : IsPublished size c.known c'.known p.prime.ppn p.prime.file v.at as_file
@@ -65,9 +65,9 @@ module _ {size : ℕ} {c c' : VolumeCore} {key : ℕ} {p : PendingVersion} {v : 
     facts : facts_of file ≡ known_facts v.at p.prime (record p.version { ribs = v.version.ribs })
     facts = λ i. record (facts_of file) { words = long i }
 
-    module _ (m : DiskMap) (d : Contents) (same : m.layout ≡ layout) (held : IsHeld size c.known m d)
+    module _ (m : DiskMap) (d : Contents) (same : m.layout ≡ layout) (held : MatchesMap size c.known m d)
         (ready : IsStanding layout p v body d) where
-      -- its moment is one that the layout holds
+      -- the layout has room for its moment
       dated : v.prime.moment.date < date_limit m.layout
       dated = subst (λ (n : ℕ). v.prime.moment.date < date_limit n) (sym same)
           (subst (λ (x : Prime). x.moment.date < date_limit layout) (sym made_current.prime) ready.dated)
@@ -88,7 +88,7 @@ module _ {size : ℕ} {c c' : VolumeCore} {key : ℕ} {p : PendingVersion} {v : 
       in_map_at = stored_at size c.known c'.known m p.prime.ppn p.prime.file v.at as_file
           (before made_current.makes_current.old) puts published held.known
 
-      leads : (m' : DiskMap) × IsHeld size c'.known m' (with_puts puts d)
+      leads : (m' : DiskMap) × MatchesMap size c'.known m' (with_puts puts d)
           × (files_of m' ≡ files_published (files_of m) p.prime.ppn p.prime.file (file_of p.prime body))
           × (m'.layout ≡ m.layout)
       leads = (
@@ -115,14 +115,14 @@ module _ {size : ℕ} {c c' : VolumeCore} {key : ℕ} {p : PendingVersion} {v : 
 
 -- On the disk.
 
-module _ {s mid : DiskState} {c c' : VolumeCore} {key : ℕ} {p : PendingVersion} {v : LiveVersion} {puts : List Put}
-    (sound : IsSoundCore s c false) (made_current : IsMadeCurrent s.size c c' key p v puts)
+module _ {s mid : DiskState} {c c' : MemoryMap} {key : ℕ} {p : PendingVersion} {v : LiveVersion} {puts : List Put}
+    (sound : IsSoundMemory s c false) (made_current : IsMadeCurrent s.size c c' key p v puts)
     (only_now : s.honest → (d : Contents) → s.left_since s.clock d → MayLeave s d) (same : SameDisk s mid)
     (written : mid.honest → Modifies (IsRetrievalOf v) s mid) where
-  pub new_whole : IsWholeCore s.size c'
+  pub new_whole : IsWholeMemory s.size c'
   new_whole = made_current_whole s.size c c' key p v.at v.version.ribs puts sound.whole made_current.makes_current
 
-  -- where the retrieval blocks were not written
+  -- if the retrieval blocks were not written
   pub published_ended : (become : Files File → Files File) → IsEdited s mid c c' become true (Err Device)
   published_ended become = interrupted sound refl only_now same (retrieval_free sound.whole made_current) new_whole written
       Device
@@ -146,10 +146,10 @@ module _ {s mid : DiskState} {c c' : VolumeCore} {key : ℕ} {p : PendingVersion
       }) (λ h. refl)
 
   -- A volume that was sound is sound, if it is on an honest disk.
-  pub published_sound : {s' : DiskState} {failed : Bool} → SameDisk mid s' → (s'.honest → IsSoundCore s' c' failed)
-      → IsSoundCore s' c' failed
+  pub published_sound : {s' : DiskState} {failed : Bool} → SameDisk mid s' → (s'.honest → IsSoundMemory s' c' failed)
+      → IsSoundMemory s' c' failed
   published_sound after is = record {
-    whole = subst (λ (n : ℕ). IsWholeCore n c') (sym (after.size ∙ same.size)) new_whole;
+    whole = subst (λ (n : ℕ). IsWholeMemory n c') (sym (after.size ∙ same.size)) new_whole;
     rest = λ h. (is h).rest h;
     read = λ h. (is h).read h;
     written = λ h. (is h).written h;

@@ -8,12 +8,12 @@ use Rattle.spec_image.proofs.Common.{times-append}
 use Rattle.alloctab.specs.Common.{TableState, IsTable, bit, holds, used_in_space, holds-with_held_same}
 use Rattle.alloctab.specs.Common.{holds-with_held_other, sound-with_held}
 use Rattle.retrieval.specs.Common.{Takes, IsFixed}
-use Rattle.retrieval.proofs.Taking.{Stays, takes_stays, takes_each, takes_apart, may_be_written}
+use Rattle.retrieval.proofs.TakenBlocks.{Stays, takes_stays, takes_each, takes_apart, may_be_written}
 use Rattle.volume.specs.Common.{taken, put_in_use, Marks, PutsInUse, TakesPlaces}
 use Rattle.volume.proofs.common.BlockLists.{marks_none, marks_counts, held_inside, puts_in_use_none, puts_in_use_then}
 use Rattle.volume.proofs.common.BlockLists.{puts_in_use_one}
 use Rattle.volume.proofs.common.TableBits.{bit_few}
-use Rattle.retrieval.proofs.Growing.{takes_table, takes_holds}
+use Rattle.retrieval.proofs.GrownLists.{takes_table, takes_holds}
 
 -- Blocks that are taken.
 
@@ -57,7 +57,7 @@ booked_after t t' ns count others sound fixed takes many enough =
     let stays = takes_stays t ns t' sound fixed takes in
     omega (arith, stays.counted, stays.booked)
 
--- All that a version wants besides its data blocks was taken: first for the chain of its directory, then for itself.
+-- All that a version needs besides its data blocks was taken: first for the chain of its directory, then for itself.
 pub takes_places : (t s u : TableState) (grown : List ℕ) (at : ℕ) (ribs : List ℕ) → IsTable t → IsFixed t
     → Takes t grown s → Takes s (at ∷ ribs) u → TakesPlaces t u grown at ribs
 takes_places t s u grown at ribs sound fixed first second = record {
@@ -89,7 +89,7 @@ takes_places t s u grown at ribs sound fixed first second = record {
 module _ (t : TableState) (at : ℕ) (ribs blocks grown : List ℕ) (sound : IsTable t)
     (held : (n : ℕ) → times n ((at ∷ (ribs ++ blocks)) ++ grown) ≤ holds t n)
     (clear : (n : ℕ) → bit t n + times n ((at ∷ (ribs ++ blocks)) ++ grown) ≤ 1) where
-  -- how often a block stands among all of them
+  -- how often a block occurs among all of them
   parts : (n : ℕ) → times n ((at ∷ (ribs ++ blocks)) ++ grown)
       ≡ times n (at ∷ []) + times n ribs + times n blocks + times n grown
   parts n =
@@ -152,12 +152,12 @@ module _ (t : TableState) (at : ℕ) (ribs blocks grown : List ℕ) (sound : IsT
           times-append n (at ∷ (ribs ++ blocks)) grown,
         )
 
-        -- where no chain grows
+        -- if no chain grows
         pub used_alone : grown ≡ [] → PutsInUse t w ((at ∷ (ribs ++ blocks)) ++ grown)
         used_alone none = puts_in_use_then t w w (at ∷ (ribs ++ blocks)) grown puts_in_use_reached
             (subst (PutsInUse w w) (sym none) (puts_in_use_none w puts_in_use_blocks.marks.sound))
 
-        -- where one grows
+        -- if one grows
         module _ (k : ℕ) (one : grown ≡ k ∷ []) where
           pub more_held : 0 < holds w k
           more_held =

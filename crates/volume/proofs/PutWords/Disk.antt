@@ -15,23 +15,24 @@ use Rattle.alloctab.specs.Common.{TableState, bit}
 use Rattle.retrieval.specs.Common.{IsOwn, VersionState}
 use Rattle.volume.specs.declared.live.LiveVersion.{LiveVersion}
 use Rattle.volume.specs.declared.pending.PendingVersion.{PendingVersion}
-use Rattle.volume.specs.Common.{Known, IsHeld, blocks_reached, VolumeCore, slot, pending_at, held_reaches}
-use Rattle.volume.specs.Common.{pending_reaches, IsWholeCore, IsAligned, Regrown, IsAtRest, HasSomeBody, IsSoundCore}
+use Rattle.volume.specs.Common.{CurrentMap, MatchesMap, blocks_reached, MemoryMap, slot, pending_at, pinned_reaches}
+use Rattle.volume.specs.Common.{pending_reaches, IsWholeMemory, IsAligned, Regrown, IsAtRest, HasSomeBody}
+use Rattle.volume.specs.Common.{IsSoundMemory}
 use Rattle.volume.specs.Common.{RestsAt, KeepsRead, KeepsWritten}
 use Rattle.volume.proofs.common.LiveBodies.{HaveBodies, body_stays}
 use Rattle.volume.proofs.common.Rests.{files_are, rest_for, sound_for, sound_failed}
 use Rattle.volume.proofs.common.TableBits.{whole_fixed}
-use Rattle.volume.proofs.common.Held.{held_kept}
+use Rattle.volume.proofs.common.UsedBlocks.{held_kept}
 use Rattle.volume.proofs.PinVersion.Pins.{total_at, current_stands}
-use Rattle.volume.proofs.PutWords.Core.{put_whole}
+use Rattle.volume.proofs.PutWords.Memory.{put_whole}
 use Rattle.volume.proofs.common.Packs.{pack_held}
 use Rattle.volume.proofs.common.OnePlace.{both_at}
 
 -- Quiet writes.
 
--- Blocks whose bits are clear are not looked at.
-pub ignores_clear : (size : ℕ) (k : Known) (m : DiskMap) (In : ℕ → Type 0) → IsAligned k
-    → ((n : ℕ) → In n → bit k.table n ≡ 0) → Ignores In (IsHeld size k m)
+-- Blocks whose bits are clear are not read.
+pub ignores_clear : (size : ℕ) (k : CurrentMap) (m : DiskMap) (In : ℕ → Type 0) → IsAligned k
+    → ((n : ℕ) → In n → bit k.table n ≡ 0) → Ignores In (MatchesMap size k m)
 ignores_clear size k m In aligned clear c d same h =
     held_kept size k m c d aligned h (quiet size c d free m h.stands) stays (quiet_bits size c d free)
   where
@@ -55,8 +56,8 @@ ignores_clear size k m In aligned clear c d same h =
         absurd (omega arith))
 
 -- The same map, with another table that has its bits.
-same_bits : (size : ℕ) (k : Known) (t : TableState) (m : DiskMap) (c : Contents) → ((n : ℕ) → bit t n ≡ bit k.table n)
-    → IsHeld size k m c → IsHeld size (record k { table = t }) m c
+same_bits : (size : ℕ) (k : CurrentMap) (t : TableState) (m : DiskMap) (c : Contents) → ((n : ℕ) → bit t n ≡ bit k.table n)
+    → MatchesMap size k m c → MatchesMap size (record k { table = t }) m c
 same_bits size k t m c same h = record {
   known = record { chain = h.known.chain; names = h.known.names; each = h.known.each };
   stands = h.stands;
@@ -66,25 +67,25 @@ same_bits size k t m c same h = record {
 }
 
 -- Blocks are written whose bits are clear.
-module _ (s s' : DiskState) (k : Known) (In : ℕ → Type 0) (clear : (n : ℕ) → In n → bit k.table n ≡ 0)
+module _ (s s' : DiskState) (k : CurrentMap) (In : ℕ → Type 0) (clear : (n : ℕ) → In n → bit k.table n ≡ 0)
     (aligned : IsAligned k) (at : IsAtRest s k) (size : s'.size ≡ s.size) (modified : Modifies In s s')
     (gate : bit k.table 3 ≡ 1) where
-  ignores : Ignores In (IsHeld s.size k at.map)
+  ignores : Ignores In (MatchesMap s.size k at.map)
   ignores = ignores_clear s.size k at.map In aligned clear
 
   not_gate : In 3 → ⊥
   not_gate is = let none = clear 3 is in omega arith
 
-  pub quiet_at_rest : AtRest s' (IsHeld s.size k at.map)
-  quiet_at_rest = quiet_rest In s s' (IsHeld s.size k at.map) ignores not_gate size at.rest modified
+  pub quiet_at_rest : AtRest s' (MatchesMap s.size k at.map)
+  quiet_at_rest = quiet_rest In s s' (MatchesMap s.size k at.map) ignores not_gate size at.rest modified
 
   -- a crash finds the files from before
   pub quiet_finds : (f : Files File) → RestsAt s f → ((c : Contents) → s.left_since s.clock c → MayLeave s c)
       → LeavesOnly s s' (λ c. StandsOn (pack_of s) c f)
   quiet_finds f rests only_now =
       let same = files_are s k at.map f at.rest rests in
-      leaves_weaker s s' (SettlesTo s.size (IsHeld s.size k at.map)) (λ c. StandsOn (pack_of s) c f)
-      (quiet_stands s s' (IsHeld s.size k at.map) (quiet_leaves In s s' (IsHeld s.size k at.map) ignores not_gate
+      leaves_weaker s s' (SettlesTo s.size (MatchesMap s.size k at.map)) (λ c. StandsOn (pack_of s) c f)
+      (quiet_stands s s' (MatchesMap s.size k at.map) (quiet_leaves In s s' (MatchesMap s.size k at.map) ignores not_gate
       at.rest only_now modified))
       (λ c held. (held.0, held.1, (at.map, held.2.stands, same, pack_held s k at.map at.rest)))
 
@@ -92,9 +93,9 @@ module _ (s s' : DiskState) (k : Known) (In : ℕ → Type 0) (clear : (n : ℕ)
   pub quiet_rests : (f : Files File) → RestsAt s f → RestsAt s' f
   quiet_rests f rests = rest_for s s' k at.map f size (files_are s k at.map f at.rest rests) quiet_at_rest
 
-  -- what is in core is still the disk's
+  -- what is in memory is still the disk's
   pub put_at : (t : TableState) → ((n : ℕ) → bit t n ≡ bit k.table n)
-      → (m : DiskMap) × AtRest s' (IsHeld s.size (record k { table = t }) m) × (m.layout ≡ (pack_of s).layout)
+      → (m : DiskMap) × AtRest s' (MatchesMap s.size (record k { table = t }) m) × (m.layout ≡ (pack_of s).layout)
   put_at t same = (
     at.map,
     record { shut = quiet_at_rest.shut; all = λ c left. same_bits s.size k t at.map c same (quiet_at_rest.all c left) },
@@ -103,7 +104,7 @@ module _ (s s' : DiskState) (k : Known) (In : ℕ → Type 0) (clear : (n : ℕ)
 
 -- The words of other versions.
 
-module _ (size : ℕ) (c : VolumeCore) (whole : IsWholeCore size c) (key : ℕ) (p : PendingVersion)
+module _ (size : ℕ) (c : MemoryMap) (whole : IsWholeMemory size c) (key : ℕ) (p : PendingVersion)
     (was : pending_at c.pending key ≡ Some p) where
   -- what is the version's own is no other's
 
@@ -122,8 +123,8 @@ module _ (size : ℕ) (c : VolumeCore) (whole : IsWholeCore size c) (key : ℕ) 
           let clear = own.clear in
           omega arith
       by false ended =
-          let part = total_at (held_reaches n) refl c.live k in
-          let here = ap (held_reaches n) is
+          let part = total_at (pinned_reaches n) refl c.live k in
+          let here = ap (pinned_reaches n) is
           ∙ ap (λ (b : Bool). if b then 0 else times n (blocks_reached v.at v.version)) ended in
           let mine = total_at (pending_reaches n) refl c.pending key in
           let its = ap (pending_reaches n) was in
@@ -151,9 +152,9 @@ module _ (size : ℕ) (c : VolumeCore) (whole : IsWholeCore size c) (key : ℕ) 
   keeps_written old new same k q other is n there = same n (written_apart k q other is n there)
 
   -- the words of all versions after the words are put
-  pub put_bodies : (s s' : DiskState) (failed : Bool) → IsSoundCore s c failed → s.honest → failed ≡ false
+  pub put_bodies : (s s' : DiskState) (failed : Bool) → IsSoundMemory s c failed → s.honest → failed ≡ false
       → SameOutside (IsOwn c.known.table p.version.blocks) s.contents s'.contents
-      → (c' : VolumeCore) (v : VersionState) (block : ℕ) (words : List ℕ) → c'.live ≡ c.live
+      → (c' : MemoryMap) (v : VersionState) (block : ℕ) (words : List ℕ) → c'.live ≡ c.live
       → ((k : ℕ) → (k ≡ key → ⊥) → pending_at c'.pending k ≡ pending_at c.pending k)
       → pending_at c'.pending key ≡ Some (record p { version = v })
       → v.words ≡ length_after p.version.words block (length words)
@@ -202,7 +203,7 @@ none_damaged contents v has k there none = undamaged_at contents v.blocks has.2.
 
 -- The whole of it.
 
-module _ {s s' : DiskState} {c : VolumeCore} (sound : IsSoundCore s c false) (same : SameDisk s s') (key : ℕ)
+module _ {s s' : DiskState} {c : MemoryMap} (sound : IsSoundMemory s c false) (same : SameDisk s s') (key : ℕ)
     {p : PendingVersion} (was : pending_at c.pending key ≡ Some p) {t : TableState}
     (pending : List (Option PendingVersion)) {v : VersionState}
     (is : Regrown s.size c.known.table t pending key p v) (others : (k : ℕ) → (k ≡ key → ⊥)
@@ -211,7 +212,7 @@ module _ {s s' : DiskState} {c : VolumeCore} (sound : IsSoundCore s c false) (sa
   gate_set : bit c.known.table 3 ≡ 1
   gate_set = whole_fixed s.size c.known sound.whole.map 3 (omega arith)
 
-  pub put_failed : IsSoundCore s' (record c { known = record c.known { table = t }; pending = pending }) true
+  pub put_failed : IsSoundMemory s' (record c { known = record c.known { table = t }; pending = pending }) true
   put_failed = sound_failed s s' (record c { known = record c.known { table = t }; pending = pending }) true same.size
       (put_whole s.size c sound.whole key p was t pending v is others) refl
 
@@ -219,7 +220,7 @@ module _ {s s' : DiskState} {c : VolumeCore} (sound : IsSoundCore s c false) (sa
       ≡ Some (record p { version = w }) → w.words ≡ length_after p.version.words block (length words)
       → (s'.honest → (body : List ℕ) → length body ≡ p.version.words → HasBody s.contents p.version.blocks body
       → HasBody s'.contents w.blocks (splice body block words))
-      → IsSoundCore s' (record c { known = record c.known { table = t }; pending = pending }) false
+      → IsSoundMemory s' (record c { known = record c.known { table = t }; pending = pending }) false
   put_done w block words now long put = sound_for s s'
       (record c { known = record c.known { table = t }; pending = pending }) false same.size
       (put_whole s.size c sound.whole key p was t pending v is others)

@@ -1,4 +1,4 @@
--- A file is moved to another directory: what the puts make of what is held.
+-- A file is moved to another directory: what the puts make of the disk's map.
 use Rattle.std.proofs.Common.{◌≡◌, ℕ, ◌+◌, ◌<◌, ◌≤◌, ◌⊎◌, inl, inr, ⊎_elim, List, [], ◌∷◌, ◌++◌, Some, None}
 use Rattle.std.proofs.Common.{option_map, length, slice_get, slice_set, refl, sym, ◌∙◌, ap, subst, arith}
 use Rattle.std.proofs.lemmas.Option.{slice_get_within}
@@ -14,8 +14,9 @@ use Rattle.changeset.specs.Common.{with_puts_later, all_replaced, length-replace
 use Rattle.spec_image.specs.declared.put.Put.{Put}
 use Rattle.spec_image.specs.Common.{FinMap, times, get, insert, remove, map_values, from_entries, sum_over}
 use Rattle.spec_image.specs.Common.{head_or_zero, table_blocks, table_start, space_start, log_images, IsTarget}
-use Rattle.spec_image.specs.Common.{targets, with_puts, table_bit, MasterEntry, master_words, master_word, FileEntry}
-use Rattle.spec_image.specs.Common.{file_words, IsFileEntry, File, Files, Directory, Prime, IsPrime, prime_of}
+use Rattle.spec_image.specs.Common.{targets, with_puts, table_bit, SpecMasterEntry, master_words, master_word}
+use Rattle.spec_image.specs.Common.{SpecFileEntry}
+use Rattle.spec_image.specs.Common.{file_words, IsFileEntry, File, Files, Directory, SpecPrime, IsPrime, prime_of}
 use Rattle.spec_image.specs.Common.{prime_block, first_extension, StoredFile, StoredDirectory, DiskMap, HasMap}
 use Rattle.spec_image.specs.Common.{IsVersion, directory_of, files_of, entry_of, place_of, reaches_in_file}
 use Rattle.spec_image.specs.Common.{reaches_in_directory, reaches, TableFollows, IsFileChain, primes_of}
@@ -29,13 +30,14 @@ use Rattle.spec_image.proofs.Common.{all_left}
 use Rattle.alloctab.specs.Common.{bit}
 use Rattle.directory.specs.Common.{ChainState, IsOn, chain_stands, on_kept}
 use Rattle.retrieval.specs.Common.{mode_number, with_length}
-use Rattle.volume.specs.Common.{Facts, facts_of, known_facts, KnownVersion, KnownDirectory, Known, IsKnownFile}
-use Rattle.volume.specs.Common.{IsKnownDirectory, IsHeld, IsWholeMap, IsWholeDirectory, file_protected, file_in}
+use Rattle.volume.specs.Common.{Facts, facts_of, known_facts, CurrentVersion, CurrentDirectory, CurrentMap}
+use Rattle.volume.specs.Common.{AgreesOnFile}
+use Rattle.volume.specs.Common.{AgreesOnDirectory, MatchesMap, IsWholeMap, IsWholeDirectory, file_protected, file_in}
 use Rattle.volume.specs.Common.{files_moved_as, files_moved, IsPrimeMoved, IsMovedAcross, IsEntryPut, files_put_in}
 use Rattle.volume.specs.Common.{files_published, IsEntryRemoved, files_without, files_removed}
 use Rattle.volume.proofs.VolumeStart.FoundDirectories.{all_at}
 use Rattle.volume.proofs.common.Puts.{not_put}
-use Rattle.volume.proofs.common.Held.{reached_in_space, element_at}
+use Rattle.volume.proofs.common.UsedBlocks.{reached_in_space, element_at}
 use Rattle.volume.proofs.common.TableBits.{bits_same}
 use Rattle.volume.proofs.common.Lists.{head_front, none_mapped, set_cases, other_key}
 
@@ -106,10 +108,10 @@ same_entry ds ppn stored after at same =
 
 -- One directory.
 
--- the directory without the file is the one in core
-pub known_without : (d d' : KnownDirectory) (name : FileName) (old : ℕ × KnownVersion) (stored : StoredDirectory)
-    → IsEntryRemoved d d' name old → IsKnownDirectory d stored
-    → IsKnownDirectory d' (without_file stored d'.chain.blocks name)
+-- the directory without the file is the one in memory
+pub known_without : (d d' : CurrentDirectory) (name : FileName) (old : ℕ × CurrentVersion) (stored : StoredDirectory)
+    → IsEntryRemoved d d' name old → AgreesOnDirectory d stored
+    → AgreesOnDirectory d' (without_file stored d'.chain.blocks name)
 known_without d d' name old stored is known = record {
   chain = refl;
   names = map_values-remove name_total name_exact (λ x. x.prime) stored.files name
@@ -117,18 +119,18 @@ known_without d d' name old stored is known = record {
   each = each_file;
 }
   where
-    each_file : (i : ℕ) (e : FileEntry) (u : KnownVersion) → slice_get d'.chain.entries i ≡ Some e
-        → slice_get d'.versions i ≡ Some u → IsKnownFile (without_file stored d'.chain.blocks name) e u
+    each_file : (i : ℕ) (e : SpecFileEntry) (u : CurrentVersion) → slice_get d'.chain.entries i ≡ Some e
+        → slice_get d'.versions i ≡ Some u → AgreesOnFile (without_file stored d'.chain.blocks name) e u
     each_file i e u here also =
         let kept = is.each i e u here also in
         let found = known.each kept.1 e u kept.2 kept.3 in
         (found.0, get-remove_other name_total name_exact stored.files name e.0 kept.0 ∙ found.1, found.2)
 
 -- and so is the one with it
-pub known_with : (d d' : KnownDirectory) (to : FileName) (at : ℕ) (v : KnownVersion) (stored : StoredDirectory)
-    (f : StoredFile) → IsEntryPut d d' to at v None → IsKnownDirectory d stored
+pub known_with : (d d' : CurrentDirectory) (to : FileName) (at : ℕ) (v : CurrentVersion) (stored : StoredDirectory)
+    (f : StoredFile) → IsEntryPut d d' to at v None → AgreesOnDirectory d stored
     → facts_of f ≡ known_facts at v.prime v.version
-    → IsKnownDirectory d' (with_file stored d'.chain.blocks to f)
+    → AgreesOnDirectory d' (with_file stored d'.chain.blocks to f)
 known_with d d' to at v stored f is known facts = record {
   chain = refl;
   names = map_values-insert name_total name_exact (λ x. x.prime) stored.files to f
@@ -136,14 +138,14 @@ known_with d d' to at v stored f is known facts = record {
   each = each_file;
 }
   where
-    each_file : (i : ℕ) (e : FileEntry) (u : KnownVersion) → slice_get d'.chain.entries i ≡ Some e
-        → slice_get d'.versions i ≡ Some u → IsKnownFile (with_file stored d'.chain.blocks to f) e u
+    each_file : (i : ℕ) (e : SpecFileEntry) (u : CurrentVersion) → slice_get d'.chain.entries i ≡ Some e
+        → slice_get d'.versions i ≡ Some u → AgreesOnFile (with_file stored d'.chain.blocks to f) e u
     each_file i e u here also = ⊎_elim
         (λ new.
         let entry : e ≡ (to, at) = new.0 in
         let same : u ≡ v = new.1 in (
           f,
-          ap (λ (z : FileEntry). get (insert stored.files to f) z.0) entry
+          ap (λ (z : SpecFileEntry). get (insert stored.files to f) z.0) entry
               ∙ get-insert_same name_total stored.files to f,
           facts ∙ sym (λ j. known_facts (entry j).1 (same j).prime (same j).version),
         ))
@@ -154,8 +156,8 @@ known_with d d' to at v stored f is known facts = record {
 
 -- The puts.
 
-module _ (size : ℕ) (k k' : Known) (ppn : ℕ) (name : FileName) (to_ppn : ℕ) (to : FileName) (old : ℕ × KnownVersion)
-    (v : KnownVersion) (words : List ℕ) (puts : List Put) (whole : IsWholeMap size k)
+module _ (size : ℕ) (k k' : CurrentMap) (ppn : ℕ) (name : FileName) (to_ppn : ℕ) (to : FileName) (old : ℕ × CurrentVersion)
+    (v : CurrentVersion) (words : List ℕ) (puts : List Put) (whole : IsWholeMap size k)
     (is : IsMovedAcross size k k' ppn name to_ppn to old v words puts) where
   source_whole : IsWholeDirectory size is.directory
   source_whole = all_at (IsWholeDirectory size) k.directories is.place is.directory whole.each is.directory_at
@@ -223,7 +225,7 @@ module _ (size : ℕ) (k k' : Known) (ppn : ℕ) (name : FileName) (to_ppn : ℕ
       → times n is.directory'.chain.blocks + times n is.target'.chain.blocks ≡ 0 → with_puts puts c n ≡ c n
   stays c n away other none = beside_table c n away ∙ beside_chains c n other none
 
-  -- a block of the free space isn't put, but for the prime block and those of the chains
+  -- a block of the free space isn't put, except the prime block and those of the chains
   pub moved_across_elsewhere : (n : ℕ) → space_start size ≤ n → (n ≡ old.0 → ⊥)
       → times n is.directory'.chain.blocks + times n is.target'.chain.blocks ≡ 0 → IsPutIn puts n → ⊥
   moved_across_elsewhere n from other none = not_put puts n (λ c. stays c n (inr from) other none)
@@ -251,7 +253,7 @@ module _ (size : ℕ) (k k' : Known) (ppn : ℕ) (name : FileName) (to_ppn : ℕ
   module _ (m : DiskMap) (protection : ℕ) (prime_is : IsPrimeMoved old.1.prime v.prime to_ppn to protection)
       (fits : protection < 512) (stored : StoredDirectory) (stored_at : get m.directories ppn ≡ Some stored)
       (f : StoredFile) (f_at : get stored.files name ≡ Some f) (to_stored : StoredDirectory)
-      (to_stored_at : get m.directories to_ppn ≡ Some to_stored) (c : Contents) (held : IsHeld size k m c)
+      (to_stored_at : get m.directories to_ppn ≡ Some to_stored) (c : Contents) (held : MatchesMap size k m c)
       (read : c old.0 ≡ Some words) where
     abbrev chain : List ℕ
     chain = is.directory'.chain.blocks
@@ -271,15 +273,15 @@ module _ (size : ℕ) (k k' : Known) (ppn : ℕ) (name : FileName) (to_ppn : ℕ
     abbrev new_directories : FinMap nat_cmp StoredDirectory
     new_directories = insert (insert m.directories ppn after) to_ppn to_after
 
-    stored_is : IsKnownDirectory is.directory stored
+    stored_is : AgreesOnDirectory is.directory stored
     stored_is =
         let found = held.known.each is.place (ppn, is.word) is.directory is.there.is is.directory_at in
-        subst (IsKnownDirectory is.directory) (some_same (sym found.1 ∙ stored_at)) found.2
+        subst (AgreesOnDirectory is.directory) (some_same (sym found.1 ∙ stored_at)) found.2
 
-    to_stored_is : IsKnownDirectory is.target to_stored
+    to_stored_is : AgreesOnDirectory is.target to_stored
     to_stored_is =
         let found = held.known.each is.to_place (to_ppn, is.to_word) is.target is.to_there.is is.target_at in
-        subst (IsKnownDirectory is.target) (some_same (sym found.1 ∙ to_stored_at)) found.2
+        subst (AgreesOnDirectory is.target) (some_same (sym found.1 ∙ to_stored_at)) found.2
 
     facts : facts_of f ≡ known_facts old.0 old.1.prime old.1.version
     facts =
@@ -399,7 +401,7 @@ module _ (size : ℕ) (k k' : Known) (ppn : ℕ) (name : FileName) (to_ppn : ℕ
         (first_extension version.retrieved.further)
     anew_is = is.rewritten (prime_of (place_of ppn name) f.file) version.retrieved.runs
         (first_extension version.retrieved.further) words_are
-        ∙ ap (λ (p : Prime). prime_block p version.retrieved.runs (first_extension version.retrieved.further)) said
+        ∙ ap (λ (p : SpecPrime). prime_block p version.retrieved.runs (first_extension version.retrieved.further)) said
 
     new_prime : with_puts puts c f.prime ≡ Some (prime_block (prime_of (place_of to_ppn to) file)
         version.retrieved.runs (first_extension version.retrieved.further))
@@ -507,7 +509,7 @@ module _ (size : ℕ) (k k' : Known) (ppn : ℕ) (name : FileName) (to_ppn : ℕ
         })
         follows
 
-    -- core
+    -- memory
 
     new_facts : facts_of (in_place_of f file) ≡ known_facts old.0 v.prime v.version
     new_facts =
@@ -523,30 +525,30 @@ module _ (size : ℕ) (k k' : Known) (ppn : ℕ) (name : FileName) (to_ppn : ℕ
           blocks = (ap (λ (x : Facts). x.blocks) was ∙ sym (ap (λ x. x.blocks) is.lies)) i;
         }
 
-    new_known : IsKnownDirectory is.directory' after
+    new_known : AgreesOnDirectory is.directory' after
     new_known = known_without is.directory is.directory' name old stored is.removed stored_is
 
-    new_to_known : IsKnownDirectory is.target' to_after
+    new_to_known : AgreesOnDirectory is.target' to_after
     new_to_known = known_with is.target is.target' to old.0 v to_stored (in_place_of f file) is.entered to_stored_is
         new_facts
 
     -- an entry in another place has another key
-    other_source : (i : ℕ) (e : MasterEntry) → slice_get k.master.entries i ≡ Some e → (i ≡ is.place → ⊥)
+    other_source : (i : ℕ) (e : SpecMasterEntry) → slice_get k.master.entries i ≡ Some e → (i ≡ is.place → ⊥)
         → e.0 ≡ ppn → ⊥
     other_source i e here other = other_key k.master.entries i is.place ppn e is.word whole.chain.each_once here
         is.there.is other
 
-    other_target : (i : ℕ) (e : MasterEntry) → slice_get k.master.entries i ≡ Some e → (i ≡ is.to_place → ⊥)
+    other_target : (i : ℕ) (e : SpecMasterEntry) → slice_get k.master.entries i ≡ Some e → (i ≡ is.to_place → ⊥)
         → e.0 ≡ to_ppn → ⊥
     other_target i e here other = other_key k.master.entries i is.to_place to_ppn e is.to_word whole.chain.each_once
         here is.to_there.is other
 
     -- each directory is one of the two, or as it was
-    abbrev Changed : ℕ → KnownDirectory → Type 0
+    abbrev Changed : ℕ → CurrentDirectory → Type 0
     Changed i x = ((i ≡ is.place) × (x ≡ is.directory')) ⊎ ((i ≡ is.to_place) × (x ≡ is.target'))
         ⊎ ((i ≡ is.place → ⊥) × (i ≡ is.to_place → ⊥) × (slice_get k.directories i ≡ Some x))
 
-    changed : (i : ℕ) (x : KnownDirectory) → slice_get k'.directories i ≡ Some x → Changed i x
+    changed : (i : ℕ) (x : CurrentDirectory) → slice_get k'.directories i ≡ Some x → Changed i x
     changed i x also = ⊎_elim
         (λ (new : (i ≡ is.place) × (x ≡ is.directory')). inl new)
         (λ (kept : (i ≡ is.place → ⊥)
@@ -557,32 +559,32 @@ module _ (size : ℕ) (k k' : Known) (ppn : ℕ) (name : FileName) (to_ppn : ℕ
         (set_cases (slice_set k.directories is.to_place is.target') is.place i is.directory' x
         (ap (λ ds. slice_get ds i) (sym is.directories) ∙ also))
 
-    each_known : (i : ℕ) (e : MasterEntry) (x : KnownDirectory) → slice_get k'.master.entries i ≡ Some e
+    each_known : (i : ℕ) (e : SpecMasterEntry) (x : CurrentDirectory) → slice_get k'.master.entries i ≡ Some e
         → slice_get k'.directories i ≡ Some x
-        → (s : StoredDirectory) × (get new_directories e.0 ≡ Some s) × IsKnownDirectory x s
+        → (s : StoredDirectory) × (get new_directories e.0 ≡ Some s) × AgreesOnDirectory x s
     each_known i e x here also = by_place (changed i x also)
       where
         was : slice_get k.master.entries i ≡ Some e
-        was = ap (λ (z : ChainState MasterEntry). slice_get z.entries i) (sym is.master) ∙ here
+        was = ap (λ (z : ChainState SpecMasterEntry). slice_get z.entries i) (sym is.master) ∙ here
 
-        by_place : Changed i x → (s : StoredDirectory) × (get new_directories e.0 ≡ Some s) × IsKnownDirectory x s
+        by_place : Changed i x → (s : StoredDirectory) × (get new_directories e.0 ≡ Some s) × AgreesOnDirectory x s
         by_place (inl new) =
             let entry : e ≡ (ppn, is.word) = some_same (sym was ∙ ap (slice_get k.master.entries) new.0 ∙ is.there.is)
             in (
               after,
-              ap (λ (z : MasterEntry). get new_directories z.0) entry
+              ap (λ (z : SpecMasterEntry). get new_directories z.0) entry
                   ∙ get-insert_other nat_cmp_total nat_cmp-IsAntisymmetric (insert m.directories ppn after) to_ppn
                   to_after ppn (λ same. is.apart (sym same))
                   ∙ get-insert_same nat_cmp_total m.directories ppn after,
-              subst (λ (z : KnownDirectory). IsKnownDirectory z after) (sym new.1) new_known,
+              subst (λ (z : CurrentDirectory). AgreesOnDirectory z after) (sym new.1) new_known,
             )
         by_place (inr (inl new)) =
             let entry : e ≡ (to_ppn, is.to_word) = some_same (sym was ∙ ap (slice_get k.master.entries) new.0
             ∙ is.to_there.is) in (
               to_after,
-              ap (λ (z : MasterEntry). get new_directories z.0) entry
+              ap (λ (z : SpecMasterEntry). get new_directories z.0) entry
                   ∙ get-insert_same nat_cmp_total (insert m.directories ppn after) to_ppn to_after,
-              subst (λ (z : KnownDirectory). IsKnownDirectory z to_after) (sym new.1) new_to_known,
+              subst (λ (z : CurrentDirectory). AgreesOnDirectory z to_after) (sym new.1) new_to_known,
             )
         by_place (inr (inr kept)) =
             let found = held.known.each i e x was kept.2 in (
@@ -601,7 +603,7 @@ module _ (size : ℕ) (k k' : Known) (ppn : ℕ) (name : FileName) (to_ppn : ℕ
         (ap (λ (n : ℕ). (master_word to_stored.protection to_stored.quota, n)) to_first_block)
         ∙ same_entry m.directories ppn stored after stored_at
         (ap (λ (n : ℕ). (master_word stored.protection stored.quota, n)) first_block)
-        ∙ held.known.names ∙ ap (λ (z : ChainState MasterEntry). from_entries z.entries) (sym is.master)
+        ∙ held.known.names ∙ ap (λ (z : ChainState SpecMasterEntry). from_entries z.entries) (sym is.master)
 
     master_times : (n : ℕ) → times n m.chain ≡ times n k.master.blocks
     master_times n = ap (times n) held.known.chain
@@ -616,7 +618,7 @@ module _ (size : ℕ) (k k' : Known) (ppn : ℕ) (name : FileName) (to_ppn : ℕ
 
     -- the chain of a third directory has none of these blocks
 
-    beside_source : (i : ℕ) (x : KnownDirectory) → (i ≡ is.place → ⊥) → slice_get k.directories i ≡ Some x → (n : ℕ)
+    beside_source : (i : ℕ) (x : CurrentDirectory) → (i ≡ is.place → ⊥) → slice_get k.directories i ≡ Some x → (n : ℕ)
         → times n x.chain.blocks + (times n is.directory.chain.blocks + reaches_in_file n f) ≤ reaches n m
     beside_source i x other also n =
         let within = slice_get_within k.directories i x also in
@@ -630,7 +632,7 @@ module _ (size : ℕ) (k k' : Known) (ppn : ℕ) (name : FileName) (to_ppn : ℕ
         name_total name_exact (reaches_in_file n) stored.files name f f_at in
         omega arith
 
-    beside_target : (i : ℕ) (x : KnownDirectory) → (i ≡ is.to_place → ⊥) → slice_get k.directories i ≡ Some x
+    beside_target : (i : ℕ) (x : CurrentDirectory) → (i ≡ is.to_place → ⊥) → slice_get k.directories i ≡ Some x
         → (n : ℕ) → times n x.chain.blocks + times n is.target.chain.blocks ≤ reaches n m
     beside_target i x other also n =
         let within = slice_get_within k.directories i x also in
@@ -642,14 +644,14 @@ module _ (size : ℕ) (k k' : Known) (ppn : ℕ) (name : FileName) (to_ppn : ℕ
         let t = to_stored_times n in
         omega arith
 
-    new_chains : (i : ℕ) (x : KnownDirectory) → slice_get k'.directories i ≡ Some x
+    new_chains : (i : ℕ) (x : CurrentDirectory) → slice_get k'.directories i ≡ Some x
         → IsOn file_words (with_puts puts c) x.chain
     new_chains i x also = by_place (changed i x also)
       where
         by_place : Changed i x → IsOn file_words (with_puts puts c) x.chain
-        by_place (inl new) = subst (λ (z : KnownDirectory). IsOn file_words (with_puts puts c) z.chain) (sym new.1)
+        by_place (inl new) = subst (λ (z : CurrentDirectory). IsOn file_words (with_puts puts c) z.chain) (sym new.1)
             source_on
-        by_place (inr (inl new)) = subst (λ (z : KnownDirectory). IsOn file_words (with_puts puts c) z.chain)
+        by_place (inr (inl new)) = subst (λ (z : CurrentDirectory). IsOn file_words (with_puts puts c) z.chain)
             (sym new.1) target_on
         by_place (inr (inr kept)) = on_kept file_words c (with_puts puts c) x.chain (held.chains i x kept.2)
             (λ n there.
@@ -658,11 +660,11 @@ module _ (size : ℕ) (k k' : Known) (ppn : ℕ) (name : FileName) (to_ppn : ℕ
             let one = once size c m held.stands.marked n in
             reached_stays n (omega arith) (omega arith))
 
-    pub moving_across_leads : IsHeld size k'
+    pub moving_across_leads : MatchesMap size k'
         (map_moved_across m ppn stored chain name f to_ppn to_stored to_chain to protection) (with_puts puts c)
     moving_across_leads = record {
       known = record {
-        chain = held.known.chain ∙ ap (λ (z : ChainState MasterEntry). z.blocks) (sym is.master);
+        chain = held.known.chain ∙ ap (λ (z : ChainState SpecMasterEntry). z.blocks) (sym is.master);
         names = names;
         each = each_known;
       };

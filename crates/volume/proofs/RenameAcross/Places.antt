@@ -5,10 +5,10 @@ use Rattle.std.proofs.lemmas.Bool.{cases_eq}
 use Rattle.std.specs.FinMap.Entries.{find}
 use Rattle.words36.specs.declared.names.FileName.{FileName}
 use Rattle.spec_image.specs.declared.put.Put.{Put}
-use Rattle.spec_image.specs.Common.{MasterEntry, name_cmp, get, insert, remove, from_entries}
+use Rattle.spec_image.specs.Common.{SpecMasterEntry, name_cmp, get, insert, remove, from_entries}
 use Rattle.spec_image.proofs.Common.{some_same, some_none, get-insert_same, get-insert_other, get-removed}
 use Rattle.spec_image.proofs.Common.{get-remove_other, get-from_entries, name_total, name_exact}
-use Rattle.volume.specs.Common.{Known, KnownVersion, KnownDirectory, prime_in, IsMovedAcross}
+use Rattle.volume.specs.Common.{CurrentMap, CurrentVersion, CurrentDirectory, prime_in, IsMovedAcross}
 use Rattle.volume.proofs.common.PrimeBlocks.{prime_of_place, prime_elsewhere, prime_set}
 
 -- An element of a list is another: those at other places stay.
@@ -20,37 +20,37 @@ set_elsewhere (x ∷ xs) zero (suc j) y differ = refl
 set_elsewhere (x ∷ xs) (suc i) zero y differ = refl
 set_elsewhere (x ∷ xs) (suc i) (suc j) y differ = set_elsewhere xs i j y (λ same. differ (ap suc same))
 
-module _ (size : ℕ) (k k' : Known) (ppn : ℕ) (name : FileName) (to_ppn : ℕ) (to : FileName) (old : ℕ × KnownVersion)
-    (v : KnownVersion) (words : List ℕ) (puts : List Put)
+module _ (size : ℕ) (k k' : CurrentMap) (ppn : ℕ) (name : FileName) (to_ppn : ℕ) (to : FileName) (old : ℕ × CurrentVersion)
+    (v : CurrentVersion) (words : List ℕ) (puts : List Put)
     (is : IsMovedAcross size k k' ppn name to_ppn to old v words puts) where
-  abbrev d : KnownDirectory
+  abbrev d : CurrentDirectory
   d = is.directory
 
-  abbrev t : KnownDirectory
+  abbrev t : CurrentDirectory
   t = is.target
 
   -- the directories with the one that it comes to, and those with both
-  abbrev entered : List KnownDirectory
+  abbrev entered : List CurrentDirectory
   entered = slice_set k.directories is.to_place is.target'
 
-  abbrev both : List KnownDirectory
+  abbrev both : List CurrentDirectory
   both = slice_set entered is.place is.directory'
 
-  -- the two stand at two places
+  -- the two are at two places
   pub places_apart : is.place ≡ is.to_place → ⊥
   places_apart same =
       let one = some_same (sym is.there.is ∙ ap (slice_get k.master.entries) same ∙ is.to_there.is) in
-      is.apart (sym (ap (λ (e : MasterEntry). e.0) one))
+      is.apart (sym (ap (λ (e : SpecMasterEntry). e.0) one))
 
   pub directory_stays : slice_get entered is.place ≡ Some is.directory
   directory_stays = set_elsewhere k.directories is.to_place is.place is.target' places_apart ∙ is.directory_at
 
-  -- where the directories are those from before but for the two
+  -- if the directories are those from before except the two
   goes : (q : ℕ) (n : FileName) → prime_in k'.master.entries k'.directories q n
       ≡ prime_in k.master.entries both q n
   goes q n = λ i. prime_in (is.master i).entries (is.directories i) q n
 
-  -- the directory that it leaves has the names that it had, but for this one
+  -- the directory that it leaves has the names that it had, except this one
   left_names : (n : FileName) → prime_in k'.master.entries k'.directories ppn n
       ≡ get (remove (from_entries {R = name_cmp} d.chain.entries) name) n
   left_names n =

@@ -4,8 +4,8 @@ use Rattle.words36.specs.declared.names.FileName.{FileName}
 use Rattle.blockdisk.specs.Common.{DiskState}
 use Rattle.spec_image.specs.Common.{head_or_zero, IsFileEntry, IsMasterEntryOf, Extension, prime_of, prime_block}
 use Rattle.spec_image.specs.Common.{extension_numbers, first_extension, IsPrime, place_of}
-use Rattle.volume.specs.Common.{Facts, IsHeld, IsWholeDirectory, VolumeCore, as_known, IsKeyOf, file_prime}
-use Rattle.volume.specs.Common.{IsFilePrime, IsAtRest, IsSoundCore}
+use Rattle.volume.specs.Common.{Facts, MatchesMap, IsWholeDirectory, MemoryMap, as_known, IsKeyOf, file_prime}
+use Rattle.volume.specs.Common.{IsFilePrime, IsAtRest, IsSoundMemory}
 use Rattle.volume.proofs.VolumeStart.FoundDirectories.{all_at}
 use Rattle.volume.proofs.common.LayoutLimits.{wide_prime}
 
@@ -14,13 +14,13 @@ first_of : (further : List Extension) → first_extension further ≡ head_or_ze
 first_of [] = refl
 first_of (extension ∷ further) = refl
 
--- On the disk of a sound core that of a file is so.
-pub prime_holds : (s : DiskState) (c : VolumeCore) → IsSoundCore s c false → s.honest → (ppn : ℕ) (name : FileName)
+-- If what is in memory is sound, this holds on its disk for the prime block of a file.
+pub prime_holds : (s : DiskState) (c : MemoryMap) → IsSoundMemory s c false → s.honest → (ppn : ℕ) (name : FileName)
     (key : ℕ) (file : IsKeyOf c ppn name key)
     → (words : List ℕ) × (s.contents file.version.at ≡ Some words) × IsFilePrime words ppn name file.version
 prime_holds s c sound h ppn name key file =
     let rest : IsAtRest s c.known = sound.rest h refl in
-    let held : IsHeld s.size c.known rest.map s.contents = rest.rest.all s.contents (λ n closed. refl) in
+    let held : MatchesMap s.size c.known rest.map s.contents = rest.rest.all s.contents (λ n closed. refl) in
     let found = held.known.each file.place (ppn, file.word) file.directory file.there.is file.directory_at in
     let stored = found.2.each file.index (name, file.prime) (as_known file.version) file.at.is file.known in
     let version = (held.stands.mapped.directories ppn found.0 found.1).files name stored.0 stored.1 in

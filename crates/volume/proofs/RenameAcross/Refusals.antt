@@ -8,85 +8,85 @@ use Rattle.std.specs.FinMap.Entries.{find}
 use Rattle.words36.specs.declared.names.FileName.{FileName}
 use Rattle.spec_image.specs.declared.code.ErrorCode.{ErrorCode}
 use Rattle.spec_image.specs.declared.code.ErrorCode.TheVariants.{NameExists, NoDirectory, NoRoom, NotFound}
-use Rattle.spec_image.specs.Common.{name_cmp, growth, MasterEntry}
+use Rattle.spec_image.specs.Common.{name_cmp, growth, SpecMasterEntry}
 use Rattle.spec_image.proofs.Common.{some_same, some_none, find_first}
 use Rattle.alloctab.specs.Common.{space}
 use Rattle.directory.specs.Common.{StandsAt}
-use Rattle.volume.specs.Common.{entries_with, IsDirectoryOf, file_view, master_view, KnownDirectory, VolumeCore}
-use Rattle.volume.specs.Common.{IsWholeCore, core_of, live_directory, HasFile, HasNoRoom, IsKeyOf, IsNoFile}
+use Rattle.volume.specs.Common.{entries_with, IsDirectoryOf, file_view, master_view, CurrentDirectory, MemoryMap}
+use Rattle.volume.specs.Common.{IsWholeMemory, memory_of, live_directory, HasFile, HasNoRoom, IsKeyOf, IsNoFile}
 use Rattle.volume.specs.declared.error.CallError.{CallError}
 use Rattle.volume.specs.declared.error.CallError.TheVariants.{Refused, Device, Failed, NoMemory}
 use Rattle.volume.specs.declared.live.LiveDirectory.{LiveDirectory}
 use Rattle.volume.specs.declared.live.LiveMap.{LiveMap}
 use Rattle.volume.proofs.BeginVersion.Beginnings.{same_directory}
 use Rattle.volume.proofs.VolumeStart.FoundDirectories.{mapped_at}
-use Rattle.volume.proofs.common.Growing.{entries_few}
+use Rattle.volume.proofs.common.Growths.{entries_few}
 use Rattle.volume.proofs.RenameWithin.Renamings.{name_free, name_taken}
 use Rattle.volume.proofs.RenameWithin.Refusals.{IsLacking, IsBeside, key_there}
 use Rattle.volume.proofs.Charges.Charges.{first_once}
 
--- The directory that a file is to come to.
+-- The directory that a file moves to.
 
-module _ (m : LiveMap) (whole : IsWholeCore m.table.size (core_of m)) (ppn place : ℕ) (w : ℕ × ℕ)
+module _ (m : LiveMap) (whole : IsWholeMemory m.table.size (memory_of m)) (ppn place : ℕ) (w : ℕ × ℕ)
     (stands : StandsAt nat_cmp (map master_view m.master.entries) ppn w place)
     (d : LiveDirectory) (at : slice_get m.directories.items place ≡ Some d) (name : FileName) where
-  abbrev dk : KnownDirectory
+  abbrev dk : CurrentDirectory
   dk = live_directory m.versions.slots d
 
-  known_here : slice_get (core_of m).known.directories place ≡ Some dk
+  known_here : slice_get (memory_of m).known.directories place ≡ Some dk
   known_here = mapped_at (live_directory m.versions.slots) m.directories.items place d at
 
-  there : IsDirectoryOf (core_of m) ppn dk
+  there : IsDirectoryOf (memory_of m) ppn dk
   there = (place, w, stands, known_here)
 
-  pub target_few : (x : KnownDirectory) → slice_get (core_of m).known.directories place ≡ Some x
-      → entries_with (core_of m) x ppn < 2 ^ 64
-  target_few x is = let few = entries_few m.table.size (core_of m) ppn place x whole is in omega arith
+  pub target_few : (x : CurrentDirectory) → slice_get (memory_of m).known.directories place ≡ Some x
+      → entries_with (memory_of m) x ppn < 2 ^ 64
+  target_few x is = let few = entries_few m.table.size (memory_of m) ppn place x whole is in omega arith
 
   -- It has the name.
 
   module _ (found : Option ℕ) (some : is_some found ≡ true)
       (stands_at : IfSome found (λ i. (v : ℕ) × StandsAt name_cmp (map file_view d.chain.entries) name v i)) where
-    pub target_named : HasFile (core_of m) ppn name
+    pub target_named : HasFile (memory_of m) ppn name
     target_named = (dk, there, name_taken m whole ppn place w stands d at name found some stands_at dk there)
 
-    pub named_no_room : HasNoRoom m.table.size (core_of m) ppn name → ⊥
+    pub named_no_room : HasNoRoom m.table.size (memory_of m) ppn name → ⊥
     named_no_room lacks = name_taken m whole ppn place w stands d at name found some stands_at lacks.0 lacks.1 lacks.2
 
   -- It has not.
 
   module _ (found : Option ℕ) (none : is_some found ≡ false)
       (absent : IfNone found (find name_cmp name (map file_view d.chain.entries) ≡ None)) where
-    pub target_free : (x : KnownDirectory) → IsDirectoryOf (core_of m) ppn x → find name_cmp name x.chain.entries ≡ None
+    pub target_free : (x : CurrentDirectory) → IsDirectoryOf (memory_of m) ppn x → find name_cmp name x.chain.entries ≡ None
     target_free = name_free m whole ppn place w stands d at name found none absent
 
-    pub free_unnamed : HasFile (core_of m) ppn name → ⊥
+    pub free_unnamed : HasFile (memory_of m) ppn name → ⊥
     free_unnamed has = has.2 (target_free has.0 has.1)
 
-    module _ (more : ℕ) (more_is : (x : KnownDirectory) → slice_get (core_of m).known.directories place ≡ Some x
-        → more ≡ growth (entries_with (core_of m) x ppn)) where
+    module _ (more : ℕ) (more_is : (x : CurrentDirectory) → slice_get (memory_of m).known.directories place ≡ Some x
+        → more ≡ growth (entries_with (memory_of m) x ppn)) where
       -- what the directory costs more, whatever it is called
-      costs_more : (x : KnownDirectory) → IsDirectoryOf (core_of m) ppn x
-          → more ≡ growth (entries_with (core_of m) x ppn)
+      costs_more : (x : CurrentDirectory) → IsDirectoryOf (memory_of m) ppn x
+          → more ≡ growth (entries_with (memory_of m) x ppn)
       costs_more x there_x = more_is x (known_here
-          ∙ ap Some (sym (same_directory m.table.size (core_of m) ppn place w x dk whole there_x stands.is known_here)))
+          ∙ ap Some (sym (same_directory m.table.size (memory_of m) ppn place w x dk whole there_x stands.is known_here)))
 
       pub target_full : 0 < more → space m.table.size < m.table.booked + more
-          → HasNoRoom m.table.size (core_of m) ppn name
+          → HasNoRoom m.table.size (memory_of m) ppn name
       target_full grows full =
           let cost = costs_more dk there in
           (dk, there, target_free dk there, (omega arith), (omega arith))
 
       module _ (fits : 0 < more → m.table.booked + more ≤ space m.table.size) where
-        pub target_room : (x : KnownDirectory) → IsDirectoryOf (core_of m) ppn x
-            → 0 < growth (entries_with (core_of m) x ppn)
-            → m.table.booked + growth (entries_with (core_of m) x ppn) ≤ space m.table.size
+        pub target_room : (x : CurrentDirectory) → IsDirectoryOf (memory_of m) ppn x
+            → 0 < growth (entries_with (memory_of m) x ppn)
+            → m.table.booked + growth (entries_with (memory_of m) x ppn) ≤ space m.table.size
         target_room x there_x grows =
             let cost = costs_more x there_x in
             let room = fits (omega arith) in
             omega arith
 
-        pub room_enough : HasNoRoom m.table.size (core_of m) ppn name → ⊥
+        pub room_enough : HasNoRoom m.table.size (memory_of m) ppn name → ⊥
         room_enough lacks =
             let room = target_room lacks.0 lacks.1 lacks.3 in
             let full = lacks.4 in
@@ -94,19 +94,19 @@ module _ (m : LiveMap) (whole : IsWholeCore m.table.size (core_of m)) (ppn place
 
 -- The call.
 
--- what the directory isn't there for, or the one that the file is to come to
-abbrev pub IsHomeless : VolumeCore → ℕ → FileName → ℕ → Type 0
+-- the directory doesn't exist, or the one that the file moves to doesn't
+abbrev pub IsHomeless : MemoryMap → ℕ → FileName → ℕ → Type 0
 IsHomeless c ppn name to_ppn = (find nat_cmp ppn c.known.master.entries ≡ None)
     ⊎ (HasFile c ppn name × (find nat_cmp to_ppn c.known.master.entries ≡ None))
 
--- an error is the one of which it is said
+-- an error is the one that is stated
 error_is : {T : Type 0} (error error' : CallError) → IsErrOf {T = T} (Err error) error' → error ≡ error'
 error_is error error' is = cc
 
 error_on : {T : Type 0} (error error' : CallError) → error ≡ error' → IsErrOf {T = T} (Err error) error'
 error_on error error' is = ap (λ e. Err e) is
 
-module _ (size : ℕ) (c : VolumeCore) (whole : IsWholeCore size c) (ppn : ℕ) (name : FileName) (to_ppn : ℕ)
+module _ (size : ℕ) (c : MemoryMap) (whole : IsWholeMemory size c) (ppn : ℕ) (name : FileName) (to_ppn : ℕ)
     (to : FileName) where
   -- a file that has a key is there
   pub key_has : (key : ℕ) → IsKeyOf c ppn name key → HasFile c ppn name
@@ -119,7 +119,7 @@ module _ (size : ℕ) (c : VolumeCore) (whole : IsWholeCore size c) (ppn : ℕ) 
   key_housed : (key : ℕ) → IsKeyOf c ppn name key → find nat_cmp ppn c.known.master.entries ≡ None → ⊥
   key_housed key file none = some_none (sym file.there.found ∙ none)
 
-  -- Where there is no such file.
+  -- If there is no such file.
 
   module _ (error : CallError) (is : IsNoFile c ppn name error) where
     no_file : HasFile c ppn name → ⊥
@@ -129,7 +129,7 @@ module _ (size : ℕ) (c : VolumeCore) (whole : IsWholeCore size c) (ppn : ℕ) 
         by (inl absent) = some_none (sym has.1.2.found ∙ absent.0)
         by (inr none) =
             let same = same_directory size c ppn none.0 none.1 has.0 none.3 whole has.1 none.2.is none.4 in
-            has.2 (ap (λ (d : KnownDirectory). find name_cmp name d.chain.entries) same ∙ none.5)
+            has.2 (ap (λ (d : CurrentDirectory). find name_cmp name d.chain.entries) same ∙ none.5)
 
     pub no_file_homeless : IsErrOf {T = Unit {0}} (Err error) (Refused NoDirectory) ↔ IsHomeless c ppn name to_ppn
     no_file_homeless = by is
@@ -206,7 +206,7 @@ module _ (size : ℕ) (c : VolumeCore) (whole : IsWholeCore size c) (ppn : ℕ) 
           λ said. let a : Failed ≡ Refused of.0 = sym (error_is error _ said) ∙ of.1 in absurd (cc),
         )
 
-  -- Where the file is there, and it may not come to its place.
+  -- If the file is there, and may not move to its place.
 
   module _ (key : ℕ) (file : IsKeyOf c ppn name key) (error : CallError)
       (only : (error ≡ Refused NoDirectory) ⊎ (error ≡ Refused NameExists) ⊎ (error ≡ Refused NoRoom)) where
@@ -279,7 +279,7 @@ module _ (size : ℕ) (c : VolumeCore) (whole : IsWholeCore size c) (ppn : ℕ) 
           λ said. let a : Failed ≡ Refused of.0 = sym (error_is error _ said) ∙ of.1 in absurd (cc),
         )
 
-  -- Where both are there, and no refusal is left.
+  -- If both are there, and no refusal is left.
 
   module _ (key : ℕ) (file : IsKeyOf c ppn name key) (result : Result (Unit {0}) CallError)
       (plain : (code : ErrorCode) → IsErrOf result (Refused code) → ⊥) (place : ℕ) where
@@ -315,14 +315,14 @@ memory_plain code said = let a : NoMemory ≡ Refused code = error_is NoMemory _
 
 -- Within one directory.
 
--- what is found first isn't found only behind
-not_behind : (e : MasterEntry) (es : List MasterEntry) (k : ℕ) (v : ℕ × ℕ) → Some e ≡ Some (k, v)
+-- what is found first isn't found only later
+not_behind : (e : SpecMasterEntry) (es : List SpecMasterEntry) (k : ℕ) (v : ℕ × ℕ) → Some e ≡ Some (k, v)
     → find nat_cmp k (e ∷ es) ≡ None → ⊥
 not_behind e es k v is none =
-    let key = ap (λ (x : MasterEntry). x.0) (some_same is) in
+    let key = ap (λ (x : SpecMasterEntry). x.0) (some_same is) in
     some_none (sym (find_first nat_cmp_total e es) ∙ ap (λ (q : ℕ). find nat_cmp q (e ∷ es)) key ∙ none)
 
-pub within_exists : (c : VolumeCore) (ppn : ℕ) (name : FileName) (to_ppn : ℕ) (to : FileName) → to_ppn ≡ ppn
+pub within_exists : (c : MemoryMap) (ppn : ℕ) (name : FileName) (to_ppn : ℕ) (to : FileName) → to_ppn ≡ ppn
     → (result : Result (Unit {0}) CallError) → (IsErrOf result (Refused NameExists) ↔ IsBeside c ppn name to)
     → (IsErrOf result (Refused NameExists) ↔ (HasFile c ppn name × ((to_ppn ≡ ppn) × (to ≡ name) → ⊥)
     × HasFile c to_ppn to))
@@ -344,6 +344,6 @@ within_exists c ppn name to_ppn to same result says = (
         there,
         has.0.2,
         λ is_name. has.1 (same, is_name),
-        λ none. taken.2 (ap (λ (d : KnownDirectory). find name_cmp to d.chain.entries) one ∙ none),
+        λ none. taken.2 (ap (λ (d : CurrentDirectory). find name_cmp to d.chain.entries) one ∙ none),
       ),
 )

@@ -1,4 +1,4 @@
--- A file gets another name in its directory: what the puts make of what is held.
+-- A file gets another name in its directory: what the puts make of the disk's map.
 use Rattle.std.proofs.Common.{◌≡◌, ℕ, ◌+◌, ◌<◌, ◌≤◌, ◌⊎◌, inl, inr, ⊎_elim, List, [], ◌∷◌, ◌++◌, Some, None}
 use Rattle.std.proofs.Common.{option_map, length, slice_get, refl, sym, ◌∙◌, ap, subst, arith}
 use Rattle.std.specs.List.{AllByRecursion}
@@ -12,7 +12,8 @@ use Rattle.changeset.specs.Common.{with_puts_later, all_replaced, length-replace
 use Rattle.spec_image.specs.declared.put.Put.{Put}
 use Rattle.spec_image.specs.Common.{times, get, insert, remove, from_entries, sum_over, head_or_zero, table_blocks}
 use Rattle.spec_image.specs.Common.{table_start, space_start, log_images, IsTarget, targets, with_puts, table_bit}
-use Rattle.spec_image.specs.Common.{master_word, FileEntry, file_words, IsFileEntry, File, Files, Directory, Prime}
+use Rattle.spec_image.specs.Common.{master_word, SpecFileEntry, file_words, IsFileEntry, File, Files, Directory}
+use Rattle.spec_image.specs.Common.{SpecPrime}
 use Rattle.spec_image.specs.Common.{IsPrime, prime_of, prime_block, first_extension, StoredFile, StoredDirectory}
 use Rattle.spec_image.specs.Common.{DiskMap, HasMap, IsVersion, directory_of, files_of, place_of, reaches_in_file}
 use Rattle.spec_image.specs.Common.{reaches_in_directory, reaches, TableFollows, IsFileChain, primes_of}
@@ -25,13 +26,14 @@ use Rattle.spec_image.proofs.Common.{version_rewritten, renamed_within, files_re
 use Rattle.alloctab.specs.Common.{bit}
 use Rattle.directory.specs.Common.{IsOn, chain_stands, on_kept}
 use Rattle.retrieval.specs.Common.{mode_number, with_length}
-use Rattle.volume.specs.Common.{Facts, facts_of, known_facts, KnownVersion, Known, IsKnownFile, IsKnownDirectory}
-use Rattle.volume.specs.Common.{IsHeld, IsWholeMap, IsWholeDirectory, file_protected, file_in, files_moved_as}
+use Rattle.volume.specs.Common.{Facts, facts_of, known_facts, CurrentVersion, CurrentMap, AgreesOnFile}
+use Rattle.volume.specs.Common.{AgreesOnDirectory}
+use Rattle.volume.specs.Common.{MatchesMap, IsWholeMap, IsWholeDirectory, file_protected, file_in, files_moved_as}
 use Rattle.volume.specs.Common.{files_moved, IsFreeFor, IsPrimeMoved, IsMovedWithin, files_put_in, files_published}
 use Rattle.volume.specs.Common.{files_without, files_removed}
 use Rattle.volume.proofs.VolumeStart.FoundDirectories.{all_at}
 use Rattle.volume.proofs.common.Puts.{not_put}
-use Rattle.volume.proofs.common.Held.{reached_in_space}
+use Rattle.volume.proofs.common.UsedBlocks.{reached_in_space}
 use Rattle.volume.proofs.common.TableBits.{bits_same}
 use Rattle.volume.proofs.common.Lists.{none_mapped}
 use Rattle.volume.proofs.common.OneDirectory.{directory_leads}
@@ -84,7 +86,7 @@ moved_files m ppn stored chain name to f protection at f_at =
 
 -- The puts.
 
-module _ (size : ℕ) (k k' : Known) (ppn : ℕ) (name to : FileName) (old : ℕ × KnownVersion) (v : KnownVersion)
+module _ (size : ℕ) (k k' : CurrentMap) (ppn : ℕ) (name to : FileName) (old : ℕ × CurrentVersion) (v : CurrentVersion)
     (words : List ℕ) (puts : List Put) (whole : IsWholeMap size k)
     (is : IsMovedWithin size k k' ppn name to old v words puts) where
   pub was_whole : IsWholeDirectory size is.directory
@@ -139,12 +141,12 @@ module _ (size : ℕ) (k k' : Known) (ppn : ℕ) (name to : FileName) (old : ℕ
 
 -- In the directory that the map has there, of the file that it has of the name.
 
-module _ (size : ℕ) (k k' : Known) (m : DiskMap) (ppn : ℕ) (name to : FileName) (protection : ℕ)
-    (old : ℕ × KnownVersion) (v : KnownVersion) (words : List ℕ) (puts : List Put) (whole : IsWholeMap size k)
+module _ (size : ℕ) (k k' : CurrentMap) (m : DiskMap) (ppn : ℕ) (name to : FileName) (protection : ℕ)
+    (old : ℕ × CurrentVersion) (v : CurrentVersion) (words : List ℕ) (puts : List Put) (whole : IsWholeMap size k)
     (is : IsMovedWithin size k k' ppn name to old v words puts)
     (prime_is : IsPrimeMoved old.1.prime v.prime ppn to protection) (fits : protection < 512)
     (stored : StoredDirectory) (stored_at : get m.directories ppn ≡ Some stored) (f : StoredFile)
-    (f_at : get stored.files name ≡ Some f) (c : Contents) (held : IsHeld size k m c)
+    (f_at : get stored.files name ≡ Some f) (c : Contents) (held : MatchesMap size k m c)
     (read : c old.0 ≡ Some words) where
   abbrev chain : List ℕ
   chain = is.directory'.chain.blocks
@@ -155,10 +157,10 @@ module _ (size : ℕ) (k k' : Known) (m : DiskMap) (ppn : ℕ) (name to : FileNa
   abbrev after : StoredDirectory
   after = directory_moved stored chain name to f protection
 
-  stored_is : IsKnownDirectory is.directory stored
+  stored_is : AgreesOnDirectory is.directory stored
   stored_is =
       let found = held.known.each is.place (ppn, is.word) is.directory is.there.is is.directory_at in
-      subst (IsKnownDirectory is.directory) (some_same (sym found.1 ∙ stored_at)) found.2
+      subst (AgreesOnDirectory is.directory) (some_same (sym found.1 ∙ stored_at)) found.2
 
   facts : facts_of f ≡ known_facts old.0 old.1.prime old.1.version
   facts =
@@ -259,7 +261,7 @@ module _ (size : ℕ) (k k' : Known) (m : DiskMap) (ppn : ℕ) (name to : FileNa
       (first_extension version.retrieved.further)
   anew_is = is.rewritten (prime_of (place_of ppn name) f.file) version.retrieved.runs
       (first_extension version.retrieved.further) words_are
-      ∙ ap (λ (p : Prime). prime_block p version.retrieved.runs (first_extension version.retrieved.further)) said
+      ∙ ap (λ (p : SpecPrime). prime_block p version.retrieved.runs (first_extension version.retrieved.further)) said
 
   new_prime : with_puts puts c f.prime ≡ Some (prime_block (prime_of (place_of ppn to) file) version.retrieved.runs
       (first_extension version.retrieved.further))
@@ -333,7 +335,7 @@ module _ (size : ℕ) (k k' : Known) (m : DiskMap) (ppn : ℕ) (name to : FileNa
       })
       follows
 
-  -- core
+  -- memory
 
   new_facts : facts_of (in_place_of f file) ≡ known_facts old.0 v.prime v.version
   new_facts =
@@ -349,14 +351,14 @@ module _ (size : ℕ) (k k' : Known) (m : DiskMap) (ppn : ℕ) (name to : FileNa
         blocks = (ap (λ (x : Facts). x.blocks) was ∙ sym (ap (λ x. x.blocks) is.entry.lies)) i;
       }
 
-  each_file : (i : ℕ) (e : FileEntry) (u : KnownVersion) → slice_get is.directory'.chain.entries i ≡ Some e
-      → slice_get is.directory'.versions i ≡ Some u → IsKnownFile after e u
+  each_file : (i : ℕ) (e : SpecFileEntry) (u : CurrentVersion) → slice_get is.directory'.chain.entries i ≡ Some e
+      → slice_get is.directory'.versions i ≡ Some u → AgreesOnFile after e u
   each_file i e u here also = ⊎_elim
       (λ new.
       let entry : e ≡ (to, old.0) = new.0 in
       let known : u ≡ v = new.1 in (
         in_place_of f file,
-        ap (λ (z : FileEntry). get (insert (remove stored.files name) to (in_place_of f file)) z.0) entry
+        ap (λ (z : SpecFileEntry). get (insert (remove stored.files name) to (in_place_of f file)) z.0) entry
             ∙ get-insert_same name_total (remove stored.files name) to (in_place_of f file),
         new_facts ∙ sym (λ j. known_facts (entry j).1 (known j).prime (known j).version),
       ))
@@ -369,7 +371,7 @@ module _ (size : ℕ) (k k' : Known) (m : DiskMap) (ppn : ℕ) (name to : FileNa
       ))
       (is.entry.each i e u here also)
 
-  new_known : IsKnownDirectory is.directory' after
+  new_known : AgreesOnDirectory is.directory' after
   new_known = record {
     chain = refl;
     names = map_values-insert name_total name_exact (λ x. x.prime) (remove stored.files name) to (in_place_of f file)
@@ -378,7 +380,7 @@ module _ (size : ℕ) (k k' : Known) (m : DiskMap) (ppn : ℕ) (name to : FileNa
     each = each_file;
   }
 
-  pub moving_leads : IsHeld size k' (map_moved m ppn stored chain name to f protection) (with_puts puts c)
+  pub moving_leads : MatchesMap size k' (map_moved m ppn stored chain name to f protection) (with_puts puts c)
   moving_leads = directory_leads size k k' m ppn is.place is.word is.directory is.directory' whole is.there
       is.directory_at is.master is.directories stored after stored_at c held puts
       (λ n there none. reached_stays n

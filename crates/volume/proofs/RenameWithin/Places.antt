@@ -10,24 +10,24 @@ use Rattle.spec_image.specs.declared.put.Put.{Put}
 use Rattle.spec_image.specs.Common.{name_cmp, get, insert, remove, from_entries, same_place, place_of}
 use Rattle.spec_image.proofs.Common.{some_none, get-insert_same, get-insert_other, get-removed, get-remove_other}
 use Rattle.spec_image.proofs.Common.{get-from_entries, name_total, name_exact}
-use Rattle.volume.specs.Common.{claims, claims_at, Known, KnownVersion, KnownDirectory, prime_in, pending_at}
+use Rattle.volume.specs.Common.{claims, claims_at, CurrentMap, CurrentVersion, CurrentDirectory, prime_in, pending_at}
 use Rattle.volume.specs.Common.{IsFreeFor, IsMovedWithin}
 use Rattle.volume.specs.declared.pending.PendingVersion.{PendingVersion}
 use Rattle.volume.proofs.common.PrimeBlocks.{prime_of_place, prime_elsewhere, prime_set}
 
 -- The map.
 
-module _ (size : ℕ) (k k' : Known) (ppn : ℕ) (name to : FileName) (old : ℕ × KnownVersion) (v : KnownVersion)
+module _ (size : ℕ) (k k' : CurrentMap) (ppn : ℕ) (name to : FileName) (old : ℕ × CurrentVersion) (v : CurrentVersion)
     (words : List ℕ) (puts : List Put) (is : IsMovedWithin size k k' ppn name to old v words puts) where
-  abbrev d : KnownDirectory
+  abbrev d : CurrentDirectory
   d = is.directory
 
-  -- where the directories are those from before but for one
+  -- if the directories are those from before except one
   goes : (q : ℕ) (n : FileName) → prime_in k'.master.entries k'.directories q n
       ≡ prime_in k.master.entries (slice_set k.directories is.place is.directory') q n
   goes q n = λ i. prime_in (is.master i).entries (is.directories i) q n
 
-  -- the directory has the names that it had, but for the one that is another now
+  -- the directory has the names that it had, except the one that is another now
   in_directory : (n : FileName) → prime_in k'.master.entries k'.directories ppn n
       ≡ get (insert (remove (from_entries {R = name_cmp} d.chain.entries) name) to old.0) n
   in_directory n =

@@ -8,35 +8,35 @@ use Rattle.spec_image.specs.declared.code.ErrorCode.{ErrorCode}
 use Rattle.spec_image.specs.declared.code.ErrorCode.TheVariants.{NameExists, NoDirectory, NotFound}
 use Rattle.spec_image.specs.Common.{name_cmp}
 use Rattle.spec_image.proofs.Common.{some_none}
-use Rattle.volume.specs.Common.{IsDirectoryOf, KnownDirectory, VolumeCore, IsWholeCore, IsMoveRefusal, IsKeyOf}
+use Rattle.volume.specs.Common.{IsDirectoryOf, CurrentDirectory, MemoryMap, IsWholeMemory, IsMoveRefusal, IsKeyOf}
 use Rattle.volume.specs.declared.error.CallError.{CallError}
 use Rattle.volume.specs.declared.error.CallError.TheVariants.{Refused, Device, Failed, NoMemory}
 use Rattle.volume.proofs.BeginVersion.Beginnings.{same_directory}
 
--- a directory that there is has a file, and lacks it
-abbrev pub IsLacking : VolumeCore → ℕ → FileName → Type 0
-IsLacking c ppn name = (d : KnownDirectory) × IsDirectoryOf c ppn d × (find name_cmp name d.chain.entries ≡ None)
+-- a directory exists and lacks the file
+abbrev pub IsLacking : MemoryMap → ℕ → FileName → Type 0
+IsLacking c ppn name = (d : CurrentDirectory) × IsDirectoryOf c ppn d × (find name_cmp name d.chain.entries ≡ None)
 
 -- it has the file, and another of the new name
-abbrev pub IsBeside : VolumeCore → ℕ → FileName → FileName → Type 0
-IsBeside c ppn name to = (d : KnownDirectory) × IsDirectoryOf c ppn d × (find name_cmp name d.chain.entries ≡ None → ⊥)
+abbrev pub IsBeside : MemoryMap → ℕ → FileName → FileName → Type 0
+IsBeside c ppn name to = (d : CurrentDirectory) × IsDirectoryOf c ppn d × (find name_cmp name d.chain.entries ≡ None → ⊥)
     × (to ≡ name → ⊥) × (find name_cmp to d.chain.entries ≡ None → ⊥)
 
-module _ (size : ℕ) (c : VolumeCore) (whole : IsWholeCore size c) (ppn : ℕ) (name : FileName) where
-  one : (d e : KnownDirectory) → IsDirectoryOf c ppn d → IsDirectoryOf c ppn e → d ≡ e
+module _ (size : ℕ) (c : MemoryMap) (whole : IsWholeMemory size c) (ppn : ℕ) (name : FileName) where
+  one : (d e : CurrentDirectory) → IsDirectoryOf c ppn d → IsDirectoryOf c ppn e → d ≡ e
   one d e there there' = same_directory size c ppn there'.0 there'.1 d e whole there there'.2.is there'.3
 
-  -- where there is a file none is lacking
+  -- if there is a file, it isn't lacking
   pub key_there : (key : ℕ) → IsKeyOf c ppn name key → IsLacking c ppn name → ⊥
   key_there key file lacks =
       let same = one file.directory lacks.0 (file.place, file.word, file.there, file.directory_at) lacks.1 in
       some_none (sym file.at.found
-      ∙ ap (λ (d : KnownDirectory). find name_cmp name d.chain.entries) same ∙ lacks.2)
+      ∙ ap (λ (d : CurrentDirectory). find name_cmp name d.chain.entries) same ∙ lacks.2)
 
-  abbrev Said : CallError → ErrorCode → Type 0
-  Said error code = error ≡ Refused code
+  abbrev IsRefusal : CallError → ErrorCode → Type 0
+  IsRefusal error code = error ≡ Refused code
 
-  said : (error : CallError) (code : ErrorCode) → IsErrOf {T = Unit {0}} (Err error) (Refused code) → Said error code
+  said : (error : CallError) (code : ErrorCode) → IsErrOf {T = Unit {0}} (Err error) (Refused code) → IsRefusal error code
   said error code is = cc
 
   pub refused_not_found : (to : FileName) (error : CallError) → IsMoveRefusal c ppn name to error
@@ -62,7 +62,7 @@ module _ (size : ℕ) (c : VolumeCore) (whole : IsWholeCore size c) (ppn : ℕ) 
   )
   refused_exists to error (inl (inr none)) = (
     λ is. absurd (let a : Refused NameExists ≡ Refused NotFound = sym (said error NameExists is) ∙ none.6 in cc),
-    λ beside. absurd (beside.2 (ap (λ (d : KnownDirectory). find name_cmp name d.chain.entries)
+    λ beside. absurd (beside.2 (ap (λ (d : CurrentDirectory). find name_cmp name d.chain.entries)
         (one beside.0 none.3 beside.1 (none.0, none.1, none.2, none.4)) ∙ none.5)),
   )
   refused_exists to error (inr taken) =
@@ -120,7 +120,7 @@ module _ (size : ℕ) (c : VolumeCore) (whole : IsWholeCore size c) (ppn : ℕ) 
       plain : (x y : CallError) → IsErrOf {T = Unit {0}} (Err x) y → x ≡ y
       plain x y is = cc
 
--- Where the device or the disk is blamed, no code is answered.
+-- If the device or the disk is blamed, no code is returned.
 pub not_refused : (result : Result (Unit {0}) CallError) → IfErr result (λ error. (error ≡ Device) ⊎ (error ≡ Failed))
     → (code : ErrorCode) → IsErrOf result (Refused code) → ⊥
 not_refused (Ok x) only code is = cc

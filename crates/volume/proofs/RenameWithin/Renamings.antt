@@ -1,4 +1,4 @@
--- A file gets another name in its directory in core: what each step asks for, and the whole of it from what each did.
+-- A file gets another name in its directory in memory: what each step requires, and the whole of it from what each did.
 use Rattle.std.proofs.Common.{◌≡◌, ℕ, zero, suc, ◌≤◌, ◌⊎◌, ◌==◌, ◌&&◌, inl, inr, Bool, true, false, List, [], ◌∷◌}
 use Rattle.std.proofs.Common.{map, filter_map, length, slice_get, slice_set, Option, Some, None, IfSome, IfNone}
 use Rattle.std.proofs.Common.{IsSome, is_some, refl, sym, ap, subst, ◌∙◌, arith}
@@ -9,7 +9,7 @@ use Rattle.std.specs.FinMap.Entries.{find}
 use Rattle.words36.specs.declared.names.FileName.{FileName}
 use Rattle.changeset.specs.Common.{replaced}
 use Rattle.spec_image.specs.declared.put.Put.{Put}
-use Rattle.spec_image.specs.Common.{FileEntry, file_words, IsFileEntry, name_cmp, insert, remove, from_entries}
+use Rattle.spec_image.specs.Common.{SpecFileEntry, file_words, IsFileEntry, name_cmp, insert, remove, from_entries}
 use Rattle.spec_image.proofs.Common.{some_same, some_none}
 use Rattle.directory.specs.Common.{IsChain, viewed, StandsAt, PutsChain, renamed}
 use Rattle.retrieval.specs.Common.{IsRewritten}
@@ -17,13 +17,13 @@ use Rattle.retrieval.specs.declared.prime.Prime.{Prime}
 use Rattle.volume.specs.declared.live.LiveDirectory.{LiveDirectory}
 use Rattle.volume.specs.declared.live.LiveMap.{LiveMap}
 use Rattle.volume.specs.declared.live.LiveVersion.{LiveVersion}
-use Rattle.volume.specs.Common.{IsDirectoryOf, file_view, master_view, KnownDirectory, IsWholeDirectory, VolumeCore}
-use Rattle.volume.specs.Common.{slot, as_known, IsCurrent, IsKeyed, IsWholeCore, core_of, known_at, live_directory}
+use Rattle.volume.specs.Common.{IsDirectoryOf, file_view, master_view, CurrentDirectory, IsWholeDirectory, MemoryMap}
+use Rattle.volume.specs.Common.{slot, as_known, IsCurrent, IsKeyed, IsWholeMemory, memory_of, known_at, live_directory}
 use Rattle.volume.specs.Common.{IsFreeFor, IsPrimeMoved, IsEntryRenamed, MovesWithin, IsKeyOf}
 use Rattle.volume.proofs.BeginVersion.Beginnings.{same_directory}
 use Rattle.volume.proofs.VolumeStart.FoundDirectories.{mapped_at, zip_at, all_at}
 use Rattle.volume.proofs.common.LiveLookups.{as_many}
-use Rattle.volume.proofs.common.Held.{element_at}
+use Rattle.volume.proofs.common.UsedBlocks.{element_at}
 use Rattle.volume.proofs.common.OnePlace.{one_key}
 use Rattle.volume.proofs.PublishVersion.Keys.{keys_apart, made_current_directories, made_current_keyed}
 use Rattle.volume.proofs.PublishVersion.Keys.{replaced_known, replaced_keyed}
@@ -37,15 +37,15 @@ map_set f (y ∷ xs) (suc i) x = ap (λ ys. f y ∷ ys) (map_set f xs i x)
 
 -- One directory, at its place, and a file of it.
 
-module _ (m : LiveMap) (whole : IsWholeCore m.table.size (core_of m)) (ppn : ℕ) (name to : FileName) (key : ℕ)
-    (file : IsKeyOf (core_of m) ppn name key)
-    (free : (x : KnownDirectory) → IsDirectoryOf (core_of m) ppn x → IsFreeFor x name to)
+module _ (m : LiveMap) (whole : IsWholeMemory m.table.size (memory_of m)) (ppn : ℕ) (name to : FileName) (key : ℕ)
+    (file : IsKeyOf (memory_of m) ppn name key)
+    (free : (x : CurrentDirectory) → IsDirectoryOf (memory_of m) ppn x → IsFreeFor x name to)
     (place : ℕ) (w : ℕ × ℕ) (stands : StandsAt nat_cmp (map master_view m.master.entries) ppn w place)
     (d : LiveDirectory) (at : slice_get m.directories.items place ≡ Some d) where
-  abbrev c : VolumeCore
-  c = core_of m
+  abbrev c : MemoryMap
+  c = memory_of m
 
-  abbrev dk : KnownDirectory
+  abbrev dk : CurrentDirectory
   dk = live_directory m.versions.slots d
 
   abbrev u : LiveVersion
@@ -60,7 +60,7 @@ module _ (m : LiveMap) (whole : IsWholeCore m.table.size (core_of m)) (ppn : ℕ
   keyed_here : IsKeyed c.live dk d.keys.items
   keyed_here =
       let pair = zip_at (IsKeyed c.live) c.known.directories c.keys place d.keys.items whole.keyed keys_here in
-      subst (λ (x : KnownDirectory). IsKeyed c.live x d.keys.items) (some_same (sym pair.1 ∙ known_here)) pair.2
+      subst (λ (x : CurrentDirectory). IsKeyed c.live x d.keys.items) (some_same (sym pair.1 ∙ known_here)) pair.2
 
   whole_here : IsWholeDirectory m.table.size dk
   whole_here = all_at (IsWholeDirectory m.table.size) c.known.directories place dk whole.map.each known_here
@@ -71,10 +71,10 @@ module _ (m : LiveMap) (whole : IsWholeCore m.table.size (core_of m)) (ppn : ℕ
 
   named : StandsAt name_cmp dk.chain.entries name u.at file.index
   named = subst (λ (n : ℕ). StandsAt name_cmp dk.chain.entries name n file.index) (sym file.prime_is)
-      (subst (λ (x : KnownDirectory). StandsAt name_cmp x.chain.entries name file.prime file.index) same_here file.at)
+      (subst (λ (x : CurrentDirectory). StandsAt name_cmp x.chain.entries name file.prime file.index) same_here file.at)
 
   version_at : slice_get dk.versions file.index ≡ Some (as_known u)
-  version_at = ap (λ (x : KnownDirectory). slice_get x.versions file.index) (sym same_here) ∙ file.known
+  version_at = ap (λ (x : CurrentDirectory). slice_get x.versions file.index) (sym same_here) ∙ file.known
 
   free_here : IsFreeFor dk name to
   free_here = free dk (place, w, stands, known_here)
@@ -96,12 +96,12 @@ module _ (m : LiveMap) (whole : IsWholeCore m.table.size (core_of m)) (ppn : ℕ
       let many = as_many c.live dk.chain.entries d.keys.items keyed_here in
       let within = named.within in
       let k = element_at d.keys.items file.index (omega arith) in
-      let pair = zip_at (λ (e : FileEntry) (n : ℕ). IsCurrent c.live n e.1) dk.chain.entries d.keys.items
+      let pair = zip_at (λ (e : SpecFileEntry) (n : ℕ). IsCurrent c.live n e.1) dk.chain.entries d.keys.items
       file.index k.0 keyed_here k.1 in
       let entry : pair.0 ≡ (name, u.at) = some_same (sym pair.1 ∙ named.is) in
       let current = pair.2 in
       let same : k.0 ≡ key = one_key m.table.size c whole k.0 key current.version u current.there file.here
-      current.current file.current (current.at ∙ ap (λ (e : FileEntry). e.1) entry) in
+      current.current file.current (current.at ∙ ap (λ (e : SpecFileEntry). e.1) entry) in
       k.1 ∙ ap Some same
 
   only : (j : ℕ) → slice_get d.keys.items j ≡ Some key → j ≡ file.index
@@ -171,7 +171,7 @@ module _ (m : LiveMap) (whole : IsWholeCore m.table.size (core_of m)) (ppn : ℕ
     same_keys = map_set (λ (x : LiveDirectory). x.keys.items) m.directories.items place d'
         ∙ set_itself c.keys place d'.keys.items (keys_here ∙ ap Some (sym keys))
 
-    pub moves_within : MovesWithin m.table.size c (core_of m') ppn name to protection key u words puts
+    pub moves_within : MovesWithin m.table.size c (memory_of m') ppn name to protection key u words puts
     moves_within = record {
       prime = prime;
       prime_is = prime_is;
@@ -184,7 +184,7 @@ module _ (m : LiveMap) (whole : IsWholeCore m.table.size (core_of m)) (ppn : ℕ
         directory_at = known_here;
         master = ap (viewed master_view) master;
         directories = ap (map (live_directory m'.versions.slots)) directories ∙ entered;
-        entry = subst (λ (x : KnownDirectory). IsEntryRenamed dk x name to (u.at, as_known u) (as_known v)) (sym known)
+        entry = subst (λ (x : CurrentDirectory). IsEntryRenamed dk x name to (u.at, as_known u) (as_known v)) (sym known)
             (entry_renamed m.table.size dk (viewed file_view d'.chain) name to u.at file.index (as_known u) (as_known v)
             whole_here named version_at free_here refl items_are blocks chain names_are);
         chain_puts = set;
@@ -213,31 +213,31 @@ module _ (m : LiveMap) (whole : IsWholeCore m.table.size (core_of m)) (ppn : ℕ
 
 -- What has the new name.
 
-module _ (m : LiveMap) (whole : IsWholeCore m.table.size (core_of m)) (ppn place : ℕ) (w : ℕ × ℕ)
+module _ (m : LiveMap) (whole : IsWholeMemory m.table.size (memory_of m)) (ppn place : ℕ) (w : ℕ × ℕ)
     (stands : StandsAt nat_cmp (map master_view m.master.entries) ppn w place)
     (d : LiveDirectory) (at : slice_get m.directories.items place ≡ Some d) where
   -- the directory is the one at its place
-  one_directory : (x : KnownDirectory) → IsDirectoryOf (core_of m) ppn x → x ≡ live_directory m.versions.slots d
-  one_directory x there = same_directory m.table.size (core_of m) ppn place w x (live_directory m.versions.slots d)
+  one_directory : (x : CurrentDirectory) → IsDirectoryOf (memory_of m) ppn x → x ≡ live_directory m.versions.slots d
+  one_directory x there = same_directory m.table.size (memory_of m) ppn place w x (live_directory m.versions.slots d)
       whole
       there stands.is (mapped_at (live_directory m.versions.slots) m.directories.items place d at)
 
   pub name_free : (to : FileName) (found : Option ℕ) → is_some found ≡ false
-      → IfNone found (find name_cmp to (map file_view d.chain.entries) ≡ None) → (x : KnownDirectory)
-      → IsDirectoryOf (core_of m) ppn x → find name_cmp to x.chain.entries ≡ None
+      → IfNone found (find name_cmp to (map file_view d.chain.entries) ≡ None) → (x : CurrentDirectory)
+      → IsDirectoryOf (memory_of m) ppn x → find name_cmp to x.chain.entries ≡ None
   name_free to None none absent x there =
-      ap (λ (y : KnownDirectory). find name_cmp to y.chain.entries) (one_directory x there) ∙ absent
+      ap (λ (y : CurrentDirectory). find name_cmp to y.chain.entries) (one_directory x there) ∙ absent
   name_free to (Some i) none absent x there = cc
 
   pub name_taken : (to : FileName) (found : Option ℕ) → is_some found ≡ true
-      → IfSome found (λ i. (v : ℕ) × StandsAt name_cmp (map file_view d.chain.entries) to v i) → (x : KnownDirectory)
-      → IsDirectoryOf (core_of m) ppn x → find name_cmp to x.chain.entries ≡ None → ⊥
+      → IfSome found (λ i. (v : ℕ) × StandsAt name_cmp (map file_view d.chain.entries) to v i) → (x : CurrentDirectory)
+      → IsDirectoryOf (memory_of m) ppn x → find name_cmp to x.chain.entries ≡ None → ⊥
   name_taken to None some stands_at x there none = cc
   name_taken to (Some i) some stands_at x there none =
       some_none (sym stands_at.1.found
-      ∙ sym (ap (λ (y : KnownDirectory). find name_cmp to y.chain.entries) (one_directory x there)) ∙ none)
+      ∙ sym (ap (λ (y : CurrentDirectory). find name_cmp to y.chain.entries) (one_directory x there)) ∙ none)
 
--- names that are told apart by their words
+-- names that differ in their words
 pub names_differ : (a b : FileName) → false ≡ ((a.name == b.name) && (a.ext == b.ext)) → a ≡ b → ⊥
 names_differ a b differ same = by (b.name == b.name) (b.ext == b.ext) (itself b.name) (itself b.ext)
     (differ ∙ ap (λ (x : FileName). (x.name == b.name) && (x.ext == b.ext)) same)

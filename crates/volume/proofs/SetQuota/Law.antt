@@ -1,4 +1,4 @@
--- The puts of a directory's quota lead from the map that is held to the one with the quota.
+-- The puts of a directory's quota lead from the map of the disk to the one with the quota.
 use Rattle.std.proofs.Common.{◌≡◌, ◌⊎◌, inl, inr, ⊎_elim, ℕ, ◌+◌, ◌*◌, ◌/◌, ◌^◌, ◌<◌, ◌≤◌, List, slice_get}
 use Rattle.std.proofs.Common.{option_map, Some, IsSome, refl, sym, ap, subst, ◌∙◌, arith}
 use Rattle.std.specs.Cmp.{nat_cmp_total}
@@ -6,7 +6,7 @@ use Rattle.std.specs.FinMap.{nat_cmp-IsAntisymmetric}
 use Rattle.blockdisk.specs.Common.{Contents}
 use Rattle.spec_image.specs.declared.put.Put.{Put}
 use Rattle.spec_image.specs.Common.{head_or_zero, TableFollows, IsMasterChain, entries_of, with_directory}
-use Rattle.spec_image.specs.Common.{MasterEntry, master_word, master_words, file_words, InSpace, with_puts}
+use Rattle.spec_image.specs.Common.{SpecMasterEntry, master_word, master_words, file_words, InSpace, with_puts}
 use Rattle.spec_image.specs.Common.{with_quota, files_limited, get, insert, times, map_values, from_entries}
 use Rattle.spec_image.specs.Common.{table_blocks, table_start, space_start, StoredDirectory, DiskMap, HasMap, IsWhole}
 use Rattle.spec_image.specs.Common.{directory_of, entry_of, files_of, quota_limit, reaches, table_bit}
@@ -17,13 +17,14 @@ use Rattle.spec_image.proofs.Common.{each_times, quota_bound}
 use Rattle.changeset.specs.Common.{some_or_none}
 use Rattle.alloctab.specs.Common.{bit}
 use Rattle.directory.specs.Common.{IsOn, on_kept}
-use Rattle.volume.specs.Common.{word_limited, LimitsDirectory, KnownDirectory, IsKnownDirectory, IsHeld, VolumeCore}
-use Rattle.volume.specs.Common.{IsWholeCore}
-use Rattle.volume.proofs.common.Held.{element_at, chain_reached}
+use Rattle.volume.specs.Common.{word_limited, LimitsDirectory, CurrentDirectory, AgreesOnDirectory, MatchesMap}
+use Rattle.volume.specs.Common.{MemoryMap}
+use Rattle.volume.specs.Common.{IsWholeMemory}
+use Rattle.volume.proofs.common.UsedBlocks.{element_at, chain_reached}
 use Rattle.volume.proofs.common.TableBits.{bits_same}
 use Rattle.volume.proofs.MakeDir.Law.{master_stands}
 use Rattle.volume.proofs.common.Lists.{set_cases, other_key}
-use Rattle.volume.proofs.SetQuota.Core.{next, word_with, limited_chain, put_chain}
+use Rattle.volume.proofs.SetQuota.Memory.{next, word_with, limited_chain, put_chain}
 use Rattle.volume.proofs.SetQuota.Entries.{inserted_place, names_inserted}
 
 -- the entry of a directory with another quota
@@ -35,27 +36,27 @@ limited_entry s quota few =
     λ i. (word i, head_or_zero s.chain)
 
 -- what is known of a directory says nothing of its quota
-known_limited : (x : KnownDirectory) (s : StoredDirectory) (quota : ℕ) → IsKnownDirectory x s
-    → IsKnownDirectory x (with_protection s s.protection quota)
+known_limited : (x : CurrentDirectory) (s : StoredDirectory) (quota : ℕ) → AgreesOnDirectory x s
+    → AgreesOnDirectory x (with_protection s s.protection quota)
 known_limited x s quota is = record { chain = is.chain; names = is.names; each = is.each }
 
-module _ (size : ℕ) (c c' : VolumeCore) (m : DiskMap) (ppn quota : ℕ) (puts : List Put) (core : IsWholeCore size c)
+module _ (size : ℕ) (c c' : MemoryMap) (m : DiskMap) (ppn quota : ℕ) (puts : List Put) (memory : IsWholeMemory size c)
     (limits : LimitsDirectory c c' ppn quota puts) (fits : quota < quota_limit m.layout) (d : Contents)
-    (held : IsHeld size c.known m d) where
-  abbrev after : VolumeCore
-  after = next size c c' ppn quota core limits.limited
+    (held : MatchesMap size c.known m d) where
+  abbrev after : MemoryMap
+  after = next size c c' ppn quota memory limits.limited
 
   abbrev pub word : ℕ × ℕ
   word = limits.limited.word
 
-  -- the directory in core and in the map
+  -- the directory in memory and in the map
 
-  pub in_core : (x : KnownDirectory) × (slice_get c.known.directories limits.limited.place ≡ Some x)
-  in_core = element_at c.known.directories limits.limited.place
-      (let below = limits.limited.there.within in let aligned = core.map.aligned in omega arith)
+  pub in_memory : (x : CurrentDirectory) × (slice_get c.known.directories limits.limited.place ≡ Some x)
+  in_memory = element_at c.known.directories limits.limited.place
+      (let below = limits.limited.there.within in let aligned = memory.map.aligned in omega arith)
 
-  pub in_map : (s : StoredDirectory) × (get m.directories ppn ≡ Some s) × IsKnownDirectory in_core.0 s
-  in_map = held.known.each limits.limited.place (ppn, word) in_core.0 limits.limited.there.is in_core.1
+  pub in_map : (s : StoredDirectory) × (get m.directories ppn ≡ Some s) × AgreesOnDirectory in_memory.0 s
+  in_map = held.known.each limits.limited.place (ppn, word) in_memory.0 limits.limited.there.is in_memory.1
 
   abbrev pub changed : StoredDirectory
   changed = with_protection in_map.0 in_map.0.protection quota
@@ -84,14 +85,14 @@ module _ (size : ℕ) (c c' : VolumeCore) (m : DiskMap) (ppn quota : ℕ) (puts 
   -- what stays
 
   others : (n : ℕ) → times n c.known.master.blocks ≡ 0 → with_puts puts d n ≡ d n
-  others n none = (put_chain size c c' ppn quota puts core limits).others d n none
+  others n none = (put_chain size c c' ppn quota puts memory limits).others d n none
 
   master_times : (n : ℕ) → times n m.chain ≡ times n c.known.master.blocks
   master_times n = ap (times n) held.known.chain
 
   out_of_chain : (n : ℕ) → (n < space_start size) ⊎ (size ≤ n) → times n c.known.master.blocks ≡ 0
   out_of_chain n out = ⊎_elim
-      (λ there. absurd (let inside = each_times (InSpace size) c.known.master.blocks n core.map.inside there in
+      (λ there. absurd (let inside = each_times (InSpace size) c.known.master.blocks n memory.map.inside there in
       let from = inside.from in let below = inside.below in
       ⊎_elim (λ low. omega arith) (λ high. omega arith) out))
       (λ none. none) (some_or_none (times n c.known.master.blocks))
@@ -105,12 +106,12 @@ module _ (size : ℕ) (c c' : VolumeCore) (m : DiskMap) (ppn quota : ℕ) (puts 
   -- the chain of the master directory
 
   new_on : IsOn master_words (with_puts puts d) after.known.master
-  new_on = (put_chain size c c' ppn quota puts core limits).spells d held.master
+  new_on = (put_chain size c c' ppn quota puts memory limits).spells d held.master
 
   new_master : IsMasterChain (with_puts puts d) c.known.master.blocks
       (insert (entries_of m) ppn (entry_of changed))
   new_master = master_stands (with_puts puts d) after.known.master _
-      (limited_chain size c c' ppn quota core limits.limited (quota_bound m.layout quota fits)) new_on names
+      (limited_chain size c c' ppn quota memory limits.limited (quota_bound m.layout quota fits)) new_on names
 
   -- the table
 
@@ -139,23 +140,23 @@ module _ (size : ℕ) (c c' : VolumeCore) (m : DiskMap) (ppn quota : ℕ) (puts 
       })
       follows
 
-  -- core
+  -- memory
 
-  each_known : (i : ℕ) (e : MasterEntry) (x : KnownDirectory) → slice_get after.known.master.entries i ≡ Some e
+  each_known : (i : ℕ) (e : SpecMasterEntry) (x : CurrentDirectory) → slice_get after.known.master.entries i ≡ Some e
       → slice_get c.known.directories i ≡ Some x
-      → (s : StoredDirectory) × (get map_limited.directories e.0 ≡ Some s) × IsKnownDirectory x s
+      → (s : StoredDirectory) × (get map_limited.directories e.0 ≡ Some s) × AgreesOnDirectory x s
   each_known i e x is also = ⊎_elim
       (λ here.
-      let key : e.0 ≡ ppn = ap (λ (y : MasterEntry). y.0) here.1 in
-      let same : in_core.0 ≡ x = some_same (sym in_core.1 ∙ ap (slice_get c.known.directories) (sym here.0) ∙ also) in (
+      let key : e.0 ≡ ppn = ap (λ (y : SpecMasterEntry). y.0) here.1 in
+      let same : in_memory.0 ≡ x = some_same (sym in_memory.1 ∙ ap (slice_get c.known.directories) (sym here.0) ∙ also) in (
         changed,
         ap (get map_limited.directories) key ∙ get-insert_same nat_cmp_total m.directories ppn changed,
-        subst (λ (y : KnownDirectory). IsKnownDirectory y changed) same
-            (known_limited in_core.0 in_map.0 quota in_map.2),
+        subst (λ (y : CurrentDirectory). AgreesOnDirectory y changed) same
+            (known_limited in_memory.0 in_map.0 quota in_map.2),
       ))
       (λ other.
       let old = held.known.each i e x other.1 also in
-      let apart = other_key c.known.master.entries i limits.limited.place ppn e word core.map.chain.each_once other.1
+      let apart = other_key c.known.master.entries i limits.limited.place ppn e word memory.map.chain.each_once other.1
       limits.limited.there.is other.0 in (
         old.0,
         get-insert_other nat_cmp_total nat_cmp-IsAntisymmetric m.directories ppn changed e.0 apart ∙ old.1,
@@ -165,15 +166,15 @@ module _ (size : ℕ) (c c' : VolumeCore) (m : DiskMap) (ppn quota : ℕ) (puts 
       (ap (λ l. slice_get l i) (sym (inserted_place c.known.master.entries limits.limited.place ppn word
       (word_limited word quota) limits.limited.there)) ∙ is))
 
-  new_chains : (i : ℕ) (x : KnownDirectory) → slice_get c.known.directories i ≡ Some x
+  new_chains : (i : ℕ) (x : CurrentDirectory) → slice_get c.known.directories i ≡ Some x
       → IsOn file_words (with_puts puts d) x.chain
   new_chains i x is =
       on_kept file_words d (with_puts puts d) x.chain (held.chains i x is) (λ n there.
-      let most = chain_reached c.known m held.known core.map.aligned i x is n in
+      let most = chain_reached c.known m held.known memory.map.aligned i x is n in
       let one = once size d m held.stands.marked n in
       reached_stays n (omega arith) (omega arith))
 
-  next_held : IsHeld size after.known map_limited (with_puts puts d)
+  next_held : MatchesMap size after.known map_limited (with_puts puts d)
   next_held = record {
     known = record {
       chain = refl;
@@ -186,9 +187,9 @@ module _ (size : ℕ) (c c' : VolumeCore) (m : DiskMap) (ppn quota : ℕ) (puts 
     bits = new_bits;
   }
 
-  pub limiting_leads : IsHeld size c'.known map_limited (with_puts puts d)
-  limiting_leads = subst (λ (x : VolumeCore). IsHeld size x.known map_limited (with_puts puts d))
-      (sym limits.limited.core) next_held
+  pub limiting_leads : MatchesMap size c'.known map_limited (with_puts puts d)
+  limiting_leads = subst (λ (x : MemoryMap). MatchesMap size x.known map_limited (with_puts puts d))
+      (sym limits.limited.map) next_held
 
   -- the files of the new map
 

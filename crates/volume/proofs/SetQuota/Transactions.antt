@@ -2,26 +2,26 @@
 use Rattle.std.proofs.Common.{◌≡◌, inr, ℕ, ◌<◌, List, refl, sym, ap, subst, arith}
 use Rattle.spec_image.specs.declared.put.Put.{Put}
 use Rattle.spec_image.specs.Common.{files_limited, quota_limit}
-use Rattle.volume.specs.Common.{LimitsDirectory, VolumeCore, IsWholeCore}
+use Rattle.volume.specs.Common.{LimitsDirectory, MemoryMap, IsWholeMemory}
 use Rattle.volume.proofs.common.Edits.{Nowhere, Anyhow, IsEdit}
 use Rattle.volume.proofs.common.LiveBodies.{bodies_of, dated_of}
-use Rattle.volume.proofs.SetQuota.Core.{limited_core, puts_in_range, puts_few, not_written, limited_low}
+use Rattle.volume.proofs.SetQuota.Memory.{limited_memory, puts_in_range, puts_few, not_written, limited_low}
 use Rattle.volume.proofs.SetQuota.Law.{map_limited, limiting_leads, files_next}
 use Rattle.spec_image.proofs.Common.{quota_bound}
 
-module _ {size : ℕ} {c c' : VolumeCore} {ppn quota : ℕ} {puts : List Put} (whole : IsWholeCore size c)
+module _ {size : ℕ} {c c' : MemoryMap} {ppn quota : ℕ} {puts : List Put} (whole : IsWholeMemory size c)
     (is : LimitsDirectory c c' ppn quota puts) where
   live : c'.live ≡ c.live
-  live = ap (λ (x : VolumeCore). x.live) is.limited.core
+  live = ap (λ (x : MemoryMap). x.live) is.limited.map
 
   pending : c'.pending ≡ c.pending
-  pending = ap (λ (x : VolumeCore). x.pending) is.limited.core
+  pending = ap (λ (x : MemoryMap). x.pending) is.limited.map
 
   -- the layout has to have the quota
   pub limited_edit : (layout : ℕ) → quota < quota_limit layout
       → IsEdit size layout c c' Nowhere Anyhow puts (λ f. files_limited f ppn quota)
   limited_edit layout fits = record {
-    whole = limited_core size c c' ppn quota whole is.limited (quota_bound layout quota fits);
+    whole = limited_memory size c c' ppn quota whole is.limited (quota_bound layout quota fits);
     bodies = λ d. bodies_of d c c' live pending;
     dated = λ n. dated_of n c c' pending;
     quiet = λ n none. absurd none;

@@ -3,7 +3,7 @@ use Rattle.std.proofs.Common.{◌≡◌, inl, inr, ⊎_elim, ℕ, Bool, List, []
 use Rattle.std.specs.FinMap.Entries.{find}
 use Rattle.std.specs.List.{AllByRecursion}
 use Rattle.blockdisk.specs.Common.{Contents}
-use Rattle.spec_image.specs.Common.{times, IsVolumeSize, IsHome, Node, MasterEntry, master_words, numbers, items}
+use Rattle.spec_image.specs.Common.{times, IsVolumeSize, IsHome, Node, SpecMasterEntry, master_words, numbers, items}
 use Rattle.spec_image.specs.Common.{place_of, LeadsAlong, IsMasterWalk, IsDirectoryNamed, IsFileNamed, InSpace}
 use Rattle.spec_image.specs.Common.{IsMasterEntryOf, IsBadRetrieval, IsDirectoryRead}
 use Rattle.alloctab.specs.Common.{digit_at}
@@ -15,7 +15,7 @@ use Rattle.volume.specs.declared.error.VolumeError.TheVariants.{NoMemory, Failed
 use Rattle.volume.specs.Common.{home_in, IsOtherPlace, NamesInSpace, IsFaultOfDirectories, SettledRefuses}
 use Rattle.volume.specs.Common.{IsBadFileOf, IsInChain}
 
--- A block of the master directory's chain is not as it should be.
+-- A block of the master directory's chain is invalid.
 pub master_fault : (size : ℕ) (contents : Contents) (layout first n : ℕ) → IsVolumeSize size
     → IsHome size contents (home_in layout first)
     → IsBadChain nat_cmp master_words (IsMasterEntryOf layout) (λ e. e.1.1) size contents first n
@@ -52,8 +52,8 @@ master_twice size contents reached layout first n volume home fresh inside met =
 )
 
 -- The master directory was read, and one that it names is at fault.
-pub directories_fault : (size : ℕ) (contents : Contents) (layout first : ℕ) (nodes : List (Node MasterEntry))
-    (entries : List MasterEntry) (marks : ℕ → ℕ) (error : VolumeError) → IsVolumeSize size
+pub directories_fault : (size : ℕ) (contents : Contents) (layout first : ℕ) (nodes : List (Node SpecMasterEntry))
+    (entries : List SpecMasterEntry) (marks : ℕ → ℕ) (error : VolumeError) → IsVolumeSize size
     → IsHome size contents (home_in layout first)
     → LeadsAlong master_words contents first nodes 0 → items nodes ≡ entries
     → ((n : ℕ) → marks n ≡ times n (numbers nodes))
@@ -70,7 +70,7 @@ directories_fault size contents layout first nodes entries marks error volume ho
       nodes = nodes;
       last = 0;
       walk = master_walk;
-      entry = ap (λ (es : List MasterEntry). find nat_cmp ppn es) all ∙ is;
+      entry = ap (λ (es : List SpecMasterEntry). find nat_cmp ppn es) all ∙ is;
     }
 
     retrieval : (ppn word at n : ℕ) → find nat_cmp ppn entries ≡ Some (word, at)
@@ -121,7 +121,7 @@ directories_fault size contents layout first nodes entries marks error volume ho
           layout = layout;
           walk = master_walk;
           once = met.once;
-          directories = subst (λ (es : List MasterEntry).
+          directories = subst (λ (es : List SpecMasterEntry).
               AllByRecursion (IsDirectoryRead layout contents es) met.directories) (sym all) met.read;
         };
         twice = let t = met.twice in let m = marked n in omega arith;

@@ -9,14 +9,14 @@ use Rattle.std.specs.FinMap.Entries.{find}
 use Rattle.std.specs.List.{AllByRecursion, AllZip}
 use Rattle.words36.specs.declared.names.FileName.{FileName}
 use Rattle.blockdisk.specs.Common.{Contents}
-use Rattle.spec_image.specs.Common.{EachOnce, times, from_entries, head_or_zero, name_cmp, MasterEntry, master_word}
-use Rattle.spec_image.specs.Common.{FileEntry, file_words, IsFileEntry, numbers, items, StoredFile, StoredDirectory}
+use Rattle.spec_image.specs.Common.{EachOnce, times, from_entries, head_or_zero, name_cmp, SpecMasterEntry, master_word}
+use Rattle.spec_image.specs.Common.{SpecFileEntry, file_words, IsFileEntry, numbers, items, StoredFile, StoredDirectory}
 use Rattle.spec_image.specs.Common.{quota_limit, entry_of, reaches_in_directory, IsWhole, InSpace, ReadFile}
 use Rattle.spec_image.specs.Common.{ReadDirectory, times_in_file, times_in_directory, IsFileRead, found_directory}
 use Rattle.spec_image.specs.Common.{LeadsAlong}
 use Rattle.alloctab.specs.Common.{digit_at}
 use Rattle.directory.specs.Common.{ChainState, nodes_of, IsChain, IsOn, chain_read, chain_items, numbers_of}
-use Rattle.volume.specs.Common.{known_facts, KnownVersion, KnownDirectory, IsKnownDirectory, IsOnlySpace}
+use Rattle.volume.specs.Common.{known_facts, CurrentVersion, CurrentDirectory, AgreesOnDirectory, IsOnlySpace}
 use Rattle.volume.specs.Common.{IsKnownVersion, IsAdded, AreFilesRead, IsEntryRead, IsDirectoryFound}
 use Rattle.volume.specs.Common.{AreDirectoriesRead}
 use Rattle.volume.proofs.VolumeStart.FoundFiles.{as_read, files_read, files_once}
@@ -37,7 +37,7 @@ mapped_at f [] i x is = absurd (some_none (sym is))
 mapped_at f (a ∷ xs) zero x is = ap (λ o. option_map f o) is
 mapped_at f (a ∷ xs) (suc i) x is = mapped_at f xs i x is
 
--- what stands at a place of a list is one of its elements
+-- what is at a place of a list is one of its elements
 pub all_at : {A : Type 0} (P : A → Type 0) (xs : List A) (i : ℕ) (x : A) → AllByRecursion P xs → slice_get xs i ≡ Some x
     → P x
 all_at P [] i x all is = absurd (some_none (sym is))
@@ -45,8 +45,8 @@ all_at P (a ∷ xs) zero x all is = subst P (some_same is) all.0
 all_at P (a ∷ xs) (suc i) x all is = all_at P xs i x all.1 is
 
 -- One directory, whose chain and files were read.
-pub directory_found : (layout : ℕ) (contents : Contents) (ppn protection quota first : ℕ) (chain : ChainState FileEntry)
-    (versions : List KnownVersion) (marks between after : ℕ → ℕ)
+pub directory_found : (layout : ℕ) (contents : Contents) (ppn protection quota first : ℕ) (chain : ChainState SpecFileEntry)
+    (versions : List CurrentVersion) (marks between after : ℕ → ℕ)
     → protection < 512 → quota < quota_limit layout → IsChain name_cmp IsFileEntry chain → IsOn file_words contents chain
     → head_or_zero chain.blocks ≡ first → LeadsAlong file_words contents first (nodes_of chain.blocks chain.entries) 0
     → ((n : ℕ) → between n ≡ marks n + times n chain.blocks)
@@ -75,15 +75,15 @@ directory_found layout contents ppn protection quota first chain versions marks 
             let z = zip_at IsKnownVersion read.found versions i v read.known version in
             let named_at : (z.0.0, z.0.1.prime)
             ≡ e = some_same (sym (mapped_at (λ (x : FileName × StoredFile). (x.0, x.1.prime)) read.found i z.0 z.1)
-            ∙ ap (λ (l : List FileEntry). slice_get l i) read.named ∙ at) in
+            ∙ ap (λ (l : List SpecFileEntry). slice_get l i) read.named ∙ at) in
             let there : find name_cmp z.0.0 read.found
             ≡ Some z.0.1 = all_at (λ (x : FileName × StoredFile). find name_cmp x.0 read.found
             ≡ Some x.1) read.found i z.0
             (found_in_front name_total read.found read.found [] (sym (append-nil read.found)) once) z.1 in (
               z.0.1,
               get-from_entries name_total read.found e.0
-                  ∙ ap (λ (q : FileEntry). find name_cmp q.0 read.found) (sym named_at) ∙ there,
-              z.2 ∙ ap (λ (q : FileEntry). known_facts q.1 v.prime v.version) named_at,
+                  ∙ ap (λ (q : SpecFileEntry). find name_cmp q.0 read.found) (sym named_at) ∙ there,
+              z.2 ∙ ap (λ (q : SpecFileEntry). known_facts q.1 v.prime v.version) named_at,
             );
       };
       on = on;
@@ -121,8 +121,8 @@ no_directories layout contents marks = record {
 }
 
 -- one directory more
-pub more_directories : (layout : ℕ) (contents : Contents) (entries : List MasterEntry) (directories : List KnownDirectory)
-    (marks before after : ℕ → ℕ) (e : MasterEntry) (d : KnownDirectory)
+pub more_directories : (layout : ℕ) (contents : Contents) (entries : List SpecMasterEntry) (directories : List CurrentDirectory)
+    (marks before after : ℕ → ℕ) (e : SpecMasterEntry) (d : CurrentDirectory)
     → AreDirectoriesRead layout contents entries directories marks before → IsDirectoryFound layout contents e d before after
     → AreDirectoriesRead layout contents (entries ++ e ∷ []) (directories ++ d ∷ []) marks after
 more_directories layout contents entries directories marks before after e d read found =
@@ -132,28 +132,28 @@ more_directories layout contents entries directories marks before after e d read
       named = map-append (λ (y : ℕ × StoredDirectory). (y.0, entry_of y.1)) read.found (x ∷ [])
           ∙ (λ i. read.named i ++ (e.0, found.named i) ∷ []);
       whole = all_push (λ (y : ℕ × StoredDirectory). IsWhole layout contents y.0 y.1) read.found x read.whole found.whole;
-      known = zip_behind (λ (y : ℕ × StoredDirectory) k. IsKnownDirectory k y.1) read.found directories
+      known = zip_behind (λ (y : ℕ × StoredDirectory) k. AgreesOnDirectory k y.1) read.found directories
           x d read.known found.known;
       read = read.read ++ (e, found.read) ∷ [];
-      read_named = map-append (λ (r : MasterEntry × ReadDirectory). r.0) read.read ((e, found.read) ∷ [])
-          ∙ ap (λ (l : List MasterEntry). l ++ e ∷ []) read.read_named;
-      read_are = all_push (λ (r : MasterEntry × ReadDirectory). IsEntryRead layout contents r.0 r.1) read.read
+      read_named = map-append (λ (r : SpecMasterEntry × ReadDirectory). r.0) read.read ((e, found.read) ∷ [])
+          ∙ ap (λ (l : List SpecMasterEntry). l ++ e ∷ []) read.read_named;
+      read_are = all_push (λ (r : SpecMasterEntry × ReadDirectory). IsEntryRead layout contents r.0 r.1) read.read
           (e, found.read) read.read_are found.read_is;
       counted = λ n.
           let a = read.counted n in
           let b = found.counted n in
           let t = total-push (λ (y : ℕ × StoredDirectory). reaches_in_directory n y.1) read.found x in
-          let u = total-push (λ (r : MasterEntry × ReadDirectory). times_in_directory n r.1) read.read
+          let u = total-push (λ (r : SpecMasterEntry × ReadDirectory). times_in_directory n r.1) read.read
           (e, found.read) in
           omega arith;
-      on = all_push (λ (k : KnownDirectory). IsOn file_words contents k.chain) directories d read.on found.on;
+      on = all_push (λ (k : CurrentDirectory). IsOn file_words contents k.chain) directories d read.on found.on;
       marked = λ n. let a = found.marked n in let b = read.marked n in
           let t = total-push (λ (y : ℕ × StoredDirectory). reaches_in_directory n y.1) read.found x in omega arith;
     }
 
 -- the next directory was read
-pub directories_go_on : {A E : Type 0} (view : A → KnownDirectory) (layout : ℕ) (contents now : Contents) (named : E
-    → MasterEntry) (es : List E) (i : ℕ) (e : E) (old new : List A) (marks before after : ℕ → ℕ)
+pub directories_go_on : {A E : Type 0} (view : A → CurrentDirectory) (layout : ℕ) (contents now : Contents) (named : E
+    → SpecMasterEntry) (es : List E) (i : ℕ) (e : E) (old new : List A) (marks before after : ℕ → ℕ)
     → i < length es → e ≡ get_or es i e → now ≡ contents
     → AreDirectoriesRead layout contents (map named (take i es)) (map view old) marks before
     → IsAdded view old new (λ d. IsDirectoryFound layout now (named e) d before after)
@@ -161,9 +161,9 @@ pub directories_go_on : {A E : Type 0} (view : A → KnownDirectory) (layout : �
 directories_go_on view layout contents now named es i e old new marks before after below is same read added =
     let f : IsDirectoryFound layout contents (named e) (view added.added) before after = subst
     (λ (c : Contents). IsDirectoryFound layout c (named e) (view added.added) before after) same added.is in
-    subst (λ (l : List MasterEntry). AreDirectoriesRead layout contents l (map view new) marks after)
+    subst (λ (l : List SpecMasterEntry). AreDirectoriesRead layout contents l (map view new) marks after)
     (sym (viewed_more named es i e below is))
-    (subst (λ (l : List KnownDirectory). AreDirectoriesRead layout contents (map named (take i es)
+    (subst (λ (l : List CurrentDirectory). AreDirectoriesRead layout contents (map named (take i es)
     ++ named e ∷ []) l marks after) (sym (ap (map view) added.pushed ∙ map-append view old (added.added ∷ [])))
     (more_directories layout contents (map named (take i es)) (map view old) marks before after (named e)
     (view added.added) read f))

@@ -6,7 +6,8 @@ use Rattle.std.specs.FinMap.Entries.{find}
 use Rattle.std.specs.List.{AllByRecursion}
 use Rattle.words36.specs.declared.names.FileName.{FileName}
 use Rattle.blockdisk.specs.Common.{Contents}
-use Rattle.spec_image.specs.Common.{EachOnce, times, name_cmp, FileEntry, prime_of, IsRetrieved, StoredFile, place_of}
+use Rattle.spec_image.specs.Common.{EachOnce, times, name_cmp, SpecFileEntry, prime_of, IsRetrieved, StoredFile}
+use Rattle.spec_image.specs.Common.{place_of}
 use Rattle.spec_image.specs.Common.{reaches_in_file, IsVersion, ReadFile, times_in_file, IsFileRead}
 use Rattle.spec_image.proofs.Common.{EachOnce-from_map, name_total, once_front}
 use Rattle.alloctab.specs.Common.{digit_at}
@@ -14,7 +15,7 @@ use Rattle.volume.specs.declared.error.VolumeError.{VolumeError}
 use Rattle.volume.specs.declared.error.VolumeError.TheVariants.{NotVolume, BadHome, BadLog, BadDirectory}
 use Rattle.volume.specs.declared.error.VolumeError.TheVariants.{BadRetrieval, BlockTwice, TableWrong, Device}
 use Rattle.volume.specs.declared.error.VolumeError.TheVariants.{NoMemory, Failed, BadData}
-use Rattle.volume.specs.Common.{facts_of, known_facts, IsFileFound, facts_found, KnownVersion, IsAdded, IsMarkedFile}
+use Rattle.volume.specs.Common.{facts_of, known_facts, IsFileFound, facts_found, CurrentVersion, IsAdded, IsMarkedFile}
 use Rattle.volume.specs.Common.{IsKnownVersion, AreFilesRead, IsFaultOfFile, IsFaultOfFiles}
 use Rattle.volume.proofs.common.Lookups.{viewed_more, all_of_map, all_both, all_each, all_push, all_to_map}
 use Rattle.volume.proofs.common.Lookups.{zip_behind, total-push, total-map, found_in_front}
@@ -23,8 +24,8 @@ pub no_files : (layout : ℕ) (contents : Contents) (ppn : ℕ) (marks : ℕ →
 no_files layout contents ppn marks = record { found = []; named = refl; whole = tt; known = tt; marked = λ n. omega arith }
 
 -- one file more
-pub more_files : (layout : ℕ) (contents : Contents) (ppn : ℕ) (entries : List FileEntry) (versions : List KnownVersion)
-    (marks before after : ℕ → ℕ) (e : FileEntry) (v : KnownVersion)
+pub more_files : (layout : ℕ) (contents : Contents) (ppn : ℕ) (entries : List SpecFileEntry) (versions : List CurrentVersion)
+    (marks before after : ℕ → ℕ) (e : SpecFileEntry) (v : CurrentVersion)
     → AreFilesRead layout contents ppn entries versions marks before
     → IsFileFound layout contents (place_of ppn e.0) e.1 v.prime v.version
     → ((n : ℕ) → after n ≡ before n + times n (e.1 ∷ (v.version.ribs ++ v.version.blocks)))
@@ -60,28 +61,28 @@ as_read ppn e = (
 )
 
 pub named_again : (ppn : ℕ) (found : List (FileName × StoredFile))
-    → map {B = FileEntry} (λ (x : FileName × ReadFile). (x.0, x.1.prime)) (map (as_read ppn) found)
+    → map {B = SpecFileEntry} (λ (x : FileName × ReadFile). (x.0, x.1.prime)) (map (as_read ppn) found)
     ≡ map (λ (x : FileName × StoredFile). (x.0, x.1.prime)) found
 named_again ppn [] = refl
-named_again ppn (x ∷ xs) = ap (λ (l : List FileEntry). (x.0, x.1.prime) ∷ l) (named_again ppn xs)
+named_again ppn (x ∷ xs) = ap (λ (l : List SpecFileEntry). (x.0, x.1.prime) ∷ l) (named_again ppn xs)
 
 -- the file's place and blocks are on the disk
 abbrev pub HasPlace : ℕ → Contents → ℕ → FileName × ReadFile → Type 0
 HasPlace layout contents ppn e = (e.1.p.place ≡ place_of ppn e.0)
     × IsRetrieved layout contents e.1.p e.1.prime e.1.extensions e.1.blocks
 
-pub all_read : (layout : ℕ) (contents : Contents) (ppn : ℕ) (all rest : List FileEntry) (files : List (FileName × ReadFile))
+pub all_read : (layout : ℕ) (contents : Contents) (ppn : ℕ) (all rest : List SpecFileEntry) (files : List (FileName × ReadFile))
     → all ≡ map (λ e. (e.0, e.1.prime)) files ++ rest → EachOnce name_cmp all
     → AllByRecursion (HasPlace layout contents ppn) files → AllByRecursion (IsFileRead layout contents ppn all) files
 all_read layout contents ppn all rest files is once placed =
-    let named : FileName × ReadFile → FileEntry = λ e. (e.0, e.1.prime) in
+    let named : FileName × ReadFile → SpecFileEntry = λ e. (e.0, e.1.prime) in
     all_both (λ e. find name_cmp e.0 all ≡ Some e.1.prime) (HasPlace layout contents ppn) (IsFileRead layout contents ppn all) files
     (λ e entry place. record { entry = entry; place_is = place.0; retrieved = place.1 })
-    (all_of_map (λ (e : FileEntry). find name_cmp e.0 all ≡ Some e.1) named files
+    (all_of_map (λ (e : SpecFileEntry). find name_cmp e.0 all ≡ Some e.1) named files
     (found_in_front name_total all (map named files) rest is once)) placed
 
 -- Files that were read, as a reader of faults sees them.
-pub files_read : (layout : ℕ) (contents : Contents) (ppn : ℕ) (entries : List FileEntry) (versions : List KnownVersion)
+pub files_read : (layout : ℕ) (contents : Contents) (ppn : ℕ) (entries : List SpecFileEntry) (versions : List CurrentVersion)
     (marks after : ℕ → ℕ) → EachOnce name_cmp entries → (read : AreFilesRead layout contents ppn entries versions marks after)
     → AllByRecursion (IsFileRead layout contents ppn entries) (map (as_read ppn) read.found)
 files_read layout contents ppn entries versions marks after once read =
@@ -91,15 +92,15 @@ files_read layout contents ppn entries versions marks after once read =
     (all_each (λ y. IsVersion layout contents (place_of ppn y.0) y.1) (λ y. HasPlace layout contents ppn (as_read ppn y)) read.found
     (λ y v. (refl, v.retrieved)) read.whole))
 
-pub files_once : (ppn : ℕ) (entries : List FileEntry) (found : List (FileName × StoredFile))
+pub files_once : (ppn : ℕ) (entries : List SpecFileEntry) (found : List (FileName × StoredFile))
     → map (λ e. (e.0, e.1.prime)) found ≡ entries → EachOnce name_cmp entries
     → EachOnce name_cmp (map (as_read ppn) found)
 files_once ppn entries found named once = EachOnce-from_map name_cmp (λ (f : ReadFile). f.prime)
     (map (as_read ppn) found) (subst (EachOnce name_cmp) (sym (named_again ppn found ∙ named)) once)
 
 -- The next file is at fault.
-pub file_fault : (size layout : ℕ) (contents : Contents) (ppn : ℕ) (all front rest : List FileEntry)
-    (versions : List KnownVersion) (marks : ℕ → ℕ) (e : FileEntry) (error : VolumeError) (reached : List Bool)
+pub file_fault : (size layout : ℕ) (contents : Contents) (ppn : ℕ) (all front rest : List SpecFileEntry)
+    (versions : List CurrentVersion) (marks : ℕ → ℕ) (e : SpecFileEntry) (error : VolumeError) (reached : List Bool)
     → all ≡ front ++ e ∷ rest → EachOnce name_cmp all
     → AreFilesRead layout contents ppn front versions marks (digit_at reached)
     → IsFaultOfFile size layout contents reached (place_of ppn e.0) e.1 error
@@ -110,11 +111,11 @@ file_fault size layout contents ppn all front rest versions marks e error reache
     entry = (all_last (found_in_front name_total all (front ++ e ∷ []) rest (is
         ∙ sym (append_assoc front (e ∷ []) rest)) once))
       where
-        all_last : AllByRecursion (λ (x : FileEntry). find name_cmp x.0 all ≡ Some x.1) (front ++ e ∷ [])
+        all_last : AllByRecursion (λ (x : SpecFileEntry). find name_cmp x.0 all ≡ Some x.1) (front ++ e ∷ [])
             → find name_cmp e.0 all ≡ Some e.1
         all_last a = last front a
           where
-            last : (xs : List FileEntry) → AllByRecursion (λ (x : FileEntry). find name_cmp x.0 all
+            last : (xs : List SpecFileEntry) → AllByRecursion (λ (x : SpecFileEntry). find name_cmp x.0 all
                 ≡ Some x.1) (xs ++ e ∷ []) → find name_cmp e.0 all ≡ Some e.1
             last [] b = b.0
             last (x ∷ xs) b = last xs b.1
@@ -135,11 +136,11 @@ file_fault size layout contents ppn all front rest versions marks e error reache
         ≡ front ++ e ∷ [] = map-append (λ (x : FileName × ReadFile). (x.0, x.1.prime)) (map (as_read ppn) read.found)
         (file ∷ []) ∙ (λ i. primes i ++ (e.0, met.prime_is i) ∷ []) in
         let whole : all ≡ map (λ (x : FileName × ReadFile). (x.0, x.1.prime)) files ++ rest = is
-        ∙ sym (append_assoc front (e ∷ []) rest) ∙ ap (λ (l : List FileEntry). l ++ rest) (sym names) in
+        ∙ sym (append_assoc front (e ∷ []) rest) ∙ ap (λ (l : List SpecFileEntry). l ++ rest) (sym names) in
         record {
           files = files;
           once = EachOnce-from_map name_cmp (λ (f : ReadFile). f.prime) files
-              (once_front name_cmp (map {B = FileEntry} (λ (x : FileName × ReadFile). (x.0, x.1.prime)) files) rest
+              (once_front name_cmp (map {B = SpecFileEntry} (λ (x : FileName × ReadFile). (x.0, x.1.prime)) files) rest
               (subst (EachOnce name_cmp) whole once));
           read = all_read layout contents ppn all rest files whole once
               (all_push (HasPlace layout contents ppn) (map (as_read ppn) read.found) file
@@ -162,8 +163,8 @@ file_fault size layout contents ppn all front rest versions marks e error reache
     by_error (BadData n) met = record { name = e.0; prime = e.1; entry = entry; bad = met }
 
 -- the next file was read
-pub files_go_on : {A E : Type 0} (view : A → KnownVersion) (layout : ℕ) (contents now : Contents) (ppn : ℕ) (named : E
-    → FileEntry) (es : List E) (i : ℕ) (e : E) (old new : List A) (marks before after : ℕ → ℕ)
+pub files_go_on : {A E : Type 0} (view : A → CurrentVersion) (layout : ℕ) (contents now : Contents) (ppn : ℕ) (named : E
+    → SpecFileEntry) (es : List E) (i : ℕ) (e : E) (old new : List A) (marks before after : ℕ → ℕ)
     → i < length es → e ≡ get_or es i e → now ≡ contents
     → AreFilesRead layout contents ppn (map named (take i es)) (map view old) marks before
     → IsAdded view old new (IsMarkedFile layout now ppn (named e) before after)
@@ -171,9 +172,9 @@ pub files_go_on : {A E : Type 0} (view : A → KnownVersion) (layout : ℕ) (con
 files_go_on view layout contents now ppn named es i e old new marks before after below is same read added =
     let f : IsMarkedFile layout contents ppn (named e) before after (view added.added) = subst
     (λ (c : Contents). IsMarkedFile layout c ppn (named e) before after (view added.added)) same added.is in
-    subst (λ (l : List FileEntry). AreFilesRead layout contents ppn l (map view new) marks after)
+    subst (λ (l : List SpecFileEntry). AreFilesRead layout contents ppn l (map view new) marks after)
     (sym (viewed_more named es i e below is))
-    (subst (λ (l : List KnownVersion). AreFilesRead layout contents ppn (map named (take i es) ++ named e ∷ []) l marks after)
+    (subst (λ (l : List CurrentVersion). AreFilesRead layout contents ppn (map named (take i es) ++ named e ∷ []) l marks after)
     (sym (ap (map view) added.pushed ∙ map-append view old (added.added ∷ [])))
     (more_files layout contents ppn (map named (take i es)) (map view old) marks before after (named e)
     (view added.added) read f.found f.marked))

@@ -7,7 +7,7 @@ use Rattle.std.specs.FinMap.{nat_cmp-IsAntisymmetric}
 use Rattle.std.specs.FinMap.Entries.{find}
 use Rattle.blockdisk.specs.Common.{Contents}
 use Rattle.spec_image.specs.Common.{EachOnce, times, total, from_entries, head_or_zero, IsHome, fixed, Node}
-use Rattle.spec_image.specs.Common.{MasterEntry, master_words, IsMasterEntry, numbers, items, first_of, file_words}
+use Rattle.spec_image.specs.Common.{SpecMasterEntry, master_words, IsMasterEntry, numbers, items, first_of, file_words}
 use Rattle.spec_image.specs.Common.{StoredDirectory, DiskMap, entry_of, reaches, reaches_in_directory, IsMapped}
 use Rattle.spec_image.specs.Common.{found_map, IsWrongTable}
 use Rattle.spec_image.proofs.Common.{head-numbers, some_same, EachOnce-from_map, mapped-from_entries}
@@ -15,15 +15,15 @@ use Rattle.spec_image.proofs.Common.{get-from_entries, map_mapped, map_reaches, 
 use Rattle.alloctab.specs.Common.{digit_at, digit, flag_at, TableState}
 use Rattle.directory.specs.Common.{ChainState, nodes_of, IsChain, IsOn, chain_read, chain_items, numbers_of}
 use Rattle.directory.specs.Common.{master_chain}
-use Rattle.volume.specs.Common.{home_in, KnownDirectory, IsKnownDirectory, IsKnownMap, IsHeld, IsOnlySpace}
+use Rattle.volume.specs.Common.{home_in, CurrentDirectory, AgreesOnDirectory, AgreesOnMap, MatchesMap, IsOnlySpace}
 use Rattle.volume.specs.Common.{IsMapFound, IsWrongFor, IsRightFor}
 use Rattle.volume.proofs.common.Lookups.{found_in_front}
 use Rattle.volume.proofs.VolumeStart.FoundDirectories.{zip_at, mapped_at, all_at}
 
-module _ (size : ℕ) (contents : Contents) (layout first : ℕ) (master : ChainState MasterEntry)
-    (directories : List KnownDirectory) (marks : ℕ
+module _ (size : ℕ) (contents : Contents) (layout first : ℕ) (master : ChainState SpecMasterEntry)
+    (directories : List CurrentDirectory) (marks : ℕ
     → ℕ) (r : IsMapFound size contents layout first master directories marks) where
-  nodes : List (Node MasterEntry)
+  nodes : List (Node SpecMasterEntry)
   nodes = nodes_of master.blocks master.entries
 
   abbrev pub map_found : DiskMap
@@ -56,23 +56,23 @@ module _ (size : ℕ) (contents : Contents) (layout first : ℕ) (master : Chain
       (chain_read master_words IsMasterEntry contents master is_chain r.on) named r.read.whole
 
   known : (table : TableState)
-      → IsKnownMap (record { master = master; directories = directories; table = table }) map_found
+      → AgreesOnMap (record { master = master; directories = directories; table = table }) map_found
   known table = record {
     chain = numbers_of master.blocks master.entries;
     names = mapped-from_entries nat_cmp_total nat_cmp-IsAntisymmetric entry_of r.read.found
         ∙ ap from_entries r.read.named;
     each = λ i e d at directory.
-        let z = zip_at (λ (x : ℕ × StoredDirectory) (k : KnownDirectory). IsKnownDirectory k x.1) r.read.found
+        let z = zip_at (λ (x : ℕ × StoredDirectory) (k : CurrentDirectory). AgreesOnDirectory k x.1) r.read.found
         directories i d r.read.known directory in
         let named_at : (z.0.0, entry_of z.0.1)
         ≡ e = some_same (sym (mapped_at (λ (x : ℕ × StoredDirectory). (x.0, entry_of x.1)) r.read.found i z.0 z.1)
-        ∙ ap (λ (l : List MasterEntry). slice_get l i) r.read.named ∙ at) in
+        ∙ ap (λ (l : List SpecMasterEntry). slice_get l i) r.read.named ∙ at) in
         let there : find nat_cmp z.0.0 r.read.found
         ≡ Some z.0.1 = all_at (λ (x : ℕ × StoredDirectory). find nat_cmp x.0 r.read.found ≡ Some x.1) r.read.found i z.0
         (found_in_front nat_cmp_total r.read.found r.read.found [] (sym (append-nil r.read.found)) once) z.1 in (
           z.0.1,
           get-from_entries nat_cmp_total r.read.found e.0
-              ∙ ap (λ (q : MasterEntry). find nat_cmp q.0 r.read.found) (sym named_at) ∙ there,
+              ∙ ap (λ (q : SpecMasterEntry). find nat_cmp q.0 r.read.found) (sym named_at) ∙ there,
           z.2,
         );
   }
@@ -80,7 +80,7 @@ module _ (size : ℕ) (contents : Contents) (layout first : ℕ) (master : Chain
   -- With a table that agrees the contents have the map.
   pub map_held : (reached_marks : List Bool) (table : TableState) → ((n : ℕ) → digit_at reached_marks n ≡ marks n)
       → IsOnlySpace size reached_marks → IsRightFor size contents reached_marks table
-      → IsHeld size (record { master = master; directories = directories; table = table }) map_found contents
+      → MatchesMap size (record { master = master; directories = directories; table = table }) map_found contents
   map_held reached_marks table same only right = record {
     known = known table;
     stands = map_stands size layout contents (nodes_of master.blocks master.entries) r.read.found r.volume home
@@ -89,7 +89,7 @@ module _ (size : ℕ) (contents : Contents) (layout first : ℕ) (master : Chain
         (λ n past. outside n past)
         (λ n. sym (right.read.bits_are n) ∙ right.right n ∙ ap (λ (k : ℕ). fixed size n + k) (same n ∙ counted n));
     master = r.on;
-    chains = λ i d at. all_at (λ (k : KnownDirectory). IsOn file_words contents k.chain) directories i d r.read.on at;
+    chains = λ i d at. all_at (λ (k : CurrentDirectory). IsOn file_words contents k.chain) directories i d r.read.on at;
     bits = λ n. sym (right.read.bits_are n);
   }
     where

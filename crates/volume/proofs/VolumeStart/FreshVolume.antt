@@ -13,7 +13,7 @@ use Rattle.spec_image.specs.declared.layout.Layout.{Layout}
 use Rattle.spec_image.proofs.Common.{some_same, map_stands, below_or_not}
 use Rattle.alloctab.specs.Common.{table_words}
 use Rattle.alloctab.proofs.WordLaws.{table_words_spell}
-use Rattle.alloctab.proofs.TableReading.{table_bit_at, table_bit_past}
+use Rattle.alloctab.proofs.TableBlocks.{table_bit_at, table_bit_past}
 use Rattle.volume.specs.Common.{IsInitBlock, IsBare, bare_map, fresh_bit, fresh_words, zero_words}
 use Rattle.volume.proofs.VolumeStart.HomeCopies.{is_allowed}
 use Rattle.volume.proofs.VolumeStart.FreshTable.{bit_below_few, fresh_bit_past, fresh_bit_is}
@@ -40,7 +40,7 @@ volume_modified s s' s'' start end at until first second =
     (modifies_wider (λ n. (start ≤ n) × (n < end)) (IsInitBlock s.size) s' s'' (λ n is. let low = is.0 in
     let high = is.1 in inr (omega arith, omega arith)) second)
 
--- What it holds.
+-- What it has.
 
 module _ (layout : Layout) (size : ℕ) (c : Contents) (volume : IsVolumeSize size)
     (bare : IsBare (layout_number layout) size c) where

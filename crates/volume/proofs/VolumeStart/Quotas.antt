@@ -41,7 +41,7 @@ pub plain_entries : (es : List MasterEntry) → AllByRecursion HasNoQuota es
 plain_entries [] none all = tt
 plain_entries (e ∷ es) none all = (plain_entry e none.0 all.0, plain_entries es none.1 all.1)
 
--- one with a quota is none
+-- one with a quota isn't an entry of layout 1
 quota_misfits : (e : MasterEntry) → 0 < e.quota → IsMasterEntryOf 1 (master_view e) → ⊥
 quota_misfits e some good =
     let word = good.word in
@@ -49,13 +49,13 @@ quota_misfits e some good =
     let small = e.quota_fits in
     omega arith
 
-all_wider : (layout : Layout) (es : List words.MasterEntry) → AllByRecursion (IsMasterEntryOf (layout_number layout)) es
+all_wider : (layout : Layout) (es : List words.SpecMasterEntry) → AllByRecursion (IsMasterEntryOf (layout_number layout)) es
     → AllByRecursion (IsMasterEntryOf 2) es
 all_wider layout [] all = tt
 all_wider layout (e ∷ es) all = (wide_entry (layout_number layout) e all.0, all_wider layout es all.1)
 
--- A block that is at fault where entries may have quotas is at fault in each layout.
-pub fault_carries : (layout : Layout) (size : ℕ) (contents : Contents) (before : List (Node words.MasterEntry)) (n : ℕ)
+-- A block with a fault if entries may have quotas has a fault in each layout.
+pub fault_carries : (layout : Layout) (size : ℕ) (contents : Contents) (before : List (Node words.SpecMasterEntry)) (n : ℕ)
     → IsBadBlock nat_cmp master_words (IsMasterEntryOf 2) (λ e. e.1.1) size contents before n
     → IsBadBlock nat_cmp master_words (IsMasterEntryOf (layout_number layout)) (λ e. e.1.1) size contents before n
 fault_carries layout size contents before n (malformed none) = malformed
@@ -107,7 +107,7 @@ all_at P [] i d below all = absurd (omega arith)
 all_at P (e ∷ es) zero d below all = all.0
 all_at P (e ∷ es) (suc i) d below all = all_at P es i d (omega arith) all.1
 
--- The entry at place i stands among those of block i / 42.
+-- The entry at place i is among those of block i / 42.
 in_its_block : {E : Type 0} (P : E → Type 0) (es : List E) (i : ℕ) (d : E) → i < length es
     → AllByRecursion P (take 42 (drop (42 * (i / 42)) es)) → P (get_or es i d)
 in_its_block P es i d below all =

@@ -10,7 +10,7 @@ use Rattle.std.proofs.lemmas.List.Sorted.{Contains-permutation, IsPermutation-ma
 use Rattle.std.proofs.lemmas.List.Sorted.{length_permutation}
 use Rattle.words36.specs.declared.names.FileName.{FileName}
 use Rattle.blockdisk.specs.Common.{Contents}
-use Rattle.spec_image.specs.Common.{EachOnce, times, total, name_cmp, FileEntry, StoredFile, place_of}
+use Rattle.spec_image.specs.Common.{EachOnce, times, total, name_cmp, SpecFileEntry, StoredFile, place_of}
 use Rattle.spec_image.specs.Common.{reaches_in_file, IsVersion, IsFileRead}
 use Rattle.spec_image.proofs.Common.{some_same, contains-found, find-contains, name_exact, name_total, same_head}
 use Rattle.spec_image.proofs.Common.{same_tail}
@@ -19,10 +19,10 @@ use Rattle.volume.specs.declared.error.VolumeError.{VolumeError}
 use Rattle.volume.specs.declared.error.VolumeError.TheVariants.{NotVolume, BadHome, BadLog, BadDirectory}
 use Rattle.volume.specs.declared.error.VolumeError.TheVariants.{BadRetrieval, BlockTwice, TableWrong, Device}
 use Rattle.volume.specs.declared.error.VolumeError.TheVariants.{NoMemory, Failed, BadData}
-use Rattle.volume.specs.declared.files.StoredVersion.{StoredVersion}
+use Rattle.volume.specs.declared.read_file.LoadedVersion.{LoadedVersion}
 use Rattle.volume.specs.declared.turns.PlacedVersion.{PlacedVersion}
 use Rattle.volume.specs.declared.turns.Turn.{Turn}
-use Rattle.volume.specs.Common.{KnownVersion, blocks_reached, reaches_in_entries, IsKnownVersion, AreFilesRead}
+use Rattle.volume.specs.Common.{CurrentVersion, blocks_reached, reaches_in_entries, IsKnownVersion, AreFilesRead}
 use Rattle.volume.specs.Common.{IsFaultOfFiles, file_view, known_version, turn_view, placed_known, numbered_entry}
 use Rattle.volume.specs.Common.{numbered_version}
 use Rattle.volume.proofs.common.Lookups.{all_each, all_of_map, viewed_more}
@@ -63,14 +63,14 @@ pub none_left : {A B : Type 0} (f : A → B) (new all : List B) (rest : List A) 
 none_left f new all [] none is = sym (append-nil new) ∙ is
 none_left f new all (x ∷ rest) none is = absurd (omega arith)
 
--- versions that stand by their places
-pub placed_in_order : (placed sorted : List PlacedVersion) (vs : List StoredVersion)
+-- versions in the order of their places
+pub placed_in_order : (placed sorted : List PlacedVersion) (vs : List LoadedVersion)
     → IsPermutation (range_with_len 0 (length placed)) (map (λ p. p.place) placed) → IsPermutation placed sorted
     → IsNonDecreasingBy (λ (p : PlacedVersion). p.place) sorted → vs ≡ map (λ p. p.stored) sorted
     → IsPermutation (map numbered_version placed) (enumerate_from 0 vs)
 placed_in_order placed sorted vs places moved rising are =
     let place : PlacedVersion → ℕ = λ p. p.place in
-    let stored : PlacedVersion → StoredVersion = λ p. p.stored in
+    let stored : PlacedVersion → LoadedVersion = λ p. p.stored in
     let long : length placed ≡ length sorted = sym (length_permutation placed sorted moved) in
     let ranged : map place sorted ≡ range_with_len 0 (length sorted) = rising_range place 0 (length sorted) sorted rising
     (λ k. times_moved (map place placed) (map place sorted) (IsPermutation-map place placed sorted moved) k
@@ -81,7 +81,7 @@ placed_in_order placed sorted vs places moved rising are =
     (IsPermutation-map numbered_version placed sorted moved))
 
 -- A fault of files that are read in another order.
-module _ (size layout : ℕ) (contents : Contents) (marks : ℕ → ℕ) (ppn : ℕ) (es fs : List FileEntry)
+module _ (size layout : ℕ) (contents : Contents) (marks : ℕ → ℕ) (ppn : ℕ) (es fs : List SpecFileEntry)
     (moved : IsPermutation es fs) (once : EachOnce name_cmp es) where
   found_moved : (name : FileName) (prime : ℕ) → find name_cmp name fs ≡ Some prime → find name_cmp name es ≡ Some prime
   found_moved name prime found = find-contains name_total es name prime once
@@ -122,27 +122,27 @@ module _ (size layout : ℕ) (contents : Contents) (marks : ℕ → ℕ) (ppn : 
     bad = met.bad;
   }
 
--- Versions that were read in turns, and the same in the order of their entries. The turns are the entries beside their
--- places, in any order, and each version that was read stands beside the place of its entry.
-module _ (es : List FileEntry) (turns : List (ℕ × FileEntry)) (read : List (ℕ × KnownVersion)) (vs : List KnownVersion)
+-- Versions that were read in turns, and the same in the order of their entries. The turns are the entries with their
+-- places, in any order, and each version that was read is with the place of its entry.
+module _ (es : List SpecFileEntry) (turns : List (ℕ × SpecFileEntry)) (read : List (ℕ × CurrentVersion)) (vs : List CurrentVersion)
     (all_turns : IsPermutation (enumerate_from 0 es) turns) (placed : map (λ q. q.0) read ≡ map (λ t. t.0) turns)
     (ordered : IsPermutation read (enumerate_from 0 vs)) (aligned : length vs ≡ length es) where
   from_zero : (i : ℕ) → 0 + i ≡ i
   from_zero i = omega arith
 
-  prime_of_entry : Option FileEntry → ℕ
+  prime_of_entry : Option SpecFileEntry → ℕ
   prime_of_entry None = 0
   prime_of_entry (Some e) = e.1
 
   -- how often the version at a place reaches a block
-  reaches_at : ℕ → ℕ × KnownVersion → ℕ
+  reaches_at : ℕ → ℕ × CurrentVersion → ℕ
   reaches_at n q = times n (blocks_reached (prime_of_entry (slice_get es q.0)) q.1.version)
 
   turns_at_place : AllByRecursion (λ t. slice_get es t.0 ≡ Some t.1) turns
   turns_at_place = all_moved (enumerate_from 0 es) turns all_turns (λ t. slice_get es t.0 ≡ Some t.1)
       (all_at_place es es 0 (λ i. ap (slice_get es) (from_zero i)))
 
-  reached_in_turns : (n : ℕ) (ts : List (ℕ × FileEntry)) (qs : List (ℕ × KnownVersion))
+  reached_in_turns : (n : ℕ) (ts : List (ℕ × SpecFileEntry)) (qs : List (ℕ × CurrentVersion))
       → AllByRecursion (λ t. slice_get es t.0 ≡ Some t.1) ts → map (λ q. q.0) qs ≡ map (λ t. t.0) ts
       → reaches_in_entries n (map (λ t. t.1) ts) (map (λ q. q.1) qs) ≡ total (reaches_at n) qs
   unfolding reaches_at prime_of_entry
@@ -155,7 +155,7 @@ module _ (es : List FileEntry) (turns : List (ℕ × FileEntry)) (read : List (�
       let rest = reached_in_turns n ts qs at.1 (same_tail same) in
       omega arith
 
-  reached_in_order : (n : ℕ) (fs : List FileEntry) (ws : List KnownVersion) (k : ℕ)
+  reached_in_order : (n : ℕ) (fs : List SpecFileEntry) (ws : List CurrentVersion) (k : ℕ)
       → ((i : ℕ) → slice_get es (k + i) ≡ slice_get fs i) → length ws ≡ length fs
       → total (reaches_at n) (enumerate_from k ws) ≡ reaches_in_entries n fs ws
   unfolding reaches_at prime_of_entry
@@ -177,18 +177,18 @@ module _ (es : List FileEntry) (turns : List (ℕ × FileEntry)) (read : List (�
       ∙ reached_in_order n es vs 0 (λ i. ap (slice_get es) (from_zero i)) aligned
 
   -- what holds of each version that was read
-  pub versions_alike : (P : KnownVersion → Type 0) → AllByRecursion (λ q. P q.1) read → AllByRecursion P vs
+  pub versions_alike : (P : CurrentVersion → Type 0) → AllByRecursion (λ q. P q.1) read → AllByRecursion P vs
   versions_alike P all = all_enumerated P vs 0 (all_moved read (enumerate_from 0 vs) ordered (λ q. P q.1) all)
 
   module _ (layout : ℕ) (contents : Contents) (ppn : ℕ) where
     -- a file was found at a place, with this version
-    record IsFoundAt (fs : List FileEntry) (place : ℕ) (v : KnownVersion) : Type 0 where
+    record IsFoundAt (fs : List SpecFileEntry) (place : ℕ) (v : CurrentVersion) : Type 0 where
       pub file : FileName × StoredFile
       pub entry : slice_get fs place ≡ Some (file.0, file.1.prime)
       pub whole : IsVersion layout contents (place_of ppn file.0) file.1
       pub known : IsKnownVersion file v
 
-    found_in_turns : (ts : List (ℕ × FileEntry)) (qs : List (ℕ × KnownVersion)) (found : List (FileName × StoredFile))
+    found_in_turns : (ts : List (ℕ × SpecFileEntry)) (qs : List (ℕ × CurrentVersion)) (found : List (FileName × StoredFile))
         → AllByRecursion (λ t. slice_get es t.0 ≡ Some t.1) ts → map (λ q. q.0) qs ≡ map (λ t. t.0) ts
         → map (λ e. (e.0, e.1.prime)) found ≡ map (λ t. t.1) ts
         → AllByRecursion (λ e. IsVersion layout contents (place_of ppn e.0) e.1) found
@@ -199,7 +199,7 @@ module _ (es : List FileEntry) (turns : List (ℕ × FileEntry)) (read : List (�
     found_in_turns (t ∷ ts) (q ∷ qs) (x ∷ xs) at same named whole known = (
       record {
         file = x;
-        entry = ap (slice_get es) (same_head same) ∙ at.0 ∙ ap (λ (e : FileEntry). Some e) (sym (same_head named));
+        entry = ap (slice_get es) (same_head same) ∙ at.0 ∙ ap (λ (e : SpecFileEntry). Some e) (sym (same_head named));
         whole = whole.0;
         known = known.0;
       },
@@ -207,15 +207,15 @@ module _ (es : List FileEntry) (turns : List (ℕ × FileEntry)) (read : List (�
     )
 
     -- the files of entries, one for each, in their order
-    record AreFoundInOrder (fs : List FileEntry) (ws : List KnownVersion) : Type 0 where
+    record AreFoundInOrder (fs : List SpecFileEntry) (ws : List CurrentVersion) : Type 0 where
       pub found : List (FileName × StoredFile)
       pub named : map (λ e. (e.0, e.1.prime)) found ≡ fs
       pub whole : AllByRecursion (λ e. IsVersion layout contents (place_of ppn e.0) e.1) found
       pub known : AllZip IsKnownVersion found ws
       pub reached : (n : ℕ) → total (λ e. reaches_in_file n e.1) found ≡ reaches_in_entries n fs ws
 
-    found_in_order : (fs : List FileEntry) (ws : List KnownVersion) → length ws ≡ length fs
-        → ((i : ℕ) (w : KnownVersion) → slice_get ws i ≡ Some w → IsFoundAt fs i w) → AreFoundInOrder fs ws
+    found_in_order : (fs : List SpecFileEntry) (ws : List CurrentVersion) → length ws ≡ length fs
+        → ((i : ℕ) (w : CurrentVersion) → slice_get ws i ≡ Some w → IsFoundAt fs i w) → AreFoundInOrder fs ws
     found_in_order [] [] same each = record { found = []; named = refl; whole = tt; known = tt; reached = λ n. refl }
     found_in_order [] (w ∷ ws) same each = absurd (omega arith)
     found_in_order (f ∷ fs) [] same each = absurd (omega arith)
@@ -237,7 +237,7 @@ module _ (es : List FileEntry) (turns : List (ℕ × FileEntry)) (read : List (�
               let facts = here.known in
               let blocks : reaches_in_file n here.file.1
               ≡ times n (blocks_reached here.file.1.prime w.version) = ap (λ k. times n (k.prime ∷ (k.ribs ++ k.blocks))) facts in
-              let prime = ap (λ (e : FileEntry). times n (blocks_reached e.1 w.version)) first in
+              let prime = ap (λ (e : SpecFileEntry). times n (blocks_reached e.1 w.version)) first in
               let more = rest.reached n in
               omega arith;
         }
@@ -265,15 +265,15 @@ module _ (entries : List EntryValue) (turns : List Turn)
     (all : IsPermutation (enumerate_from 0 entries) (map numbered_entry turns)) where
   turns_viewed : IsPermutation (enumerate_from 0 (map file_view entries)) (map (λ t. (t.place, turn_view t)) turns)
   turns_viewed =
-      let see : ℕ × EntryValue → ℕ × FileEntry = λ p. (p.0, file_view p.1) in
+      let see : ℕ × EntryValue → ℕ × SpecFileEntry = λ p. (p.0, file_view p.1) in
       subst (λ l. IsPermutation l (map (λ t. (t.place, turn_view t)) turns)) (enumerated_map file_view entries 0)
       (subst (IsPermutation (map see (enumerate_from 0 entries))) (map_twice see numbered_entry turns)
       (IsPermutation-map see (enumerate_from 0 entries) (map numbered_entry turns) all))
 
   pub entries_moved : IsPermutation (map file_view entries) (map turn_view turns)
   entries_moved =
-      let second : ℕ × FileEntry → FileEntry = λ q. q.1 in
-      let viewed : Turn → ℕ × FileEntry = λ t. (t.place, turn_view t) in
+      let second : ℕ × SpecFileEntry → SpecFileEntry = λ q. q.1 in
+      let viewed : Turn → ℕ × SpecFileEntry = λ t. (t.place, turn_view t) in
       subst (λ l. IsPermutation l (map turn_view turns)) (enumerated_elements (map file_view entries) 0)
       (subst (IsPermutation (map second (enumerate_from 0 (map file_view entries)))) (map_twice second viewed turns)
       (IsPermutation-map second (enumerate_from 0 (map file_view entries)) (map viewed turns) turns_viewed))
@@ -298,7 +298,7 @@ module _ (entries : List EntryValue) (turns : List Turn)
     places_read = subst (IsPermutation (range_with_len 0 (length read))) (sym placed)
         (subst (λ n. IsPermutation (range_with_len 0 n) (map (λ t. t.place) turns)) (sym as_many_read) places_moved)
 
-    module _ (versions : List StoredVersion)
+    module _ (versions : List LoadedVersion)
         (ordered : IsPermutation (map numbered_version read) (enumerate_from 0 versions)) where
       pub as_many_versions : length versions ≡ length entries
       as_many_versions = sym (length-enumerate_from 0 versions)
@@ -310,20 +310,20 @@ module _ (entries : List EntryValue) (turns : List Turn)
 
       versions_viewed : IsPermutation (map (λ p. (p.place, placed_known p)) read) (enumerate_from 0 (map known_version versions))
       versions_viewed =
-          let see : ℕ × StoredVersion → ℕ × KnownVersion = λ p. (p.0, known_version p.1) in
+          let see : ℕ × LoadedVersion → ℕ × CurrentVersion = λ p. (p.0, known_version p.1) in
           subst (IsPermutation (map (λ p. (p.place, placed_known p)) read)) (enumerated_map known_version versions 0)
           (subst (λ l. IsPermutation l (map see (enumerate_from 0 versions))) (map_twice see numbered_version read)
           (IsPermutation-map see (map numbered_version read) (enumerate_from 0 versions) ordered))
 
-      placed_viewed : map {A = ℕ × KnownVersion} (λ q. q.0) (map (λ p. (p.place, placed_known p)) read)
-          ≡ map {A = ℕ × FileEntry} (λ t. t.0) (map (λ t. (t.place, turn_view t)) turns)
+      placed_viewed : map {A = ℕ × CurrentVersion} (λ q. q.0) (map (λ p. (p.place, placed_known p)) read)
+          ≡ map {A = ℕ × SpecFileEntry} (λ t. t.0) (map (λ t. (t.place, turn_view t)) turns)
       placed_viewed = map_twice (λ q. q.0) (λ p. (p.place, placed_known p)) read ∙ placed
           ∙ sym (map_twice (λ t. t.0) (λ t. (t.place, turn_view t)) turns)
 
-      seen_turns : map {A = ℕ × FileEntry} (λ t. t.1) (map (λ t. (t.place, turn_view t)) turns) ≡ map turn_view turns
+      seen_turns : map {A = ℕ × SpecFileEntry} (λ t. t.1) (map (λ t. (t.place, turn_view t)) turns) ≡ map turn_view turns
       seen_turns = map_twice (λ t. t.1) (λ t. (t.place, turn_view t)) turns
 
-      seen_versions : map {A = ℕ × KnownVersion} (λ q. q.1) (map (λ p. (p.place, placed_known p)) read) ≡ map placed_known read
+      seen_versions : map {A = ℕ × CurrentVersion} (λ q. q.1) (map (λ p. (p.place, placed_known p)) read) ≡ map placed_known read
       seen_versions = map_twice (λ q. q.1) (λ p. (p.place, placed_known p)) read
 
       pub reached_the_same : (n : ℕ) → reaches_in_entries n (map turn_view turns) (map placed_known read)
@@ -333,7 +333,7 @@ module _ (entries : List EntryValue) (turns : List Turn)
           (map (λ p. (p.place, placed_known p)) read) (map known_version versions) turns_viewed placed_viewed
           versions_viewed aligned n
 
-      pub whole_the_same : (P : KnownVersion → Type 0) → AllByRecursion P (map placed_known read)
+      pub whole_the_same : (P : CurrentVersion → Type 0) → AllByRecursion P (map placed_known read)
           → AllByRecursion P (map known_version versions)
       whole_the_same P whole =
           versions_alike (map file_view entries) (map (λ t. (t.place, turn_view t)) turns)
@@ -350,7 +350,7 @@ module _ (entries : List EntryValue) (turns : List Turn)
           (map (λ p. (p.place, placed_known p)) read) (map known_version versions) turns_viewed placed_viewed
           versions_viewed aligned layout contents ppn marks after
           (subst (λ vs. AreFilesRead layout contents ppn
-          (map {A = ℕ × FileEntry} (λ t. t.1) (map (λ t. (t.place, turn_view t)) turns)) vs marks
+          (map {A = ℕ × SpecFileEntry} (λ t. t.1) (map (λ t. (t.place, turn_view t)) turns)) vs marks
           after) (sym seen_versions)
           (subst (λ es. AreFilesRead layout contents ppn es (map placed_known read) marks after) (sym seen_turns) were))
           marked

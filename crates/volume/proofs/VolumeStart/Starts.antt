@@ -15,7 +15,7 @@ use Rattle.volume.specs.declared.error.VolumeError.{VolumeError}
 use Rattle.volume.specs.declared.error.VolumeError.TheVariants.{NotVolume, BadHome, BadLog, BadDirectory}
 use Rattle.volume.specs.declared.error.VolumeError.TheVariants.{BadRetrieval, BlockTwice, TableWrong, Device}
 use Rattle.volume.specs.declared.error.VolumeError.TheVariants.{NoMemory, Failed, BadData}
-use Rattle.volume.specs.Common.{Known, IsHeld, SettledRefuses, Refuses, IsAtRest, RestsAt, StandsLike}
+use Rattle.volume.specs.Common.{CurrentMap, MatchesMap, SettledRefuses, Refuses, IsAtRest, RestsAt, StandsLike}
 use Rattle.volume.specs.Common.{StandsLikeBefore}
 use Rattle.volume.proofs.common.Packs.{pack_rests, rests_in}
 use Rattle.spec_image.specs.Faults as faults
@@ -31,7 +31,7 @@ pub ok_always : {T E : Type 0} (P : Type 0) (result : Result T E) → P → IfOk
 ok_always P (Ok x) is = is
 ok_always P (Err e) is = tt
 
--- Gate and log are no part of what stands.
+-- Gate and log are no part of what stands for files.
 
 pub stands_ignores_log : (pack : Pack) (files : Files File)
     → Ignores (IsGateOrLog pack.blocks) (λ c. SettledStandsOn pack c files)
@@ -62,7 +62,7 @@ settles_stands s c like layout files stands =
     like_settles s.size (λ d. SettledStandsOn (pack_in layout s.size) d files) s.contents c
     (stands_ignores_log (pack_in layout s.size) files) like stands
 
--- what recovery answered, and what is answered for it
+-- what recovery returned, and what is returned for it
 pub synced_recovered : {D : Type 0} (state : D → DiskState) (old new : D) (fault fault' : Type 0) → (fault → fault')
     → SyncsFirst state old new fault (SettlesLike (state old).size (state old).contents)
     → SyncsFirst state old new fault' (StandsLike (state old))
@@ -75,7 +75,7 @@ synced_recovered {D} state old new fault fault' on first = ⊎_elim
           (StandsLike (state old)) from.2 (settles_stands (state old)),
     )) first
 
--- Reading behind it.
+-- The reading after it.
 
 pub crash_read : (s s' s'' : DiskState) (P : Contents → Type 0) → LeavesOnly s s' P
     → ((c : Contents) → s'.left_since s'.clock c → MayLeave s' c) → OnlyReads s' s'' → LeavesOnly s s'' P
@@ -90,7 +90,7 @@ synced_read {D} state old mid new fault fault' P none only_now reads first = ⊎
     (λ failed. absurd (none failed.0))
     (λ from. inr (from.0, from.1, crash_read (state from.0) (state mid) (state new) P from.2 only_now reads)) first
 
--- The same of what is answered in another form.
+-- The same for what is returned in another form.
 pub synced_as : {D : Type 0} (state : D → DiskState) (old new : D) (fault fault' : Type 0) (P : Contents → Type 0)
     → (fault → fault') → SyncsFirst state old new fault P → SyncsFirst state old new fault' P
 synced_as {D} state old new fault fault' P on first = ⊎_elim (λ failed. inl (on failed.0, failed.1))
@@ -103,17 +103,17 @@ rest_read s s' Q size reads rest = record {
   all = λ c left. rest.all c (reads.still.crash c left);
 }
 
--- What the contents are known to hold is what all that a crash may leave holds.
-pub rest_known : (s s' s'' : DiskState) (known : Known) (m : DiskMap) → s'.size ≡ s.size → s''.size ≡ s'.size
-    → IsRecovered s.size s.contents s'.contents → NoneOpen s' → OnlyReads s' s'' → IsHeld s'.size known m s'.contents
+-- What is known of the contents holds for all that a crash may leave.
+pub rest_known : (s s' s'' : DiskState) (known : CurrentMap) (m : DiskMap) → s'.size ≡ s.size → s''.size ≡ s'.size
+    → IsRecovered s.size s.contents s'.contents → NoneOpen s' → OnlyReads s' s'' → MatchesMap s'.size known m s'.contents
     → IsAtRest s'' known
 rest_known s s' s'' known m size size' recovered none reads held = record {
   map = m;
-  rest = rest_read s' s'' (IsHeld s''.size known m) size' reads (record {
+  rest = rest_read s' s'' (MatchesMap s''.size known m) size' reads (record {
     shut = λ c left is_open. recovered.gate (subst (IsGateOpen s.size) (none_open_leaves s' none c left)
         (subst (λ (n : ℕ). IsGateOpen n c) size is_open));
-    all = λ c left. subst (IsHeld s''.size known m) (sym (none_open_leaves s' none c left))
-        (subst (λ (n : ℕ). IsHeld n known m s'.contents) (sym size') held);
+    all = λ c left. subst (MatchesMap s''.size known m) (sym (none_open_leaves s' none c left))
+        (subst (λ (n : ℕ). MatchesMap n known m s'.contents) (sym size') held);
   });
 }
 
@@ -142,8 +142,8 @@ rest_files s s' s'' files size size' recovered none reads stands =
     (stands.0, stands.1, (stands.2.0, stands.2.1, stands.2.2, refl))).1
 
 -- They stood for some files before the recovery, since what was recovered is what settled.
-pub stood_before : (s s' s'' : DiskState) (known : Known) (m : DiskMap) → s'.size ≡ s.size → s''.size ≡ s'.size
-    → IsRecovered s.size s.contents s'.contents → NoneOpen s' → OnlyReads s' s'' → IsHeld s'.size known m s'.contents
+pub stood_before : (s s' s'' : DiskState) (known : CurrentMap) (m : DiskMap) → s'.size ≡ s.size → s''.size ≡ s'.size
+    → IsRecovered s.size s.contents s'.contents → NoneOpen s' → OnlyReads s' s'' → MatchesMap s'.size known m s'.contents
     → (files : Files File) × StandsOn (pack_of s'') s.contents files × RestsAt s'' files
 stood_before s s' s'' known m size size' recovered none reads held =
     let pack = pack_in m.layout s.size in
@@ -188,7 +188,7 @@ lists_apart (x ∷ xs) [] = inr (λ e. cc)
 lists_apart (x ∷ xs) (y ∷ ys) = ⊎_elim (λ heads. ⊎_elim (λ tails. inl (λ i. heads i ∷ tails i))
     (λ other. inr (λ e. other (cc))) (lists_apart xs ys)) (λ other. inr (λ e. other (cc))) (cases_eq x y)
 
--- Where nothing settles, the gate is open.
+-- If nothing settles, the gate is open.
 lost_gate : (size : ℕ) (contents : Contents) → IsLost size contents → contents 3 ≡ Some open_gate
 lost_gate size contents lost = by_block (contents 3) refl
   where

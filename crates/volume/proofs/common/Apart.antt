@@ -1,21 +1,21 @@
--- What a version that is being written shares with others, where they change and it doesn't.
+-- What a version that is being written shares with others, if they change and it doesn't.
 use Rattle.std.proofs.Common.{◌≡◌, ℕ, ◌<◌, List, Some, sym, ap, subst, ◌∙◌}
 use Rattle.spec_image.specs.Common.{times}
 use Rattle.words36.specs.declared.names.FileName.{FileName}
 use Rattle.alloctab.specs.Common.{bit}
-use Rattle.volume.specs.Common.{prime_in, VolumeCore, pending_at, IsApart, IsCurrentAt}
+use Rattle.volume.specs.Common.{prime_in, MemoryMap, pending_at, IsApart, IsCurrentAt}
 use Rattle.volume.specs.declared.live.LiveVersion.{LiveVersion}
 use Rattle.volume.specs.declared.pending.PendingVersion.{PendingVersion}
-use Rattle.volume.proofs.common.Keeping.{StayCurrent, all_stay}
+use Rattle.volume.proofs.common.VersionKeys.{StayCurrent, all_stay}
 
 -- No block of it comes to be set, the file of its place has the same blocks, and no other version begins.
-pub record KeepsApart (c c' : VolumeCore) (p : PendingVersion) : Type 0 where
+pub record KeepsApart (c c' : MemoryMap) (p : PendingVersion) : Type 0 where
   pub bits : (n : ℕ) → 0 < times n p.version.blocks → 0 < bit c'.known.table n → 0 < bit c.known.table n
   pub file : (v : LiveVersion) → IsCurrentAt c p.prime.ppn p.prime.file v
       → (w : LiveVersion) × IsCurrentAt c' p.prime.ppn p.prime.file w × (w.version.blocks ≡ v.version.blocks)
   pub fewer : (key : ℕ) (q : PendingVersion) → pending_at c'.pending key ≡ Some q → pending_at c.pending key ≡ Some q
 
-pub apart_stays : (c c' : VolumeCore) (p : PendingVersion) → IsApart c p → KeepsApart c c' p → IsApart c' p
+pub apart_stays : (c c' : MemoryMap) (p : PendingVersion) → IsApart c p → KeepsApart c c' p → IsApart c' p
 apart_stays c c' p is keeps = record {
   once = is.once;
   shared = λ n there set.
@@ -25,8 +25,8 @@ apart_stays c c' p is keeps = record {
   places = λ key q at n mine its. is.places key q (keeps.fewer key q at) n mine its;
 }
 
--- The file of a place has the same blocks where the versions that are current stay, and its entry does.
-pub current_stays : (c c' : VolumeCore) (ppn : ℕ) (name : FileName) → StayCurrent c.live c'.live
+-- The file of a place has the same blocks if the versions that are current stay, and its entry does.
+pub current_stays : (c c' : MemoryMap) (ppn : ℕ) (name : FileName) → StayCurrent c.live c'.live
     → ((n : ℕ) → prime_in c.known.master.entries c.known.directories ppn name ≡ Some n
     → prime_in c'.known.master.entries c'.known.directories ppn name ≡ Some n)
     → (v : LiveVersion) → IsCurrentAt c ppn name v
@@ -43,8 +43,8 @@ current_stays c c' ppn name stay primes v is =
       ap (λ k. k.version.blocks) still.known,
     )
 
--- Where no version in use changes, and no entry and no bit.
-pub apart_same : (c c' : VolumeCore) (p : PendingVersion) → IsApart c p → c'.live ≡ c.live
+-- If no version in use changes, and no entry and no bit.
+pub apart_same : (c c' : MemoryMap) (p : PendingVersion) → IsApart c p → c'.live ≡ c.live
     → ((n : ℕ) → prime_in c.known.master.entries c.known.directories p.prime.ppn p.prime.file ≡ Some n
     → prime_in c'.known.master.entries c'.known.directories p.prime.ppn p.prime.file ≡ Some n)
     → ((n : ℕ) → 0 < times n p.version.blocks → 0 < bit c'.known.table n → 0 < bit c.known.table n)

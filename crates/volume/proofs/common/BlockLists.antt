@@ -10,7 +10,7 @@ use Rattle.alloctab.specs.Common.{TableState, IsTable, IsChanged, bit, holds, wi
 use Rattle.alloctab.specs.Common.{bit-taken, bit-freed, changed-with_bit_same, changed-with_bit_other, sound-with_bit}
 use Rattle.alloctab.specs.Common.{sound-with_held, holds-with_held_same, holds-with_held_other}
 use Rattle.volume.specs.Common.{Marks, SetsBits, ClearsBits, PutsInUse, put_in_use}
-use Rattle.volume.proofs.common.Releasing.{held_less}
+use Rattle.volume.proofs.common.ReleasedBlocks.{held_less}
 
 pub marks_none : (t : TableState) → IsTable t → Marks t t
 marks_none t sound = record { sound = sound; size = refl; stays = λ i is. is; moved = λ n still. refl }
@@ -136,7 +136,7 @@ puts_in_use_then t u v xs ys first second = record {
   held = λ n. omega (arith, times-append n xs ys, first.held n, second.held n);
 }
 
--- set, and held once less
+-- set, and one hold released
 pub puts_in_use_all : (t u v : TableState) (blocks : List ℕ) → SetsBits t u blocks → v ≡ record u { held = v.held }
     → IsTable v → ((n : ℕ) → holds v n + times n blocks ≡ holds u n) → PutsInUse t v blocks
 puts_in_use_all t u v blocks sets is sound less = subst (λ w. PutsInUse t w blocks) (sym is) (record {

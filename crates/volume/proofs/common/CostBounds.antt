@@ -1,22 +1,22 @@
 -- What the files cost is no more than twice as many blocks as the disk has.
 use Rattle.std.proofs.Common.{◌≡◌, ℕ, zero, suc, ◌*◌, ◌≤◌, ⊎_elim, List, [], ◌∷◌, length, arith, length-append}
 use Rattle.std.specs.List.{AllByRecursion}
-use Rattle.spec_image.specs.Common.{sum_below, FileEntry, times, total}
+use Rattle.spec_image.specs.Common.{sum_below, SpecFileEntry, times, total}
 use Rattle.spec_image.proofs.Common.{below_sum, below_times}
 use Rattle.alloctab.specs.Common.{IsTable, bit}
 use Rattle.changeset.specs.Common.{some_or_none}
-use Rattle.volume.specs.Common.{KnownVersion, KnownDirectory, Known, blocks_reached, reaches_in_entries}
+use Rattle.volume.specs.Common.{CurrentVersion, CurrentDirectory, CurrentMap, blocks_reached, reaches_in_entries}
 use Rattle.volume.specs.Common.{reaches_in_known, known_reaches, cost_of_version, cost_of_directory, cost_of_known}
 use Rattle.volume.specs.Common.{IsWholeDirectory, IsWholeMap}
 use Rattle.volume.proofs.common.TableBits.{bit_few}
-use Rattle.volume.proofs.common.Retiring.{set_inside}
+use Rattle.volume.proofs.common.RetiredVersions.{set_inside}
 
 pub below_few : (f : ℕ → ℕ) (k : ℕ) → ((n : ℕ) → f n ≤ 1) → sum_below f k ≤ k
 below_few f zero few = omega arith
 below_few f (suc k) few = let a = few k in let r = below_few f k few in omega arith
 
 -- a version costs its blocks, and no more ribs than it has blocks
-version_counted : (size prime : ℕ) (v : KnownVersion)
+version_counted : (size prime : ℕ) (v : CurrentVersion)
     → ((n : ℕ) → size ≤ n → times n (blocks_reached prime v.version) ≡ 0)
     → cost_of_version v ≤ 2 * sum_below (λ n. times n (blocks_reached prime v.version)) size
 version_counted size prime v none =
@@ -24,7 +24,7 @@ version_counted size prime v none =
     let parts = length-append v.version.ribs v.version.blocks in
     omega arith
 
-entries_counted : (size : ℕ) (es : List FileEntry) (vs : List KnownVersion) → length vs ≡ length es
+entries_counted : (size : ℕ) (es : List SpecFileEntry) (vs : List CurrentVersion) → length vs ≡ length es
     → ((n : ℕ) → size ≤ n → reaches_in_entries n es vs ≡ 0)
     → total cost_of_version vs ≤ 2 * sum_below (λ n. reaches_in_entries n es vs) size
 entries_counted size [] [] same none = omega arith
@@ -36,7 +36,7 @@ entries_counted size (e ∷ es) (v ∷ vs) same none =
     let parts = below_sum (λ n. times n (blocks_reached e.1 v.version)) (λ n. reaches_in_entries n es vs) size in
     omega arith
 
-directory_counted : (size : ℕ) (d : KnownDirectory) → IsWholeDirectory size d
+directory_counted : (size : ℕ) (d : CurrentDirectory) → IsWholeDirectory size d
     → ((n : ℕ) → size ≤ n → reaches_in_known n d ≡ 0)
     → cost_of_directory d ≤ 2 * sum_below (λ n. reaches_in_known n d) size
 directory_counted size d whole none =
@@ -46,7 +46,7 @@ directory_counted size d whole none =
     let parts = below_sum (λ n. times n d.chain.blocks) (λ n. reaches_in_entries n d.chain.entries d.versions) size in
     omega arith
 
-directories_counted : (size : ℕ) (ds : List KnownDirectory) → AllByRecursion (IsWholeDirectory size) ds
+directories_counted : (size : ℕ) (ds : List CurrentDirectory) → AllByRecursion (IsWholeDirectory size) ds
     → ((n : ℕ) → size ≤ n → total (reaches_in_known n) ds ≡ 0)
     → total cost_of_directory ds ≤ 2 * sum_below (λ n. total (reaches_in_known n) ds) size
 directories_counted size [] all none = omega arith
@@ -56,7 +56,7 @@ directories_counted size (d ∷ ds) all none =
     let parts = below_sum (λ n. reaches_in_known n d) (λ n. total (reaches_in_known n) ds) size in
     omega arith
 
-pub known_few : (size : ℕ) (k : Known) → IsWholeMap size k → IsTable k.table
+pub known_few : (size : ℕ) (k : CurrentMap) → IsWholeMap size k → IsTable k.table
     → cost_of_known k.master k.directories ≤ 2 * size
 known_few size k whole sound =
     let master = below_times size k.master.blocks (λ n past. let none = past_none n past in omega arith) in

@@ -1,4 +1,4 @@
--- What is known in core costs what the files cost, and no more blocks are in use than that.
+-- What is known in memory costs what the files cost, and no more blocks are in use than that.
 use Rattle.std.proofs.Common.{◌≡◌, ℕ, suc, if◌then◌else◌, Bool, true, false, List, [], ◌∷◌, length, slice_get, Some}
 use Rattle.std.proofs.Common.{None, ◌≢◌, refl, sym, ap, ◌∙◌, arith, Ordering}
 use Rattle.std.specs.List.{AllByRecursion, AllZip}
@@ -7,17 +7,18 @@ use Rattle.std.specs.Cmp.{IsTotalOrder, nat_cmp_total}
 use Rattle.std.specs.FinMap.{IsAntisymmetric, nat_cmp-IsAntisymmetric}
 use Rattle.std.specs.FinMap.Entries.{find}
 use Rattle.spec_image.specs.Common.{FinMap, EachOnce, get, remove, size, from_entries, map_values, sum_over, total}
-use Rattle.spec_image.specs.Common.{version_cost, cost_of_blocks, directory_cost, cost_of_files, FileEntry}
+use Rattle.spec_image.specs.Common.{version_cost, cost_of_blocks, directory_cost, cost_of_files, SpecFileEntry}
 use Rattle.spec_image.specs.Common.{IsMasterEntryOf, StoredDirectory, DiskMap, directory_of, files_of, entry_of}
 use Rattle.spec_image.proofs.Common.{some_none, apart, get-remove_other, sum-empty, sum-remove, size-remove}
 use Rattle.spec_image.proofs.Common.{empty_of_size, size-from_entries, size-map_values, sum-map_values, name_total}
 use Rattle.spec_image.proofs.Common.{name_exact}
 use Rattle.directory.specs.Common.{IsChain}
-use Rattle.volume.specs.Common.{Known, KnownVersion, KnownDirectory, IsKnownFile, IsKnownDirectory, IsKnownMap}
+use Rattle.volume.specs.Common.{CurrentMap, CurrentVersion, CurrentDirectory, AgreesOnFile, AgreesOnDirectory}
+use Rattle.volume.specs.Common.{AgreesOnMap}
 use Rattle.volume.specs.Common.{IsWholeVersion, IsWholeDirectory, cost_of_version, cost_of_directory, cost_of_known}
 use Rattle.spec_image.specs.Costs as costs
 
--- Two lists beside each other, place by place.
+-- Two lists, place by place.
 
 pub zip_each : {A B : Type 0} (P : A → B → Type 0) (Q : B → Type 0) (xs : List A) (ys : List B) → length ys ≡ length xs
     → AllByRecursion Q ys
@@ -79,13 +80,13 @@ module _ {K V X : Type 0} {R : K → K → Ordering} (o : IsTotalOrder R) (exact
 
 -- Files, directories, and the whole map.
 
-file_costs : (d : StoredDirectory) (e : FileEntry) (v : KnownVersion) → IsKnownFile d e v → IsWholeVersion v
+file_costs : (d : StoredDirectory) (e : SpecFileEntry) (v : CurrentVersion) → AgreesOnFile d e v → IsWholeVersion v
     → Counts (λ f. version_cost (length f.file.body)) cost_of_version d.files e v
 file_costs d e v known whole =
     let words : length known.0.file.body ≡ v.version.words = ap (λ f. f.words) known.2 in
     (known.0, known.1, ap version_cost words ∙ ap cost_of_blocks (sym whole.counted))
 
-pub directory_costs : (size_of_disk : ℕ) (k : KnownDirectory) (d : StoredDirectory) → IsKnownDirectory k d
+pub directory_costs : (size_of_disk : ℕ) (k : CurrentDirectory) (d : StoredDirectory) → AgreesOnDirectory k d
     → IsWholeDirectory size_of_disk k → costs.cost_of_directory (directory_of d) ≡ cost_of_directory k
 directory_costs size_of_disk k d known whole =
     let once = whole.chain.each_once in
@@ -100,7 +101,7 @@ directory_costs size_of_disk k d known whole =
     let chain = whole.chain.counted in
     omega arith
 
-pub cost_is : (size_of_disk : ℕ) (k : Known) (m : DiskMap) → IsKnownMap k m
+pub cost_is : (size_of_disk : ℕ) (k : CurrentMap) (m : DiskMap) → AgreesOnMap k m
     → IsChain nat_cmp (IsMasterEntryOf 2) k.master → length k.directories ≡ length k.master.entries
     → AllByRecursion (IsWholeDirectory size_of_disk) k.directories
     → cost_of_known k.master k.directories ≡ cost_of_files (files_of m)

@@ -1,12 +1,12 @@
--- What calls leave of the disk that they ask, one after the other.
+-- What calls leave of the disk that they are given, one after the other.
 use Rattle.std.proofs.Common.{◌≡◌, ◌∙◌, Result, Ok, Err, IsErrOf, refl, ap}
 use Rattle.blockdisk.specs.Common.{DiskState, MayLeave, one_more, keeps_on, same_disk_on, same_disk_start}
 use Rattle.blockdisk.specs.Common.{passes_start}
-use Rattle.changeset.proofs.Reading.{only_reads_on}
+use Rattle.changeset.proofs.LogRead.{only_reads_on}
 use Rattle.volume.specs.Common.{KeepsDisk, ReadsDisk}
-use Rattle.volume.proofs.VolumeStart.Opening.{reads_of}
+use Rattle.volume.proofs.VolumeStart.Opens.{reads_of}
 
--- Nothing was asked yet.
+-- Nothing was called yet.
 pub keeps_disk_start : (s : DiskState) → KeepsDisk s s ⊥
 keeps_disk_start s = record {
   keeps = λ h. record { contents = λ n. refl; is_open = λ n. refl; time = passes_start s (MayLeave s) };
@@ -53,7 +53,7 @@ reads_disk_ok {x = x} {device = device} s s' reads = record {
   served = λ other. reads.served (λ never. never);
 }
 
--- What was asked before was served, and then one more call was made.
+-- The calls before were served, and then one more was made.
 
 pub keeps_disk_on : (s s' s'' : DiskState) (device : Type 0) → KeepsDisk s s' ⊥ → KeepsDisk s' s'' device
     → KeepsDisk s s'' device

@@ -1,5 +1,5 @@
--- One change of a volume, whichever call makes it: blocks that nothing looks at are written, and then its puts are
--- committed. All that its call says of the disk follows from what the change is, over values.
+-- One change of a volume, whichever call makes it: blocks that nothing reads are written, and then its puts are
+-- committed. All that its call states of the disk follows from what the change is, over values.
 use Rattle.std.proofs.Common.{◌≡◌, ⊎_elim, ℕ, ◌≤◌, Bool, true, false, List, length, Result, Ok, Err, OnOk, IfErr}
 use Rattle.std.proofs.Common.{IsErrOf, refl, sym, ap, ◌∙◌, subst, arith}
 use Rattle.std.proofs.lemmas.Result.{on_ok_weaker}
@@ -11,18 +11,20 @@ use Rattle.spec_image.specs.declared.layout.Layout.{Layout}
 use Rattle.spec_image.specs.declared.put.Put.{Put}
 use Rattle.spec_image.specs.Common.{File, Files, pack_of, IsTarget, targets, with_puts, log_images, DiskMap, files_of}
 use Rattle.alloctab.specs.Common.{IsFree, bit}
-use Rattle.volume.specs.Common.{IsWrittenBy, IsCommitted, IsEdited, ChangesFiles, KeepsHomeCopies, IsHeld, VolumeCore}
-use Rattle.volume.specs.Common.{IsWholeCore, AreDated, IsAtRest, IsSoundCore, IsSoundVolume, RestsAt, StandsForOneOf}
+use Rattle.volume.specs.Common.{IsWrittenBy, IsCommitted, IsEdited, ChangesFiles, KeepsHomeCopies, MatchesMap}
+use Rattle.volume.specs.Common.{MemoryMap}
+use Rattle.volume.specs.Common.{IsWholeMemory, AreDated, IsAtRest, IsSoundMemory, IsSoundVolume, RestsAt}
+use Rattle.volume.specs.Common.{StandsForOneOf}
 use Rattle.volume.specs.declared.error.CallError.{CallError}
 use Rattle.volume.specs.declared.error.CallError.TheVariants.{Device}
-use Rattle.volume.proofs.common.HomesKept.{homes_start, homes_modified, homes_written, homes_stay, past_homes}
-use Rattle.volume.proofs.common.HomesKept.{clear_past}
-use Rattle.volume.proofs.common.KeptBlocks.{IsKept, read_kept, written_kept}
+use Rattle.volume.proofs.common.UnchangedHomes.{homes_start, homes_modified, homes_written, homes_stay, past_homes}
+use Rattle.volume.proofs.common.UnchangedHomes.{clear_past}
+use Rattle.volume.proofs.common.MapStays.{IsKept, read_kept, written_kept}
 use Rattle.volume.proofs.common.LiveBodies.{HaveBodies, body_stays}
-use Rattle.volume.proofs.common.Handing.{err_of}
+use Rattle.volume.proofs.common.PassedErrors.{err_of}
 use Rattle.volume.proofs.common.Rests.{files_are, crash_for, rest_for, sound_for, sound_failed}
 use Rattle.volume.proofs.common.TableBits.{whole_fixed}
-use Rattle.volume.proofs.common.Held.{ignores_log}
+use Rattle.volume.proofs.common.UsedBlocks.{ignores_log}
 use Rattle.volume.proofs.common.Packs.{pack_held}
 use Rattle.volume.proofs.PublishVersion.Publications.{quiet_leaves_either, unchanged_leaves}
 use Rattle.volume.proofs.PutWords.Disk.{ignores_clear, quiet_at_rest, quiet_finds}
@@ -32,16 +34,16 @@ use Rattle.volume.proofs.common.SoundVolumes.{not_both, volume_goes_on}
 abbrev pub Nowhere : ℕ → Type 0
 Nowhere n = ⊥
 
--- and nothing is asked of the disk
+-- and nothing is required of the disk
 abbrev pub Anyhow : Contents → Type 0
 Anyhow d = Unit {0}
 
--- What a change is: core before and after, the blocks that are written beforehand, what the disk has then, the puts,
+-- What a change is: memory before and after, the blocks that are written beforehand, what the disk has then, the puts,
 -- and what becomes of the files. `layout` is the volume's.
-pub record IsEdit (size layout : ℕ) (c c' : VolumeCore) (Quiet : ℕ → Type 0) (Ready : Contents → Type 0)
+pub record IsEdit (size layout : ℕ) (c c' : MemoryMap) (Quiet : ℕ → Type 0) (Ready : Contents → Type 0)
     (puts : List Put) (become : Files File → Files File) : Type 0 where
-  -- core stays whole, and each version has its words where it had them
-  pub whole : IsWholeCore size c'
+  -- memory stays whole, and each version has its words if it had them
+  pub whole : IsWholeMemory size c'
   pub bodies : (d : Contents) → HaveBodies d c → HaveBodies d c'
   pub dated : (n : ℕ) → AreDated n c → AreDated n c'
   -- what is written beforehand is free
@@ -51,13 +53,13 @@ pub record IsEdit (size layout : ℕ) (c c' : VolumeCore) (Quiet : ℕ → Type 
   pub few : length puts ≤ log_images size
   pub low : (n : ℕ) → n ≤ 2 → IsPutIn puts n → ⊥
   pub spares : (n : ℕ) → IsKept size c n → IsPutIn puts n → ⊥
-  -- and they make of any map that the disk has the one of the new core
-  pub leads : (m : DiskMap) (d : Contents) → m.layout ≡ layout → IsHeld size c.known m d → Ready d
-      → (m' : DiskMap) × IsHeld size c'.known m' (with_puts puts d) × (files_of m' ≡ become (files_of m))
+  -- and they turn any map that the disk has into the one of the new memory
+  pub leads : (m : DiskMap) (d : Contents) → m.layout ≡ layout → MatchesMap size c.known m d → Ready d
+      → (m' : DiskMap) × MatchesMap size c'.known m' (with_puts puts d) × (files_of m' ≡ become (files_of m))
       × (m'.layout ≡ m.layout)
 
--- what is asked of the puts, on a disk of the same size
-module _ {s mid : DiskState} {layout : ℕ} {c c' : VolumeCore} {Quiet : ℕ → Type 0} {Ready : Contents → Type 0}
+-- what is required of the puts, on a disk of the same size
+module _ {s mid : DiskState} {layout : ℕ} {c c' : MemoryMap} {Quiet : ℕ → Type 0} {Ready : Contents → Type 0}
     {puts : List Put} {become : Files File → Files File} (edit : IsEdit s.size layout c c' Quiet Ready puts become)
     (same : SameDisk s mid) where
   pub edit_in_range : AllByRecursion (IsTarget mid.size) (targets puts)
@@ -70,7 +72,7 @@ module _ {s mid : DiskState} {layout : ℕ} {c c' : VolumeCore} {Quiet : ℕ →
 pub read_nothing : (s mid : DiskState) → Keeps s mid → Modifies Nowhere s mid
 read_nothing s mid keeps = still_modifies Nowhere s mid (keeps_still s mid keeps)
 
--- What a commit answered.
+-- What a commit returned.
 
 -- it was made, unless the device failed
 unless_device : {T : Type 0} (result : Result T CallError) (X : Type 0) → IfErr result (λ e. e ≡ Device)
@@ -78,7 +80,7 @@ unless_device : {T : Type 0} (result : Result T CallError) (X : Type 0) → IfEr
 unless_device (Ok x) X only served is = is
 unless_device (Err e) X only served is = absurd (served (err_of e Device only))
 
--- what follows of three facts that hold where a call answers Ok
+-- what follows from three facts that hold if a call returns Ok
 on_ok_three : {T E : Type 0} {A B C X : Type 0} (result : Result T E) → (A → B → C → X) → OnOk result A
     → OnOk result B → OnOk result C → OnOk result X
 on_ok_three (Ok x) gives a b c = gives a b c
@@ -97,7 +99,7 @@ only_device (Err x) e only is = cc
 
 -- What follows.
 
-module _ {s mid : DiskState} {c : VolumeCore} {Quiet : ℕ → Type 0} {alive : Bool} (sound : IsSoundCore s c alive)
+module _ {s mid : DiskState} {c : MemoryMap} {Quiet : ℕ → Type 0} {alive : Bool} (sound : IsSoundMemory s c alive)
     (ok : alive ≡ false) (only_now : s.honest → (d : Contents) → s.left_since s.clock d → MayLeave s d)
     (same : SameDisk s mid) (free : (n : ℕ) → Quiet n → IsFree c.known.table n) where
   -- no home copy is written beforehand
@@ -114,7 +116,7 @@ module _ {s mid : DiskState} {c : VolumeCore} {Quiet : ℕ → Type 0} {alive : 
 
   -- What is written beforehand, no crash sees.
   module _ (h : s.honest) (written : Modifies Quiet s mid) where
-    mid_rest : AtRest mid (IsHeld s.size c.known (sound.rest h ok).map)
+    mid_rest : AtRest mid (MatchesMap s.size c.known (sound.rest h ok).map)
     mid_rest = quiet_at_rest s mid c.known Quiet (λ n is. (free n is).clear) sound.whole.map.aligned (sound.rest h ok)
         same.size written gate
 
@@ -124,7 +126,7 @@ module _ {s mid : DiskState} {c : VolumeCore} {Quiet : ℕ → Type 0} {alive : 
         written gate f rests (only_now h))
 
   -- The call breaks off there.
-  pub interrupted : {c' : VolumeCore} {become : Files File → Files File} → IsWholeCore s.size c'
+  pub interrupted : {c' : MemoryMap} {become : Files File → Files File} → IsWholeMemory s.size c'
       → (mid.honest → Modifies Quiet s mid) → (e : CallError) → IsEdited s mid c c' become true (Err e)
   interrupted {c'} {become} whole written e = record {
     sound = sound_failed s mid c' true same.size whole refl;
@@ -145,7 +147,7 @@ module _ {s mid : DiskState} {c : VolumeCore} {Quiet : ℕ → Type 0} {alive : 
   }
 
   -- The puts are committed.
-  module _ {s' : DiskState} {c' : VolumeCore} {layout : ℕ} {Ready : Contents → Type 0} {puts : List Put}
+  module _ {s' : DiskState} {c' : MemoryMap} {layout : ℕ} {Ready : Contents → Type 0} {puts : List Put}
       {become : Files File → Files File} {was failed : Bool} {result : Result (Unit {0}) CallError}
       (edit : IsEdit s.size layout c c' Quiet Ready puts become) (committed : IsCommitted mid s' puts was failed result)
       (written : mid.honest → Modifies Quiet s mid) (ready : mid.honest → Ready mid.contents)
@@ -166,7 +168,7 @@ module _ {s mid : DiskState} {c : VolumeCore} {Quiet : ℕ → Type 0} {alive : 
       abbrev now : IsAtRest s c.known
       now = sound.rest h ok
 
-      led : (m' : DiskMap) × IsHeld s.size c'.known m' (with_puts puts mid.contents)
+      led : (m' : DiskMap) × MatchesMap s.size c'.known m' (with_puts puts mid.contents)
           × (files_of m' ≡ become (files_of now.map)) × (m'.layout ≡ now.map.layout)
       led = edit.leads now.map mid.contents (pack_held s c.known now.map now.rest ∙ layout_is h)
           ((mid_rest h (written m)).all mid.contents (λ n closed. refl)) (ready m)
@@ -174,23 +176,23 @@ module _ {s mid : DiskState} {c : VolumeCore} {Quiet : ℕ → Type 0} {alive : 
       names : (f : Files File) → RestsAt s f → files_of led.0 ≡ become f
       names f rests = led.2 ∙ ap become (files_are s c.known now.map f now.rest rests)
 
-      ignores_new : Ignores (IsGateOrLog s.size) (IsHeld s.size c'.known led.0)
+      ignores_new : Ignores (IsGateOrLog s.size) (MatchesMap s.size c'.known led.0)
       ignores_new = ignores_log s.size c'.known led.0 edit.whole.map.aligned
 
       -- the commit leaves the files from before, or the new ones
       crash : (f : Files File) → RestsAt s f → LeavesOnly s s' (StandsForOneOf (pack_of s) f (become f))
       crash f rests = crash_for s s' c.known c'.known now.map led.0 f (become f) now.rest
           (files_are s c.known now.map f now.rest rests) (names f rests) led.3
-          (transaction_leaves Quiet puts s mid s' (IsHeld s.size c.known now.map) (IsHeld s.size c'.known led.0)
+          (transaction_leaves Quiet puts s mid s' (MatchesMap s.size c.known now.map) (MatchesMap s.size c'.known led.0)
           (ignores_clear s.size c.known now.map Quiet sound.whole.map.aligned (λ n is. (free n is).clear))
           (λ is. let none = (free 3 is).clear in let set = gate in omega arith)
           (ignores_log s.size c.known now.map sound.whole.map.aligned) ignores_new
           same.size now.rest (only_now h) (written m) led.1 (committed.crash h' (mid_rest h (written m)).shut))
 
       -- and at Ok the latter
-      rest : OnOk result (AtRest s' (IsHeld s.size c'.known led.0))
-      rest = on_ok_three result (commit_rest puts mid s' (IsHeld s.size c'.known led.0)
-          (subst (λ (n : ℕ). Ignores (IsGateOrLog n) (IsHeld s.size c'.known led.0)) (sym same.size) ignores_new)
+      rest : OnOk result (AtRest s' (MatchesMap s.size c'.known led.0))
+      rest = on_ok_three result (commit_rest puts mid s' (MatchesMap s.size c'.known led.0)
+          (subst (λ (n : ℕ). Ignores (IsGateOrLog n) (MatchesMap s.size c'.known led.0)) (sym same.size) ignores_new)
           led.1) (committed.all h') (committed.settled h') (committed.shut h' (mid_rest h (written m)).shut)
 
       module _ (served : IsErrOf result Device → ⊥) where
@@ -242,9 +244,9 @@ module _ {s mid : DiskState} {c : VolumeCore} {Quiet : ℕ → Type 0} {alive : 
     }
 
 -- with nothing written beforehand
-pub edited_alone : {s s' : DiskState} {c c' : VolumeCore} {layout : ℕ} {puts : List Put}
+pub edited_alone : {s s' : DiskState} {c c' : MemoryMap} {layout : ℕ} {puts : List Put}
     {become : Files File → Files File} {alive was failed : Bool} {result : Result (Unit {0}) CallError}
-    → IsEdit s.size layout c c' Nowhere Anyhow puts become → IsSoundCore s c alive → alive ≡ false
+    → IsEdit s.size layout c c' Nowhere Anyhow puts become → IsSoundMemory s c alive → alive ≡ false
     → (s.honest → (d : Contents) → s.left_since s.clock d → MayLeave s d) → IsCommitted s s' puts was failed result
     → (s.honest → (pack_of s).layout ≡ layout) → IsEdited s s' c c' become failed result
 edited_alone {s} edit sound ok only_now committed layout_is =
@@ -252,7 +254,7 @@ edited_alone {s} edit sound ok only_now committed layout_is =
     (λ h. modifies_start Nowhere s) (λ h. tt) layout_is
 
 -- A volume that was sound is sound.
-pub edited_volume : {s s' : DiskState} {c c' : VolumeCore} {become : Files File → Files File} {alive failed : Bool}
+pub edited_volume : {s s' : DiskState} {c c' : MemoryMap} {become : Files File → Files File} {alive failed : Bool}
     {result : Result (Unit {0}) CallError} {layout : Layout} → IsSoundVolume s c alive layout → alive ≡ false
     → IsEdited s s' c c' become failed result → IsSoundVolume s' c' failed layout
 edited_volume {s} {s'} {c} {c'} {become} {alive} {failed} {result} {layout} was ok edited =
@@ -266,7 +268,7 @@ near_closed In s s' leaves n out closed =
     let near = leaves.now s'.contents (λ m is. refl) in
     near.2 n out ∙ near.1 n closed
 
--- A block that isn't written stays, and where the device failed a closed one does.
+-- A block that isn't written stays, and if the device failed a closed one does.
 pub not_written_stays : {s s' : DiskState} {puts : List Put} {was failed : Bool}
     {result : Result (Unit {0}) CallError} → IsCommitted s s' puts was failed result → s'.honest → (n : ℕ)
     → (IsWrittenBy s.size puts n → ⊥) → (IsErrOf result Device → s.is_open n ≡ false)
@@ -289,7 +291,7 @@ copies_stay {T} {s} only_now = record {
   stay = λ h served n low. refl;
 }
 
-pub files_stay : {s : DiskState} {c : VolumeCore} {become : Files File → Files File} {e : CallError}
+pub files_stay : {s : DiskState} {c : MemoryMap} {become : Files File → Files File} {e : CallError}
     → (s.honest → (d : Contents) → s.left_since s.clock d → MayLeave s d) → ChangesFiles s s c become (Err e)
 files_stay {s} {c} {become} only_now = record {
   crash = λ h f rests. unchanged_leaves s f (become f) rests (only_now h);

@@ -1,15 +1,15 @@
--- The moment of a file, and of its version in core, is one that the layout of the disk holds.
+-- The layout of the disk has room for the moment of a file, and of its version in memory.
 use Rattle.std.proofs.Common.{◌≡◌, ℕ, ◌<◌, Some, ap, subst, slice_get}
 use Rattle.std.specs.Ordering.{nat_cmp}
 use Rattle.words36.specs.declared.names.FileName.{FileName}
 use Rattle.blockdisk.specs.Common.{Contents}
 use Rattle.spec_image.specs.Common.{date_limit, DiskMap}
 use Rattle.directory.specs.Common.{StandsAt}
-use Rattle.volume.specs.Common.{Facts, Known, KnownVersion, KnownDirectory, IsHeld, IsNamed}
+use Rattle.volume.specs.Common.{Facts, CurrentMap, CurrentVersion, CurrentDirectory, MatchesMap, IsNamed}
 
-pub known_dated : (size : ℕ) (k : Known) (m : DiskMap) (contents : Contents) → IsHeld size k m contents → (ppn : ℕ)
-    (d : KnownDirectory) (place : ℕ) (word : ℕ × ℕ) → StandsAt nat_cmp k.master.entries ppn word place
-    → slice_get k.directories place ≡ Some d → (name : FileName) (v : ℕ × KnownVersion) → IsNamed d name (Some v)
+pub known_dated : (size : ℕ) (k : CurrentMap) (m : DiskMap) (contents : Contents) → MatchesMap size k m contents → (ppn : ℕ)
+    (d : CurrentDirectory) (place : ℕ) (word : ℕ × ℕ) → StandsAt nat_cmp k.master.entries ppn word place
+    → slice_get k.directories place ≡ Some d → (name : FileName) (v : ℕ × CurrentVersion) → IsNamed d name (Some v)
     → v.1.prime.moment.date < date_limit m.layout
 known_dated size k m contents held ppn d place word there at name v named =
     let found = held.known.each place (ppn, word) d there.is at in

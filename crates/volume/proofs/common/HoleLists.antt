@@ -6,12 +6,12 @@ use Rattle.std.proofs.lemmas.Option.{slice_get_within}
 use Rattle.std.specs.Ordering.{eq_by_cmp}
 use Rattle.std.specs.FinMap.Entries.{find}
 use Rattle.words36.specs.declared.names.FileName.{FileName}
-use Rattle.spec_image.specs.Common.{FileEntry, name_cmp, total, times}
+use Rattle.spec_image.specs.Common.{SpecFileEntry, name_cmp, total, times}
 use Rattle.spec_image.proofs.Common.{has_last, some_same, some_none, at_itself, name_total}
 use Rattle.directory.specs.Common.{StandsAt, removed, last_first}
-use Rattle.volume.specs.Common.{KnownVersion, blocks_reached, reaches_in_entries}
+use Rattle.volume.specs.Common.{CurrentVersion, blocks_reached, reaches_in_entries}
 use Rattle.volume.proofs.common.Lookups.{total-push}
-use Rattle.volume.proofs.common.Reaching.{entries_push}
+use Rattle.volume.proofs.common.ReachedBlocks.{entries_push}
 
 -- The last element moves to the front.
 
@@ -61,7 +61,7 @@ moved_length (x ∷ xs) =
     let b = ap (λ zs. length zs) e.is ∙ length-append e.front (e.last ∷ []) in
     omega arith
 
-moved_reaches : (n : ℕ) (es : List FileEntry) (vs : List KnownVersion) → length vs ≡ length es
+moved_reaches : (n : ℕ) (es : List SpecFileEntry) (vs : List CurrentVersion) → length vs ≡ length es
     → reaches_in_entries n (last_first es) (last_first vs) ≡ reaches_in_entries n es vs
 moved_reaches n [] [] same = refl
 moved_reaches n [] (v ∷ vs) same = absurd (omega arith)
@@ -110,7 +110,7 @@ hole_length [] i below = absurd (omega arith)
 hole_length (x ∷ xs) zero below = let rest = moved_length xs in omega arith
 hole_length (x ∷ xs) (suc i) below = let rest = hole_length xs i (omega arith) in omega arith
 
-pub hole_reaches : (n : ℕ) (es : List FileEntry) (vs : List KnownVersion) (i : ℕ) (e : FileEntry) (v : KnownVersion)
+pub hole_reaches : (n : ℕ) (es : List SpecFileEntry) (vs : List CurrentVersion) (i : ℕ) (e : SpecFileEntry) (v : CurrentVersion)
     → length vs ≡ length es → slice_get es i ≡ Some e → slice_get vs i ≡ Some v
     → reaches_in_entries n (hole i es) (hole i vs) + times n (blocks_reached e.1 v.version)
     ≡ reaches_in_entries n es vs
@@ -125,7 +125,7 @@ hole_reaches n (x ∷ es) (y ∷ vs) (suc i) e v same here there =
     let rest = hole_reaches n es vs i e v (omega arith) here there in
     omega arith
 
--- Where an element of it stood: at its place, or last, where it moved.
+-- Where an element of it was: at its place, or last, if it moved.
 
 abbrev pub IsFrom : ℕ → ℕ → ℕ → ℕ → Type 0
 IsFrom n i j k = ((j ≡ i) × (k + 1 ≡ n)) ⊎ ((j ≡ i → ⊥) × (k ≡ j))
@@ -176,7 +176,7 @@ hole_at (x ∷ xs) (suc i) (suc j) y is =
     by k (inl a) = inl (ap suc a.0, let last = a.1 in omega arith)
     by k (inr a) = inr (λ same. a.0 (omega arith), ap suc a.1)
 
--- it did not stand where the hole was
+-- it was not where the hole was
 pub hole_other : {X : Type 0} (xs : List X) (i j k : ℕ) (y : X) → i < length xs → slice_get (hole i xs) j ≡ Some y
     → IsFrom (length xs) i j k → k ≡ i → ⊥
 hole_other xs i j k y below is (inl a) same =
@@ -193,18 +193,18 @@ pub other_key : (b : Bool) (w : ℕ) (x : Option ℕ) → cond b (Some w) x ≡ 
 other_key true w x none = absurd (some_none none)
 other_key false w x none = (refl, none)
 
-removed_at : (es : List FileEntry) (i : ℕ) (name : FileName) (w : ℕ) → slice_get es i ≡ Some (name, w)
+removed_at : (es : List SpecFileEntry) (i : ℕ) (name : FileName) (w : ℕ) → slice_get es i ≡ Some (name, w)
     → find name_cmp name (take i es) ≡ None → removed name_cmp es name ≡ hole i es
 removed_at [] i name w is none = refl
 removed_at (x ∷ es) zero name w is none =
     let same : x ≡ (name, w) = some_same is in
     ap (λ b. cond b (last_first es) (x ∷ removed name_cmp es name))
-    (ap (λ (y : FileEntry). eq_by_cmp name_cmp name y.0) same ∙ at_itself name_total name)
+    (ap (λ (y : SpecFileEntry). eq_by_cmp name_cmp name y.0) same ∙ at_itself name_total name)
 removed_at (x ∷ es) (suc i) name w is none =
     let first = other_key (eq_by_cmp name_cmp name x.0) x.1 (find name_cmp name (take i es)) none in
     ap (λ b. cond b (last_first es) (x ∷ removed name_cmp es name)) first.0
     ∙ ap (λ ys. x ∷ ys) (removed_at es i name w is first.1)
 
-pub removed_is : (es : List FileEntry) (i : ℕ) (name : FileName) (w : ℕ) → StandsAt name_cmp es name w i
+pub removed_is : (es : List SpecFileEntry) (i : ℕ) (name : FileName) (w : ℕ) → StandsAt name_cmp es name w i
     → removed name_cmp es name ≡ hole i es
 removed_is es i name w at = removed_at es i name w at.is at.before

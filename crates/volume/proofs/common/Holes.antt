@@ -1,4 +1,4 @@
--- More of lists without the element at one place: where the others stand now, and what holds of them.
+-- More of lists without the element at one place: where the others are now, and what holds for them.
 use Rattle.std.proofs.Common.{◌≡◌, ℕ, zero, suc, ◌+◌, ◌<◌, ◌⊎◌, inl, inr, cond, Bool, true, false, List, [], ◌∷◌}
 use Rattle.std.proofs.Common.{◌++◌, length, take, slice_get, Option, Some, None, refl, sym, ap, subst, ◌∙◌, arith}
 use Rattle.std.proofs.Common.{length-append, Ordering}
@@ -7,19 +7,19 @@ use Rattle.std.specs.Cmp.{IsTotalOrder}
 use Rattle.std.specs.List.{AllByRecursion, AllZip}
 use Rattle.std.specs.Ordering.{eq_by_cmp}
 use Rattle.std.specs.FinMap.Entries.{find}
-use Rattle.spec_image.specs.Common.{MasterEntry}
+use Rattle.spec_image.specs.Common.{SpecMasterEntry}
 use Rattle.spec_image.proofs.Common.{HasLast, has_last, some_same, some_none, at_itself, all_left, all_right}
 use Rattle.directory.specs.Common.{StandsAt, removed, last_first}
 use Rattle.volume.specs.declared.pending.PendingVersion.{PendingVersion}
-use Rattle.volume.specs.Common.{KnownDirectory, growths}
+use Rattle.volume.specs.Common.{CurrentDirectory, growths}
 use Rattle.volume.proofs.VolumeStart.FoundDirectories.{zip_at}
-use Rattle.volume.proofs.common.Growing.{share}
-use Rattle.volume.proofs.MakeDir.MakingDirectories.{growths_push}
+use Rattle.volume.proofs.common.Growths.{share}
+use Rattle.volume.proofs.MakeDir.MadeDirectories.{growths_push}
 use Rattle.volume.proofs.MakeDir.Law.{pushed_at}
 use Rattle.volume.proofs.DeleteFile.Entries.{zip_places, zip_length}
 use Rattle.volume.proofs.common.HoleLists.{hole, hole_length, hole_at, IsFrom, one_from, moved_is}
 
--- Where an element stands now that stood at place k: there, or in the hole, if it was the last one.
+-- The place now of an element that was at place k: there, or in the hole, if it was the last one.
 
 abbrev pub IsAt : ℕ → ℕ → ℕ → ℕ → Type 0
 IsAt n i k j = ((k + 1 ≡ n) × (j ≡ i)) ⊎ ((k + 1 ≡ n → ⊥) × (j ≡ k))
@@ -99,7 +99,7 @@ hole_zip P xs ys i zip below =
 
 -- What directories cost more with the entries that are being created in them.
 
-moved_growths : (pending : List (Option PendingVersion)) (es : List MasterEntry) (ds : List KnownDirectory)
+moved_growths : (pending : List (Option PendingVersion)) (es : List SpecMasterEntry) (ds : List CurrentDirectory)
     → length ds ≡ length es → growths pending (last_first es) (last_first ds) ≡ growths pending es ds
 moved_growths pending [] [] same = refl
 moved_growths pending [] (d ∷ ds) same = absurd (omega arith)
@@ -118,8 +118,8 @@ moved_growths pending (e ∷ es) (d ∷ ds) same =
     let push = growths_push pending l.front k.front l.last k.last aligned in
     omega arith
 
-pub hole_growths : (pending : List (Option PendingVersion)) (es : List MasterEntry) (ds : List KnownDirectory) (i : ℕ)
-    (e : MasterEntry) (d : KnownDirectory) → length ds ≡ length es → slice_get es i ≡ Some e → slice_get ds i ≡ Some d
+pub hole_growths : (pending : List (Option PendingVersion)) (es : List SpecMasterEntry) (ds : List CurrentDirectory) (i : ℕ)
+    (e : SpecMasterEntry) (d : CurrentDirectory) → length ds ≡ length es → slice_get es i ≡ Some e → slice_get ds i ≡ Some d
     → growths pending (hole i es) (hole i ds) + share pending e.0 d ≡ growths pending es ds
 hole_growths pending [] ds i e d same here there = absurd (some_none (sym here))
 hole_growths pending (x ∷ es) [] i e d same here there = absurd (some_none (sym there))

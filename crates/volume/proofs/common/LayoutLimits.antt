@@ -1,10 +1,10 @@
--- What one layout holds the wider one holds, too.
+-- What one layout has room for, the wider one has room for, too.
 use Rattle.std.proofs.Common.{◌≡◌, ℕ, Bool, true, false, ◌<◌, ◌==◌, if◌then◌else◌, ◌^◌, sym, subst, arith}
-use Rattle.spec_image.specs.Common.{MasterEntry, master_word, IsMasterEntryOf, Prime, IsPrime, date_limit}
+use Rattle.spec_image.specs.Common.{SpecMasterEntry, master_word, IsMasterEntryOf, SpecPrime, IsPrime, date_limit}
 use Rattle.spec_image.specs.Common.{quota_limit}
 use Rattle.spec_image.proofs.Common.{quota_bound}
 
--- every layout spells a quota of 0, which is none
+-- every layout spells a quota of 0, which means no limit
 pub some_quota : (layout : ℕ) → 0 < quota_limit layout
 some_quota layout = by (layout == 1)
   where
@@ -19,7 +19,7 @@ few_dates layout n = by (layout == 1)
     by true below = omega arith
     by false below = below
 
-pub wide_prime : (layout : ℕ) (p : Prime) → IsPrime layout p → IsPrime 2 p
+pub wide_prime : (layout : ℕ) (p : SpecPrime) → IsPrime layout p → IsPrime 2 p
 wide_prime layout p is = record {
   protection = is.protection;
   mode = is.mode;
@@ -28,7 +28,7 @@ wide_prime layout p is = record {
   few = is.few;
 }
 
-pub wide_entry : (layout : ℕ) (e : MasterEntry) → IsMasterEntryOf layout e → IsMasterEntryOf 2 e
+pub wide_entry : (layout : ℕ) (e : SpecMasterEntry) → IsMasterEntryOf layout e → IsMasterEntryOf 2 e
 wide_entry layout e is = record {
   ppn = is.ppn;
   protection = is.protection;

@@ -1,21 +1,22 @@
--- Sums over what is kept in core: a slot that is another, and that no more blocks are in use than are booked.
+-- Sums over what is in memory: a slot that changes, and that no more blocks are in use than are booked.
 use Rattle.std.proofs.Common.{◌≡◌, ℕ, zero, suc, ◌+◌, ◌-◌, ◌<◌, ◌≤◌, ⊎_elim, Bool, true, false, cond, eqb, ltb}
 use Rattle.std.proofs.Common.{if◌then◌else◌, ◌==◌, List, [], ◌∷◌, length, Option, Some, None, IfSome, slice_index_or}
 use Rattle.std.proofs.Common.{refl, sym, ap, subst, ◌∙◌, arith, length-append, add-suc}
 use Rattle.std.proofs.lemmas.Bool.{cases_lt}
 use Rattle.std.proofs.lemmas.Bool.Decides.{nat_tests}
 use Rattle.std.specs.List.{AllByRecursion}
-use Rattle.spec_image.specs.Common.{sum_below, FileEntry, total, times, space_start, fixed}
+use Rattle.spec_image.specs.Common.{sum_below, SpecFileEntry, total, times, space_start, fixed}
 use Rattle.alloctab.specs.Common.{bit, holds, used, uses, used_in_space, space}
 use Rattle.retrieval.specs.Common.{rib_count}
 use Rattle.volume.specs.declared.live.LiveVersion.{LiveVersion}
 use Rattle.volume.specs.declared.pending.PendingVersion.{PendingVersion}
-use Rattle.volume.specs.Common.{KnownVersion, KnownDirectory, blocks_reached, reaches_in_entries, reaches_in_known}
+use Rattle.volume.specs.Common.{CurrentVersion, CurrentDirectory, blocks_reached, reaches_in_entries, reaches_in_known}
 use Rattle.volume.specs.Common.{known_reaches, cost_of_version, cost_of_directory, IsWholeVersion, IsWholeDirectory}
-use Rattle.volume.specs.Common.{VolumeCore, as_known, held_reaches, held_cost, pending_reaches, pending_cost, growths}
-use Rattle.volume.specs.Common.{IsWholePending, IsWholeCore}
+use Rattle.volume.specs.Common.{MemoryMap, as_known, pinned_reaches, pinned_cost, pending_reaches, pending_cost}
+use Rattle.volume.specs.Common.{growths}
+use Rattle.volume.specs.Common.{IsWholePending, IsWholeMemory}
 use Rattle.spec_image.proofs.Common.{below_sum, below_none}
-use Rattle.retrieval.proofs.Holding.{sum_le}
+use Rattle.retrieval.proofs.HeldBlocks.{sum_le}
 
 -- A slot that is another.
 
@@ -69,7 +70,7 @@ pub total_updated : {X : Type 0} (f : Option X → ℕ) → f None ≡ 0 → (ol
 total_updated f none old new key x is others = let e = updated f none old new key others in let s = ap f is in
     omega arith
 
--- Sums over a stretch of blocks, from s on, k of them.
+-- Sums over k blocks from s.
 
 test_one : (a x : ℕ) → cond {A = ℕ} (eqb a x) 1 0 + cond (ltb x a) 1 0 ≤ cond (ltb x (suc a)) 1 0
 test_one a x = grind (arith, nat_tests)
@@ -93,21 +94,21 @@ stretch_times s k (x ∷ xs) =
     omega arith
 
 -- a version's blocks are no more than it costs
-version_reaches : (prime : ℕ) (v : KnownVersion) → IsWholeVersion v
+version_reaches : (prime : ℕ) (v : CurrentVersion) → IsWholeVersion v
     → length (blocks_reached prime v.version) ≤ cost_of_version v
 version_reaches prime v whole =
     let few = whole.few_ribs in
     let parts = length-append v.version.ribs v.version.blocks in
     omega arith
 
-stretch_version : (s k prime : ℕ) (v : KnownVersion) → IsWholeVersion v
+stretch_version : (s k prime : ℕ) (v : CurrentVersion) → IsWholeVersion v
     → sum_below (λ i. times (s + i) (blocks_reached prime v.version)) k ≤ cost_of_version v
 stretch_version s k prime v whole =
     let one = stretch_times s k (blocks_reached prime v.version) in
     let few = version_reaches prime v whole in
     omega arith
 
-stretch_entries : (s k : ℕ) (es : List FileEntry) (vs : List KnownVersion) → AllByRecursion IsWholeVersion vs
+stretch_entries : (s k : ℕ) (es : List SpecFileEntry) (vs : List CurrentVersion) → AllByRecursion IsWholeVersion vs
     → sum_below (λ i. reaches_in_entries (s + i) es vs) k ≤ total cost_of_version vs
 stretch_entries s k [] vs all = omega (arith, below_none k)
 stretch_entries s k (e ∷ es) [] all = omega (arith, below_none k)
@@ -118,7 +119,7 @@ stretch_entries s k (e ∷ es) (v ∷ vs) all =
     (λ i. reaches_in_entries (s + i) es vs) k in
     omega arith
 
-stretch_directory : (size s k : ℕ) (d : KnownDirectory) → IsWholeDirectory size d
+stretch_directory : (size s k : ℕ) (d : CurrentDirectory) → IsWholeDirectory size d
     → sum_below (λ i. reaches_in_known (s + i) d) k ≤ cost_of_directory d
 stretch_directory size s k d whole =
     let chain = stretch_times s k d.chain.blocks in
@@ -139,11 +140,11 @@ stretch_total P s k g f each (x ∷ xs) all =
     omega arith
 
 stretch_held : (s k : ℕ) (o : Option LiveVersion) → IfSome o (λ v. IsWholeVersion (as_known v))
-    → sum_below (λ i. held_reaches (s + i) o) k ≤ held_cost o
+    → sum_below (λ i. pinned_reaches (s + i) o) k ≤ pinned_cost o
 stretch_held s k None whole = omega (arith, below_none k)
 stretch_held s k (Some v) whole = by v.is_current refl
   where
-    by : (b : Bool) → v.is_current ≡ b → sum_below (λ i. held_reaches (s + i) (Some v)) k ≤ held_cost (Some v)
+    by : (b : Bool) → v.is_current ≡ b → sum_below (λ i. pinned_reaches (s + i) (Some v)) k ≤ pinned_cost (Some v)
     by true is = rw is (omega (arith, below_none k))
     by false is = rw is (stretch_version s k v.at (as_known v) whole)
 
@@ -195,7 +196,7 @@ same_stretch : (f g : ℕ → ℕ) (k : ℕ) → ((i : ℕ) → f i ≡ g i) →
 same_stretch f g zero same = refl
 same_stretch f g (suc k) same = let a = same k in let r = same_stretch f g k same in omega arith
 
-uses_by : (size : ℕ) (c : VolumeCore) → IsWholeCore size c → (more : ℕ)
+uses_by : (size : ℕ) (c : MemoryMap) → IsWholeMemory size c → (more : ℕ)
     → total pending_blocks c.pending + more ≤ growths c.pending c.known.master.entries c.known.directories
     + total pending_cost c.pending → uses c.known.table + more ≤ c.known.table.booked
 uses_by size c whole more waits =
@@ -212,9 +213,9 @@ uses_by size c whole more waits =
     omega arith in
     let parts = below_sum (λ i. bit t (s + i)) (λ i. holds t (s + i)) k in
     let sets = same_stretch (λ i. bit t (s + i)) (λ i. known_reaches (s + i) master directories) k set in
-    let helds = same_stretch (λ i. holds t (s + i)) (λ i. total (held_reaches (s + i)) c.live
+    let helds = same_stretch (λ i. holds t (s + i)) (λ i. total (pinned_reaches (s + i)) c.live
     + total (pending_reaches (s + i)) c.pending) k (λ i. whole.held (s + i)) in
-    let apart = below_sum (λ i. total (held_reaches (s + i)) c.live) (λ i. total (pending_reaches (s + i)) c.pending)
+    let apart = below_sum (λ i. total (pinned_reaches (s + i)) c.live) (λ i. total (pending_reaches (s + i)) c.pending)
     k in
     let waiting = stretch_total (λ o. IfSome o (IsWholePending size)) s k pending_reaches pending_blocks
     (stretch_pending size s k) c.pending whole.waiting in
@@ -222,34 +223,34 @@ uses_by size c whole more waits =
     let each = stretch_total (IsWholeDirectory size) s k reaches_in_known cost_of_directory
     (λ d is. stretch_directory size s k d is) directories whole.map.each in
     let both = below_sum (λ i. times (s + i) master.blocks) (λ i. total (reaches_in_known (s + i)) directories) k in
-    let held = stretch_total (λ o. IfSome o (λ v. IsWholeVersion (as_known v))) s k held_reaches held_cost
+    let held = stretch_total (λ o. IfSome o (λ v. IsWholeVersion (as_known v))) s k pinned_reaches pinned_cost
     (stretch_held s k) c.live whole.standing in
     let booked = whole.booked in
     omega arith
 
--- as often as the blocks of the free space are set or held, so many are booked
-pub core_uses : (size : ℕ) (c : VolumeCore) → IsWholeCore size c → uses c.known.table ≤ c.known.table.booked
-core_uses size c whole = let few = waiting_cost c.pending in let all = uses_by size c whole 0 (omega arith) in
+-- as many blocks are booked as blocks of the free space are set or held
+pub memory_uses : (size : ℕ) (c : MemoryMap) → IsWholeMemory size c → uses c.known.table ≤ c.known.table.booked
+memory_uses size c whole = let few = waiting_cost c.pending in let all = uses_by size c whole 0 (omega arith) in
     omega arith
 
--- and one more where a version is being written
-pub core_uses_one : (size : ℕ) (c : VolumeCore) → IsWholeCore size c → (key : ℕ) (p : PendingVersion)
+-- and one more if a version is being written
+pub memory_uses_one : (size : ℕ) (c : MemoryMap) → IsWholeMemory size c → (key : ℕ) (p : PendingVersion)
     → slice_index_or c.pending key None ≡ Some p → uses c.known.table + 1 ≤ c.known.table.booked
-core_uses_one size c whole key p is = let one = waiting_one c.pending key p is in uses_by size c whole 1 (omega arith)
+memory_uses_one size c whole key p is = let one = waiting_one c.pending key p is in uses_by size c whole 1 (omega arith)
 
--- and as many as it still asks for, with what the directories grow by
-pub core_uses_more : (size : ℕ) (c : VolumeCore) → IsWholeCore size c → (key : ℕ) (p : PendingVersion)
+-- and as many as it still needs, with what the directories grow by
+pub memory_uses_more : (size : ℕ) (c : MemoryMap) → IsWholeMemory size c → (key : ℕ) (p : PendingVersion)
     → slice_index_or c.pending key None ≡ Some p → (more : ℕ)
     → more ≤ growths c.pending c.known.master.entries c.known.directories
     → uses c.known.table + (more + (1 + rib_count (length p.version.blocks))) ≤ c.known.table.booked
-core_uses_more size c whole key p is more few = let ribs = waiting_ribs c.pending key p is in
+memory_uses_more size c whole key p is more few = let ribs = waiting_ribs c.pending key p is in
     uses_by size c whole (more + (1 + rib_count (length p.version.blocks))) (omega arith)
 
 -- and as many as the directories grow by
-pub core_uses_grown : (size : ℕ) (c : VolumeCore) → IsWholeCore size c → (more : ℕ)
+pub memory_uses_grown : (size : ℕ) (c : MemoryMap) → IsWholeMemory size c → (more : ℕ)
     → more ≤ growths c.pending c.known.master.entries c.known.directories
     → uses c.known.table + more ≤ c.known.table.booked
-core_uses_grown size c whole more few = let rest = waiting_cost c.pending in uses_by size c whole more (omega arith)
+memory_uses_grown size c whole more few = let rest = waiting_cost c.pending in uses_by size c whole more (omega arith)
 
 stretch_at : (f : ℕ → ℕ) (k i : ℕ) → i < k → f i ≤ sum_below f k
 stretch_at f zero i below = absurd (omega arith)
@@ -257,9 +258,9 @@ stretch_at f (suc k) i below = ⊎_elim (λ less. let r = stretch_at f k i less 
     omega arith) (λ past. let same : i ≡ k = omega arith in let here = ap f same in omega arith) (cases_lt i k)
 
 -- a block is held no more often than blocks are booked
-pub core_holds : (size : ℕ) (c : VolumeCore) → IsWholeCore size c → (n : ℕ)
+pub memory_holds : (size : ℕ) (c : MemoryMap) → IsWholeMemory size c → (n : ℕ)
     → holds c.known.table n ≤ c.known.table.booked
-core_holds size c whole n = ⊎_elim
+memory_holds size c whole n = ⊎_elim
     (λ some.
     let t = c.known.table in
     let inside = whole.inside n some in
@@ -272,7 +273,7 @@ core_holds size c whole n = ⊎_elim
     let part = stretch_at (λ k. bit t (space_start t.size + k) + holds t (space_start t.size + k)) (space t.size) i
     (omega arith) in
     let here = ap (holds t) place in
-    let all = core_uses size c whole in
+    let all = memory_uses size c whole in
     omega arith)
     (λ none. omega arith) (cases_lt 0 (holds c.known.table n))
 
@@ -282,8 +283,8 @@ used_once zero (suc h) = grind (arith, nat_tests)
 used_once (suc b) h = grind (arith, nat_tests)
 
 -- no more blocks are in use than each time counted
-pub core_used : (size : ℕ) (c : VolumeCore) → IsWholeCore size c → used_in_space c.known.table ≤ uses c.known.table
-core_used size c whole =
+pub memory_used : (size : ℕ) (c : MemoryMap) → IsWholeMemory size c → used_in_space c.known.table ≤ uses c.known.table
+memory_used size c whole =
     let t = c.known.table in
     let s = space_start t.size in
     sum_le (λ i. used t (s + i)) (λ i. bit t (s + i) + holds t (s + i)) (space t.size)

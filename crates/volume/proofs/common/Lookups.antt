@@ -61,7 +61,7 @@ found_in_front {R = R} o all front rest is once =
     all_left (λ e. find R e.0 all ≡ Some e.1) front rest (subst (AllByRecursion (λ e. find R e.0 all ≡ Some e.1)) is
     (each_entry o (λ k y. find R k all ≡ Some y) all once (λ k y e. e)))
 
--- a key that is found stands somewhere
+-- a key that is found is at some place
 pub first_place : {K V : Type 0} {R : K → K → Ordering} (o : IsTotalOrder R) (exact : IsAntisymmetric R)
     (es : List (K × V)) (k : K) (v : V) → find R k es ≡ Some v → (i : ℕ) × StandsAt R es k v i
 first_place o exact [] k v is = absurd (some_none (sym is))

@@ -8,12 +8,12 @@ use Rattle.std.specs.Ordering.{nat_cmp, eq_by_cmp}
 use Rattle.std.specs.FinMap.{nat_cmp-IsAntisymmetric}
 use Rattle.std.specs.FinMap.Entries.{find}
 use Rattle.words36.specs.declared.names.FileName.{FileName}
-use Rattle.spec_image.specs.Common.{MasterEntry, FileEntry, name_cmp, total, times}
+use Rattle.spec_image.specs.Common.{SpecMasterEntry, SpecFileEntry, name_cmp, total, times}
 use Rattle.spec_image.proofs.Common.{some_same, some_none, tied, times-append, name_total, name_exact}
 use Rattle.alloctab.specs.Common.{bit}
 use Rattle.changeset.specs.Common.{times_head}
-use Rattle.volume.specs.Common.{KnownVersion, KnownDirectory, blocks_reached, reaches_in_entries, reaches_in_known}
-use Rattle.volume.specs.Common.{IsWholeDirectory, prime_in, VolumeCore, slot, current_reaches, IsWholeCore, prime_at}
+use Rattle.volume.specs.Common.{CurrentVersion, CurrentDirectory, blocks_reached, reaches_in_entries, reaches_in_known}
+use Rattle.volume.specs.Common.{IsWholeDirectory, prime_in, MemoryMap, slot, current_reaches, IsWholeMemory, prime_at}
 use Rattle.volume.specs.declared.live.LiveVersion.{LiveVersion}
 use Rattle.volume.proofs.common.TableBits.{bit_few}
 use Rattle.volume.proofs.PinVersion.Pins.{entries_within, total_at}
@@ -39,15 +39,15 @@ current_there live key n v there current at =
     let head = times_head n v.at (v.version.ribs ++ v.version.blocks) (sym at) in
     omega arith
 
--- no block stands in two places of the directories
-pub reached_once : (size : ℕ) (c : VolumeCore) → IsWholeCore size c → (n : ℕ)
+-- no block occurs in two places of the directories
+pub reached_once : (size : ℕ) (c : MemoryMap) → IsWholeMemory size c → (n : ℕ)
     → total (reaches_in_known n) c.known.directories ≤ 1
 reached_once size c whole n =
     let bits = whole.map.bits n in
     let few = bit_few c.known.table n in
     omega arith
 
-pub one_key : (size : ℕ) (c : VolumeCore) → IsWholeCore size c → (key key' : ℕ) (v v' : LiveVersion)
+pub one_key : (size : ℕ) (c : MemoryMap) → IsWholeMemory size c → (key key' : ℕ) (v v' : LiveVersion)
     → slot c.live key ≡ Some v → slot c.live key' ≡ Some v' → v.is_current ≡ true → v'.is_current ≡ true
     → v.at ≡ v'.at → key ≡ key'
 one_key size c whole key key' v v' there there' current current' same = ⊎_elim
@@ -61,8 +61,8 @@ one_key size c whole key key' v v' there there' current current' same = ⊎_elim
     let once = reached_once size c whole v'.at in
     absurd (omega arith)) (cases_eq key key')
 
--- The prime block of a current version is set; it stands in no other one, and is no data block of its own.
-module _ (size : ℕ) (c : VolumeCore) (whole : IsWholeCore size c) (key : ℕ) (v : LiveVersion)
+-- The prime block of a current version is set; it occurs in no other one, and is no data block of its own.
+module _ (size : ℕ) (c : MemoryMap) (whole : IsWholeMemory size c) (key : ℕ) (v : LiveVersion)
     (there : slot c.live key ≡ Some v) (current : v.is_current ≡ true) where
   current_once : total (current_reaches v.at) c.live ≤ 1
   current_once =
@@ -115,10 +115,10 @@ module _ (size : ℕ) (c : VolumeCore) (whole : IsWholeCore size c) (key : ℕ) 
 
 module _ (n : ℕ) where
   -- an entry reaches its prime block
-  first_reaches : (e : FileEntry) (v : KnownVersion) → e.1 ≡ n → 0 < times n (blocks_reached e.1 v.version)
+  first_reaches : (e : SpecFileEntry) (v : CurrentVersion) → e.1 ≡ n → 0 < times n (blocks_reached e.1 v.version)
   first_reaches e v at = let head = times_head n e.1 (v.version.ribs ++ v.version.blocks) (sym at) in omega arith
 
-  name_reaches : (es : List FileEntry) (vs : List KnownVersion) (name : FileName) → length vs ≡ length es
+  name_reaches : (es : List SpecFileEntry) (vs : List CurrentVersion) (name : FileName) → length vs ≡ length es
       → find name_cmp name es ≡ Some n → 0 < reaches_in_entries n es vs
   name_reaches [] vs name same is = absurd (some_none (sym is))
   name_reaches (e ∷ es) [] name same is = absurd (omega arith)
@@ -131,7 +131,7 @@ module _ (n : ℕ) where
       by true at later = let here = first_reaches e v (some_same at) in omega arith
       by false at later = let rest = later at in omega arith
 
-  one_name : (es : List FileEntry) (vs : List KnownVersion) (name name' : FileName) → length vs ≡ length es
+  one_name : (es : List SpecFileEntry) (vs : List CurrentVersion) (name name' : FileName) → length vs ≡ length es
       → reaches_in_entries n es vs ≤ 1 → find name_cmp name es ≡ Some n → find name_cmp name' es ≡ Some n → name ≡ name'
   one_name [] vs name name' same once is is' = absurd (some_none (sym is))
   one_name (e ∷ es) [] name name' same once is is' = absurd (omega arith)
@@ -149,7 +149,7 @@ module _ (n : ℕ) where
           let rest = name_reaches es vs name (omega arith) at in omega arith)
       by false false t t' at at' later = later at at'
 
-  place_reaches : (size : ℕ) (es : List MasterEntry) (ds : List KnownDirectory) (ppn : ℕ) (name : FileName)
+  place_reaches : (size : ℕ) (es : List SpecMasterEntry) (ds : List CurrentDirectory) (ppn : ℕ) (name : FileName)
       → AllByRecursion (IsWholeDirectory size) ds → prime_in es ds ppn name ≡ Some n → 0 < total (reaches_in_known n) ds
   place_reaches size [] ds ppn name all is = absurd (some_none (sym is))
   place_reaches size (e ∷ es) [] ppn name all is = absurd (some_none (sym is))
@@ -162,7 +162,7 @@ module _ (n : ℕ) where
       by true at later = let here = name_reaches d.chain.entries d.versions name all.0.aligned at in omega arith
       by false at later = let rest = later at in omega arith
 
-  places_one : (size : ℕ) (es : List MasterEntry) (ds : List KnownDirectory) (ppn ppn' : ℕ) (name name' : FileName)
+  places_one : (size : ℕ) (es : List SpecMasterEntry) (ds : List CurrentDirectory) (ppn ppn' : ℕ) (name name' : FileName)
       → AllByRecursion (IsWholeDirectory size) ds → total (reaches_in_known n) ds ≤ 1
       → prime_in es ds ppn name ≡ Some n → prime_in es ds ppn' name' ≡ Some n → (ppn ≡ ppn') × (name ≡ name')
   places_one size [] ds ppn ppn' name name' all once is is' = absurd (some_none (sym is))
@@ -188,7 +188,7 @@ module _ (n : ℕ) where
           let rest = place_reaches size es ds ppn name all.1 at in omega arith)
       by false false t t' at at' later = later at at'
 
-pub one_place : (size : ℕ) (c : VolumeCore) → IsWholeCore size c → (ppn ppn' : ℕ) (name name' : FileName) (n : ℕ)
+pub one_place : (size : ℕ) (c : MemoryMap) → IsWholeMemory size c → (ppn ppn' : ℕ) (name name' : FileName) (n : ℕ)
     → prime_at c ppn name ≡ Some n → prime_at c ppn' name' ≡ Some n → (ppn ≡ ppn') × (name ≡ name')
 one_place size c whole ppn ppn' name name' n is is' =
     places_one n size c.known.master.entries c.known.directories ppn ppn' name name' whole.map.each

@@ -5,7 +5,7 @@ use Rattle.changeset.specs.Common.{IsShut, AtRest}
 use Rattle.spec_image.specs.Common.{File, Files, layout_of, pack_of, SettledStandsOn, StandsOn, IsGateOpen, IsSettled}
 use Rattle.spec_image.specs.Common.{Pack, DiskMap}
 use Rattle.spec_image.proofs.Common.{layout_is, layouts_agree, settled_layout, settled_same}
-use Rattle.volume.specs.Common.{KeepsHomes, Known, IsHeld, RestsAt, StandsForOneOf}
+use Rattle.volume.specs.Common.{KeepsHomes, CurrentMap, MatchesMap, RestsAt, StandsForOneOf}
 
 -- a pack is a layout and a size
 pack_same : (p q : Pack) → p.layout ≡ q.layout → p.blocks ≡ q.blocks → p ≡ q
@@ -20,7 +20,7 @@ stands_in_one p q contents f g blocks x y =
     pack_same p q (sym (settled_layout p x.0 f x.2) ∙ (λ i. layout_of (blocks i) (settled i))
     ∙ settled_layout q y.0 g y.2) blocks
 
--- Settled contents tell the pack in which they stand.
+-- Settled contents determine the pack in which they stand for files.
 pub pack_here : (s : DiskState) (pack : Pack) (files : Files File) → pack.blocks ≡ s.size
     → SettledStandsOn pack s.contents files → pack_of s ≡ pack
 pack_here s pack files size stands =
@@ -38,7 +38,7 @@ rests_in s pack files size rest = subst (λ (p : Pack). AtRest s (λ c. SettledS
     (sym (pack_rests s pack files size rest)) rest
 
 -- The map of a disk at rest is in its layout.
-pub pack_held : (s : DiskState) (k : Known) (m : DiskMap) → AtRest s (IsHeld s.size k m)
+pub pack_held : (s : DiskState) (k : CurrentMap) (m : DiskMap) → AtRest s (MatchesMap s.size k m)
     → m.layout ≡ (pack_of s).layout
 pack_held s k m rest = sym (layout_is s.size s.contents _ (rest.all s.contents (λ n closed. refl)).stands.mapped.home)
 

@@ -1,4 +1,4 @@
--- Lists in another order, and lists beside the places of their elements.
+-- Lists in another order, and lists with the places of their elements.
 use Rattle.std.proofs.Common.{◌≡◌, ◌==◌, ℕ, zero, suc, ◌+◌, ◌<◌, ◌≤◌, List, [], ◌∷◌, ◌++◌, map, length, Bool, true}
 use Rattle.std.proofs.Common.{false, cond, Some, None, Ordering, refl, sym, ap, subst, ◌∙◌, arith}
 use Rattle.std.specs.Cmp.{IsTotalOrder}
@@ -93,10 +93,10 @@ module _ {K X : Type 0} {R : K → K → Ordering} (o : IsTotalOrder R) (exact :
       let most = once_counted es once k in
       omega arith)
 
--- Lists beside the places of their elements.
+-- Lists with the places of their elements.
 
 module _ {A : Type 0} where
-  -- each element stands at its place
+  -- each element is at its place
   pub all_at_place : (all xs : List A) (k : ℕ) → ((i : ℕ) → slice_get all (k + i) ≡ slice_get xs i)
       → AllByRecursion (λ t. slice_get all t.0 ≡ Some t.1) (enumerate_from k xs)
   all_at_place all [] k at = tt

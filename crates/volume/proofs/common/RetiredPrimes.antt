@@ -1,17 +1,18 @@
--- A file's version goes, or stays for its readers alone: the prime blocks of the others are held as little as before.
+-- A file's version is removed, or stays for its readers alone: the prime blocks of the others are held as little as
+-- before.
 use Rattle.std.proofs.Common.{◌≡◌, ⊎_elim, ℕ, ◌+◌, true, Some, sym, ap, ◌∙◌, arith}
 use Rattle.std.proofs.lemmas.Bool.{cases_eq}
 use Rattle.alloctab.specs.Common.{holds}
-use Rattle.volume.specs.Common.{VolumeCore, slot, held_reaches, IsWholeCore, live_left}
+use Rattle.volume.specs.Common.{MemoryMap, slot, pinned_reaches, IsWholeMemory, live_left}
 use Rattle.volume.specs.declared.live.LiveVersion.{LiveVersion}
 use Rattle.volume.proofs.common.OnePlace.{first_elsewhere}
-use Rattle.volume.proofs.PublishVersion.Core.{not_left}
+use Rattle.volume.proofs.PublishVersion.Memory.{not_left}
 use Rattle.volume.proofs.PublishVersion.Slots.{counts}
 
-pub retired_primes : (size : ℕ) (c c' : VolumeCore) (key : ℕ) (v : LiveVersion) → IsWholeCore size c
+pub retired_primes : (size : ℕ) (c c' : MemoryMap) (key : ℕ) (v : LiveVersion) → IsWholeMemory size c
     → slot c.live key ≡ Some v → v.is_current ≡ true → slot c'.live key ≡ live_left (Some (key, v))
     → ((k : ℕ) → (k ≡ key → ⊥) → slot c'.live k ≡ slot c.live k)
-    → ((n : ℕ) → holds c'.known.table n ≡ holds c.known.table n + held_reaches n (live_left (Some (key, v))))
+    → ((n : ℕ) → holds c'.known.table n ≡ holds c.known.table n + pinned_reaches n (live_left (Some (key, v))))
     → (k : ℕ) (u : LiveVersion) → slot c'.live k ≡ Some u → u.is_current ≡ true → holds c'.known.table u.at ≡ 0
 retired_primes size c c' key v whole there current ended others held k u at of_file = ⊎_elim
     (λ (same : k ≡ key). absurd (not_left v u (sym ended ∙ ap (slot c'.live) (sym same) ∙ at) of_file))

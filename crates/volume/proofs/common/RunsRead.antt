@@ -53,7 +53,7 @@ runs_more P runs i run below is ordered before here =
         ∙ flat_map-append run_blocks (pairs_of (take i runs)) (pair_of run ∷ [])
         ∙ ap (λ (l : List ℕ). blocks_of_runs (take i runs) ++ l) (append-nil (run_blocks (pair_of run)))
 
--- Each block of a list stands in it.
+-- Each block of a list occurs in it.
 
 all_of_places : (P : ℕ → Type 0) (xs : List ℕ) → ((i : ℕ) → i < length xs → P (get_or xs i 0)) → AllByRecursion P xs
 all_of_places P [] each = tt
@@ -62,6 +62,6 @@ all_of_places P (x ∷ xs) each = (each 0 (omega arith), all_of_places P xs (λ 
 pub each_stands : (blocks : List ℕ) → AllByRecursion (λ n. 0 < times n blocks) blocks
 each_stands blocks = all_of_places (λ n. 0 < times n blocks) blocks (λ i below. times_get blocks i below)
 
--- a block that is whole where nothing changed was whole before
+-- a block that is whole after nothing changed was whole before
 pub whole_before : (c d : Contents) (n : ℕ) → ((n : ℕ) → d n ≡ c n) → IsWholeBlock d n → IsWholeBlock c n
 whole_before c d n same whole = record { words = whole.words; holds = sym (same n) ∙ whole.holds; all = whole.all }

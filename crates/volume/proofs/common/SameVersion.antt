@@ -1,4 +1,4 @@
--- A version is the same but for what its prime block says, and the others stay.
+-- A version is the same except for what its prime block says, and the others stay.
 use Rattle.std.proofs.Common.{◌≡◌, ℕ, ⊎_elim, true, Option, Some, None, refl, sym, ap, subst, ◌∙◌, arith}
 use Rattle.std.proofs.lemmas.Bool.{cases_eq}
 use Rattle.words36.specs.declared.names.FileName.{FileName}
@@ -7,12 +7,12 @@ use Rattle.spec_image.specs.Common.{total}
 use Rattle.spec_image.proofs.Common.{some_same}
 use Rattle.alloctab.specs.Common.{holds}
 use Rattle.retrieval.specs.declared.prime.Prime.{Prime}
-use Rattle.volume.specs.Common.{prime_in, VolumeCore, slot, pending_at, IsCurrentAt, HasSomeBody}
+use Rattle.volume.specs.Common.{prime_in, MemoryMap, slot, pending_at, IsCurrentAt, HasSomeBody}
 use Rattle.volume.specs.declared.live.LiveVersion.{LiveVersion}
 use Rattle.volume.proofs.common.LiveBodies.{HaveBodies}
 use Rattle.volume.proofs.common.LiveTotals.{total_updated}
 
-module _ (c c' : VolumeCore) (key : ℕ) (v : LiveVersion) (prime : Prime) (there : slot c.live key ≡ Some v)
+module _ (c c' : MemoryMap) (key : ℕ) (v : LiveVersion) (prime : Prime) (there : slot c.live key ≡ Some v)
     (here : slot c'.live key ≡ Some (record v { prime = prime }))
     (others : (k : ℕ) → (k ≡ key → ⊥) → slot c'.live k ≡ slot c.live k) where
   pub version_held : (k : ℕ) (u : LiveVersion) → slot c.live k ≡ Some u

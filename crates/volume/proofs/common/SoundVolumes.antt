@@ -1,8 +1,8 @@
--- A volume stays sound if its core does: its layout is that of the home copies, which stay.
+-- A volume stays sound if its memory does: its layout is that of the home copies, which stay.
 use Rattle.std.proofs.Common.{◌≡◌, Bool, true, false, Result, IsErrOf, sym, ◌∙◌}
 use Rattle.blockdisk.specs.Common.{DiskState}
 use Rattle.spec_image.specs.declared.layout.Layout.{Layout}
-use Rattle.volume.specs.Common.{KeepsHomes, VolumeCore, IsSoundCore, IsSoundVolume}
+use Rattle.volume.specs.Common.{KeepsHomes, MemoryMap, IsSoundMemory, IsSoundVolume}
 use Rattle.volume.specs.declared.error.CallError.{CallError}
 use Rattle.volume.specs.declared.error.CallError.TheVariants.{Device, Failed}
 use Rattle.volume.proofs.common.Packs.{homes_layout}
@@ -10,17 +10,17 @@ use Rattle.volume.proofs.common.Packs.{homes_layout}
 pub not_both : (failed : Bool) → failed ≡ true → failed ≡ false → ⊥
 not_both failed is not = cc
 
--- where nothing is written
-pub volume_stays : (s : DiskState) (c c' : VolumeCore) (failed : Bool) (layout : Layout)
-    → IsSoundVolume s c failed layout → IsSoundCore s c' failed → IsSoundVolume s c' failed layout
-volume_stays s c c' failed layout was core = record { core = core; layout_is = was.layout_is }
+-- if nothing is written
+pub volume_stays : (s : DiskState) (c c' : MemoryMap) (failed : Bool) (layout : Layout)
+    → IsSoundVolume s c failed layout → IsSoundMemory s c' failed → IsSoundVolume s c' failed layout
+volume_stays s c c' failed layout was memory = record { map = memory; layout_is = was.layout_is }
 
-pub volume_goes_on : (s s' : DiskState) (c c' : VolumeCore) (failed failed' : Bool) (layout : Layout)
-    → IsSoundVolume s c failed layout → IsSoundCore s' c' failed' → s'.size ≡ s.size → (s'.honest → s.honest)
+pub volume_goes_on : (s s' : DiskState) (c c' : MemoryMap) (failed failed' : Bool) (layout : Layout)
+    → IsSoundVolume s c failed layout → IsSoundMemory s' c' failed' → s'.size ≡ s.size → (s'.honest → s.honest)
     → (failed' ≡ false → failed ≡ false)
     → (s'.honest → failed' ≡ false → KeepsHomes s.contents s'.contents) → IsSoundVolume s' c' failed' layout
-volume_goes_on s s' c c' failed failed' layout was core size honest alive homes = record {
-  core = core;
+volume_goes_on s s' c c' failed failed' layout was memory size honest alive homes = record {
+  map = memory;
   layout_is = λ h ok. was.layout_is (honest h) (alive ok) ∙ sym (homes_layout s s' size (homes h ok));
 }
 

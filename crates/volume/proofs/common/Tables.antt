@@ -17,10 +17,10 @@ use Rattle.alloctab.specs.Common.{sound-booked, changed_blocks-le, changed_block
 use Rattle.alloctab.specs.Common.{SpellsTable}
 use Rattle.retrieval.specs.Common.{Takes, IsFixed}
 use Rattle.spec_image.proofs.Common.{times_here, times_later}
-use Rattle.retrieval.proofs.Taking.{free_before, free_in_space, used_one_more, takes_each}
+use Rattle.retrieval.proofs.TakenBlocks.{free_before, free_in_space, used_one_more, takes_each}
 use Rattle.volume.specs.Common.{Marks, taken, released, put_in_use, Uses, with_booked, TakesBlocks, PutsTable}
 
--- Given up.
+-- Released.
 
 -- a block that was taken is held
 pub taken_held : (t : TableState) (n : ℕ) → IsTable t → n < t.size → 0 < holds (taken t n) n
@@ -172,7 +172,7 @@ puts_marked t u t' before after marks is others spells in_range few = subst
         let place : n ≡ table_start u.size + i = at.block in
         ⊎_elim (λ low. omega arith) (λ high. omega arith) away
 
--- Where one block was taken, another one is still booked.
+-- If one block was taken, another one is still booked.
 pub second_booked : (t u : TableState) (n : ℕ) (grows : Bool) → grows ≡ true → IsTable t → IsFixed t → n < t.size
     → IsFree t n → u ≡ taken t n → used_in_space t + (if grows then 2 else 1) ≤ t.booked → used_in_space u < u.booked
 second_booked t u n false grown sound fixed inside free took enough = cc
@@ -192,7 +192,7 @@ pub first_of : (t : TableState) (n : ℕ) (o : Option ℕ) (t' : TableState) →
     → t' ≡ taken t n
 first_of t n o t' is takes = (subst (λ (p : Option ℕ). Takes t (n ∷ option_to_list p) t') is takes).2
 
--- given up
+-- released
 pub gives_two : (t : TableState) (n k : ℕ) (o : Option ℕ) (t' v w : TableState) → o ≡ Some k → IsTable t
     → Takes t (n ∷ option_to_list o) t' → v ≡ released t' k → w ≡ released v n → w ≡ t
 gives_two t n k o t' v w is sound takes first second =

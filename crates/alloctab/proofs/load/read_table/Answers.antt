@@ -1,8 +1,8 @@
 use Rattle.std.proofs.Common.{◌∙◌, rules}
 use Rattle.std.proofs.lemmas.Result.{err_from_is_err_and}
 use Rattle.blockdisk.specs.Common.{same_contents, same_disk_on}
-use Rattle.alloctab.proofs.TableReading.{read_more, bad_moved, reads_moved, past_moved}
-use Rattle.changeset.proofs.Reading.{only_reads_on}
+use Rattle.alloctab.proofs.TableBlocks.{read_more, bad_moved, reads_moved, past_moved}
+use Rattle.changeset.proofs.LogRead.{only_reads_on}
 use Rattle.alloctab.proofs.load.read_table.Goals as goal
 
 pub returns-in_err-read_bits-clause-wrong : goal.returns-in_err-read_bits-clause-wrong

@@ -2,7 +2,7 @@ use Rattle.std.proofs.Common.{◌≡◌, length}
 use Rattle.blockdisk.specs.Common.{SameDisk}
 use Rattle.changeset.specs.Common.{OnlyReads}
 use Rattle.alloctab.specs.Common.{word_bit, IsClearFrom}
-use Rattle.alloctab.proofs.TableReading.{IsTableBelow}
+use Rattle.alloctab.proofs.TableBlocks.{IsTableBelow}
 use Rattle.alloctab.proofs.load.read_table.Given as goal
 
 abbrev pub invariant-loop-i : goal.invariant-loop-i

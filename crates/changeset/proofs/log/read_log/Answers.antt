@@ -6,8 +6,8 @@ use Rattle.spec_image.specs.declared.put.Put.{Put}
 use Rattle.spec_image.specs.Common.{IsTarget, targets, log_header, log_start}
 use Rattle.changeset.specs.declared.error.LogError.TheVariants.{BadLog}
 use Rattle.changeset.specs.Common.{IsNextTarget, AreDistinct, all_behind, targets-behind, distinct_behind}
-use Rattle.changeset.proofs.Reading.{IsFront, only_reads_on, count_is, next_put_at, all_read, front_more, different}
-use Rattle.changeset.proofs.Reading.{not_different, passed_on}
+use Rattle.changeset.proofs.LogRead.{IsFront, only_reads_on, count_is, next_put_at, all_read, front_more, different}
+use Rattle.changeset.proofs.LogRead.{not_different, passed_on}
 use Rattle.changeset.proofs.log.read_log.Goals as goal
 
 pub returns-in_err-read_put-clause-bad : goal.returns-in_err-read_put-clause-bad

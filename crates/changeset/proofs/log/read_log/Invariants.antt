@@ -3,7 +3,7 @@ use Rattle.std.specs.List.{AllByRecursion}
 use Rattle.blockdisk.specs.Common.{SameDisk}
 use Rattle.spec_image.specs.Common.{IsTarget, targets}
 use Rattle.changeset.specs.Common.{AreDistinct, OnlyReads}
-use Rattle.changeset.proofs.Reading.{IsFront}
+use Rattle.changeset.proofs.LogRead.{IsFront}
 use Rattle.changeset.proofs.log.read_log.Given as goal
 
 abbrev pub invariant-loop-i : goal.invariant-loop-i

@@ -2,7 +2,7 @@ use Rattle.std.proofs.Common.{inr}
 use Rattle.std.proofs.lemmas.Result.{on_ok_weaker}
 use Rattle.blockdisk.specs.Common.{MayLeave, syncs_still, still_on, leaves_still, fails_leaves}
 use Rattle.changeset.specs.Common.{IsLost, ArePending, IsRecovered}
-use Rattle.changeset.proofs.Redoing.{along, syncing_leaves, recovering_leaves, synced_leaves}
+use Rattle.changeset.proofs.RecoveryCrashes.{along, syncing_leaves, recovering_leaves, synced_leaves}
 use Rattle.changeset.proofs.recovery.recover.Goals as goal
 
 pub returns-in_err-sync-clause-crash : goal.returns-in_err-sync-clause-crash

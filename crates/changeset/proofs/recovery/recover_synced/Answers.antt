@@ -2,8 +2,8 @@ use Rattle.std.proofs.Common.{◌≡◌, Bool, Result, Ok, true, false, sym, ap,
 use Rattle.std.proofs.lemmas.Result.{err_from_is_err_and}
 use Rattle.changeset.specs.Common.{ArePending}
 use Rattle.changeset.specs.declared.error.LogError.TheVariants.{BadLog}
-use Rattle.changeset.proofs.Reading.{passed_on}
-use Rattle.changeset.proofs.Redoing.{reading_leaves, redone_leaves, redone_recovered, closed_recovered}
+use Rattle.changeset.proofs.LogRead.{passed_on}
+use Rattle.changeset.proofs.RecoveryCrashes.{reading_leaves, redone_leaves, redone_recovered, closed_recovered}
 use Rattle.changeset.proofs.recovery.recover_synced.Goals as goal
 
 -- what was found

@@ -1,4 +1,4 @@
-use Rattle.commands.proofs.SayingLaws.{differ, says_no_fields}
+use Rattle.commands.proofs.SpokenLaws.{differ, says_no_fields}
 use Rattle.commands.proofs.grammar.command_of.Goals as goal
 
 pub returns-in_err-word : goal.returns-in_err-word

@@ -1,6 +1,6 @@
 use Rattle.std.proofs.Common.{refl}
-use Rattle.commands.proofs.SayingLaws.{agree, differ, says_no_login, says_no_directory, says_no_makdir, says_no_copy}
-use Rattle.commands.proofs.SayingLaws.{says_no_type, says_no_rename, says_no_delete, says_no_protect, says_no_word}
+use Rattle.commands.proofs.SpokenLaws.{agree, differ, says_no_login, says_no_directory, says_no_makdir, says_no_copy}
+use Rattle.commands.proofs.SpokenLaws.{says_no_type, says_no_rename, says_no_delete, says_no_protect, says_no_word}
 use Rattle.commands.proofs.grammar.command_with.Goals as goal
 
 pub returns-in_err-bracketed : goal.returns-in_err-bracketed

@@ -5,7 +5,7 @@ use Rattle.spec_image.proofs.Common.{stands_in_any}
 use Rattle.monitor.specs.Common.{ServesFiles, Serves}
 use Rattle.monitor.proofs.Events.Along.{no_fault, ok_each, ok_pair, start_in}
 use Rattle.commands.proofs.StoppedLaws.{found_left}
-use Rattle.volume.proofs.common.Handing.{found_named}
+use Rattle.volume.proofs.common.PassedErrors.{found_named}
 use Rattle.commands.proofs.restart.start_after_acts.Goals as goal
 
 pub returns : goal.returns

@@ -5,7 +5,7 @@ use Rattle.commands.proofs.run.take_bytes.Goals as goal
 
 pub loop-byte-init : goal.loop-byte-init
 loop-byte-init g c = steps_none c.args.language g.S.FileService.machine g.met.S.FileService.stands _ _
-    c.args.moment c.args.talk.now
+    c.args.moment c.args.session.now
 
 pub loop-byte-preserved : goal.loop-byte-preserved
 loop-byte-preserved g c = steps_at c.args.language g.S.FileService.machine _ _ _ _ _ _ _ _ _ _ c.args.piece.now

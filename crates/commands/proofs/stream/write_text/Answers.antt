@@ -1,6 +1,6 @@
 use Rattle.std.proofs.Common.{arith, refl}
 use Rattle.std.proofs.KnownBytes.{Appends-kept}
-use Rattle.commands.proofs.WritingLaws.{wrote_more, wrote_part}
+use Rattle.commands.proofs.WriterLaws.{wrote_more, wrote_part}
 use Rattle.commands.proofs.stream.write_text.Goals as goal
 
 pub loop-place-preserved : goal.loop-place-preserved

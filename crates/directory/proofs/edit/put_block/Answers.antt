@@ -7,13 +7,13 @@ use Rattle.directory.proofs.edit.put_block.Goals as goal
 
 pub returns-clause-set : goal.returns-clause-set
 returns-clause-set g c =
-    let words = g.E.Entry.words_of in
+    let words = g.E.ChainEntry.words_of in
     let image = c.block_image-words.ensures
     ∙ ap (λ n. directory_block words n
-    (map g.E.Entry.view (take c.min-count.result (take (length c.args.entries.now - 42 * c.args.k)
+    (map g.E.ChainEntry.view (take c.min-count.result (take (length c.args.entries.now - 42 * c.args.k)
     (drop (42 * c.args.k) c.args.entries.now))))) c.block_after.ensures
     ∙ ap (directory_block words (get_or c.args.blocks.now (suc c.args.k) 0))
-    (sliced g.E.Entry.view c.args.entries.now (42 * c.args.k) 42 c.min-count.result c.min-count.ensures) in
+    (sliced g.E.ChainEntry.view c.args.entries.now (42 * c.args.k) 42 c.min-count.result c.min-count.ensures) in
     c.in-Ok.ensures.ok ∙ ap (λ (ws : List ℕ).
     replaced (record { block = get_or c.args.blocks.now c.args.k 0; words = ws }) c.args.set.now) image
 

@@ -2,7 +2,7 @@ use Rattle.std.proofs.Common.{◌≡◌, List, length, ap, sym, subst, ◌∙◌
 use Rattle.spec_machine.specs.declared.area.Area.{Area}
 use Rattle.exchange.specs.Turns.{addresses}
 use Rattle.exchange.specs.Exchanges.{AreTold}
-use Rattle.exchange.proofs.ObeyingLaws.{few_told}
+use Rattle.exchange.proofs.OrderLaws.{few_told}
 use Rattle.exchange.proofs.TurnLaws.{appended_answer, turned, turned_down}
 use Rattle.exchange.proofs.turns.take_turn.Goals as goal
 
@@ -20,7 +20,7 @@ pub unreachable-requires : goal.unreachable-requires
 unreachable-requires g c =
     let told = subst (λ (areas : List Area). AreTold (g.S.FileService.machine c.args.service.now) c.in-Some.order areas)
     (sym c.deref-2.ensures.value) c.in_ok-areas.ensures.told in
-    let obeyed = c.obey-answer.ensures c.args.header.now c.in-Some.ensures.is.0 c.in-Some.ensures.is.1 told in
+    let obeyed = c.serve_order-answer.ensures c.args.header.now c.in-Some.ensures.is.0 c.in-Some.ensures.is.1 told in
     let few = few_told g.S.FileService.machine _ _ _ _ _ _ _ _ told obeyed in
     let groups = ap length c.deref-3.ensures.value in
     let asked : length (addresses c.deref.result.now) ≡ length (addresses c.deref-2.result.now)
@@ -35,10 +35,10 @@ pub returns-clause-ok : goal.returns-clause-ok
 returns-clause-ok g c =
     let told = subst (λ (areas : List Area). AreTold (g.S.FileService.machine c.args.service.now) c.in-Some.order areas)
     (sym c.deref-2.ensures.value) c.in_ok-areas.ensures.told in
-    let obeyed = c.obey-answer.ensures c.args.header.now c.in-Some.ensures.is.0 c.in-Some.ensures.is.1 told in
+    let obeyed = c.serve_order-answer.ensures c.args.header.now c.in-Some.ensures.is.0 c.in-Some.ensures.is.1 told in
     turned g.S.FileService.machine _ _ _ _ _ _ _ _ _ _ _ _ c.requires
     c.in-Some.ensures.is.1 obeyed
     (appended_answer c.args.answers.now.items c.answer_room.new.answers.items c.push_answer.new.bytes.items
-    c.obey-answer.result c.obey-answer.new.groups.items c.deref-3.result.now c.in-Ok.ensures.ok
+    c.serve_order-answer.result c.serve_order-answer.new.groups.items c.deref-3.result.now c.in-Ok.ensures.ok
     c.in_ok-groups.ensures.kept c.deref-3.ensures.value)
     c.count.ensures.refused c.count.ensures.broke c.count.ensures.reason

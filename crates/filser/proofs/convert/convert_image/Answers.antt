@@ -1,6 +1,6 @@
 use Rattle.std.proofs.Common.{inl, inr}
-use Rattle.imagefile.specs.Common.{unseen_in}
-use Rattle.filser.proofs.Imaging.{converted}
+use Rattle.imagefile.specs.Common.{assumed_in}
+use Rattle.filser.proofs.ImageOutcomes.{converted}
 use Rattle.filser.proofs.convert.convert_image.Goals as goal
 
 pub returns-in-Some-clause-ran : goal.returns-in-Some-clause-ran
@@ -13,7 +13,7 @@ pub returns-in-Ok-clause-ran : goal.returns-in-Ok-clause-ran
 returns-in-Ok-clause-ran g c =
     let p = c.convert_disk.ensures.ran in
     converted (g.H.Host.facts c.args.host.now) _ _ _ _ c.args.conversion.now.path.now
-    c.args.conversion.now.new.now c.args.conversion.now.form (unseen_in c.args.leaves.image.supposed)
-    (unseen_in c.args.leaves.new.supposed) c.args.leaves.image c.args.leaves.new c.in-Ok.disk p.0
+    c.args.conversion.now.new.now c.args.conversion.now.form (assumed_in c.args.leaves.image.supposed)
+    (assumed_in c.args.leaves.new.supposed) c.args.leaves.image c.args.leaves.new c.in-Ok.disk p.0
     c.convert_disk.result.image c.convert_disk.result.new p.1
     c.in-Ok.ensures.opened c.in-Ok.ensures.began c.in-Ok.ensures.counted p.2 p.3 p.4

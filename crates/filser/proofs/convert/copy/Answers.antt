@@ -1,5 +1,5 @@
 use Rattle.std.proofs.Common.{sym, ◌∙◌}
-use Rattle.filser.proofs.Imaging.{copied_all, copy_refused}
+use Rattle.filser.proofs.ImageOutcomes.{copied_all, copy_refused}
 use Rattle.filser.proofs.convert.copy.Goals as goal
 
 pub returns-clause-copied : goal.returns-clause-copied

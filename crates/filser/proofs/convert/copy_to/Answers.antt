@@ -1,6 +1,6 @@
 use Rattle.std.proofs.Common.{◌∙◌, refl, subst, inl, inr}
 use Rattle.filser.specs.Common.{IsLine, converted_text}
-use Rattle.filser.proofs.Imaging.{copy_fault, on_ok}
+use Rattle.filser.proofs.ImageOutcomes.{copy_fault, on_ok}
 use Rattle.filser.proofs.convert.copy_to.Goals as goal
 
 pub returns-in-Ok-clause-ran : goal.returns-in-Ok-clause-ran

@@ -1,4 +1,4 @@
-use Rattle.filser.proofs.Imaging.{refused_by}
+use Rattle.filser.proofs.ImageOutcomes.{refused_by}
 use Rattle.filser.proofs.convert.taken.Goals as goal
 
 pub returns-in-Ok-clause-taken : goal.returns-in-Ok-clause-taken

@@ -1,6 +1,6 @@
 use Rattle.std.proofs.Common.{inr, refl, sym}
-use Rattle.imagefile.specs.Common.{other_form, unseen_in}
-use Rattle.filser.proofs.Imaging.{alone_on, on_copy}
+use Rattle.imagefile.specs.Common.{other_form, assumed_in}
+use Rattle.filser.proofs.ImageOutcomes.{alone_on, on_copy}
 use Rattle.filser.proofs.convert.write_new.Goals as goal
 
 pub returns-in-Ok-clause-ran : goal.returns-in-Ok-clause-ran
@@ -12,7 +12,7 @@ returns-in-Ok-clause-ran g c =
       λ was same alone. alone_on _ _ _ same.size p.3.was_honest alone p.4,
       on_copy (g.H.Host.facts c.args.host.now) _ _ _ _ c.args.conversion.now.new.now
           (other_form c.args.conversion.now.form) (other_form c.args.conversion.now.form) c.blocks-2.result
-          (unseen_in c.args.leave.supposed) _ _
+          (assumed_in c.args.leave.supposed) _ _
           c.in-Ok.target p.1 c.copy_to.result.new refl c.blocks-2.ensures c.in-Ok.ensures.made
           c.in-Ok.ensures.began c.in-Ok.ensures.counted p.5 p.6,
     )

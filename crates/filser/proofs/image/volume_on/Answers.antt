@@ -1,5 +1,5 @@
 use Rattle.std.proofs.Common.{refl}
-use Rattle.filser.proofs.Imaging.{empty_volume, no_volume}
+use Rattle.filser.proofs.ImageOutcomes.{empty_volume, no_volume}
 use Rattle.filser.proofs.image.volume_on.Goals as goal
 
 pub returns-in-Ok-clause-empty : goal.returns-in-Ok-clause-empty

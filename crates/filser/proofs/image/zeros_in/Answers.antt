@@ -1,4 +1,4 @@
-use Rattle.filser.proofs.Imaging.{same_ok}
+use Rattle.filser.proofs.ImageOutcomes.{same_ok}
 use Rattle.filser.proofs.image.zeros_in.Goals as goal
 
 pub returns-in-Ok-disk_in-clause-began : goal.returns-in-Ok-disk_in-clause-began

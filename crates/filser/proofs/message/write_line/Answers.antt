@@ -1,6 +1,6 @@
 use Rattle.std.proofs.Common.{refl}
 use Rattle.std.proofs.lemmas.Result.{err_from_is_err_and}
-use Rattle.filser.proofs.Printing.{cut_on}
+use Rattle.filser.proofs.PrintedTexts.{cut_on}
 use Rattle.filser.proofs.message.write_line.Goals as goal
 
 pub returns-in_err-write_message : goal.returns-in_err-write_message

@@ -3,7 +3,7 @@ use Rattle.std.specs.Fmt.{decimal}
 use Rattle.std.proofs.KnownBytes.{Appends-trans}
 use Rattle.std.proofs.lemmas.Result.{err_from_is_err_and}
 use Rattle.std.specs.Io.KnownBytes.{Appends}
-use Rattle.filser.proofs.Printing.{cut_on, cut_behind, put_on, wrote}
+use Rattle.filser.proofs.PrintedTexts.{cut_on, cut_behind, put_on, wrote}
 use Rattle.filser.proofs.message.write_numbered.Goals as goal
 
 pub returns-in_err-write_text : goal.returns-in_err-write_text

@@ -2,7 +2,7 @@ use Rattle.std.proofs.Common.{inl, inr, map, refl}
 use Rattle.clap.specs.Words.{fault_of, subcommand_of}
 use Rattle.arguments.specs.CommandLine.{command_line}
 use Rattle.filser.proofs.ExitCodes.{bad_error, prints_only}
-use Rattle.filser.proofs.Naming.{spares_named}
+use Rattle.filser.proofs.NamedStreams.{spares_named}
 use Rattle.filser.proofs.Unasked.{ends_asked, ends_mistaken, ends_shown}
 use Rattle.filser.proofs.program.answer.Goals as goal
 

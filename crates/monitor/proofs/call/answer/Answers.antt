@@ -1,6 +1,6 @@
 use Rattle.std.proofs.Common.{refl}
 use Rattle.spec_machine.specs.declared.call.Call.TheVariants.{Open, Inbuf, Outbuf, Useti, Useto, Getsts}
-use Rattle.monitor.proofs.common.Calling.{keeps_same, reads_same}
+use Rattle.monitor.proofs.common.CallRows.{keeps_same, reads_same}
 use Rattle.monitor.proofs.common.Promised.{alone_serves, as_called}
 use Rattle.monitor.proofs.call.answer.Goals as goal
 
@@ -8,7 +8,7 @@ pub returns-in-Open-clause-serving : goal.returns-in-Open-clause-serving
 returns-in-Open-clause-serving g c =
     let volume = c.args.volume.now in
     let said = c.open.ensures in
-    as_called c.in-Open.is (alone_serves g.D.Disk.state g.met.D.Disk.only_now volume.disk volume.core volume.failed
+    as_called c.in-Open.is (alone_serves g.D.Disk.state g.met.D.Disk.only_now volume.disk volume.map volume.failed
     c.args.job.now c.open.new.job (Open c.in-Open.channel c.in-Open.address) c.args.moment c.open.result
     c.requires.ready.alive c.requires.ready.placed c.requires.timely said.row said.keeps said.reads said.only
     said.refused said.decided)
@@ -21,7 +21,7 @@ pub returns-in-Useti-clause-serving : goal.returns-in-Useti-clause-serving
 returns-in-Useti-clause-serving g c =
     let volume = c.args.volume.now in
     let said = c.useti.ensures in
-    as_called c.in-Useti.is (alone_serves g.D.Disk.state g.met.D.Disk.only_now volume.disk volume.core volume.failed
+    as_called c.in-Useti.is (alone_serves g.D.Disk.state g.met.D.Disk.only_now volume.disk volume.map volume.failed
     c.args.job.now c.useti.new.job (Useti c.in-Useti.channel c.in-Useti.block) c.args.moment c.useti.result
     c.requires.ready.alive c.requires.ready.placed c.requires.timely said.row said.keeps said.reads said.only
     said.refused said.decided)
@@ -30,7 +30,7 @@ pub returns-in-Useto-clause-serving : goal.returns-in-Useto-clause-serving
 returns-in-Useto-clause-serving g c =
     let volume = c.args.volume.now in
     let said = c.useto.ensures in
-    as_called c.in-Useto.is (alone_serves g.D.Disk.state g.met.D.Disk.only_now volume.disk volume.core volume.failed
+    as_called c.in-Useto.is (alone_serves g.D.Disk.state g.met.D.Disk.only_now volume.disk volume.map volume.failed
     c.args.job.now c.useto.new.job (Useto c.in-Useto.channel c.in-Useto.block) c.args.moment c.useto.result
     c.requires.ready.alive c.requires.ready.placed c.requires.timely said.row said.keeps said.reads said.only
     said.refused said.decided)
@@ -47,7 +47,7 @@ pub returns-in-Inbuf-clause-serving : goal.returns-in-Inbuf-clause-serving
 returns-in-Inbuf-clause-serving g c =
     let volume = c.args.volume.now in
     let said = c.inbuf.ensures in
-    as_called c.in-Inbuf.is (alone_serves g.D.Disk.state g.met.D.Disk.only_now volume.disk volume.core volume.failed
+    as_called c.in-Inbuf.is (alone_serves g.D.Disk.state g.met.D.Disk.only_now volume.disk volume.map volume.failed
     c.args.job.now c.inbuf.new.job (Inbuf c.in-Inbuf.channel c.in-Inbuf.count) c.args.moment c.inbuf.result
     c.requires.ready.alive c.requires.ready.placed c.requires.timely said.row said.keeps said.reads said.only
     said.refused said.decided)
@@ -56,7 +56,7 @@ pub returns-in-Outbuf-clause-serving : goal.returns-in-Outbuf-clause-serving
 returns-in-Outbuf-clause-serving g c =
     let volume = c.args.volume.now in
     let said = c.outbuf.ensures in
-    as_called c.in-Outbuf.is (alone_serves g.D.Disk.state g.met.D.Disk.only_now volume.disk volume.core volume.failed
+    as_called c.in-Outbuf.is (alone_serves g.D.Disk.state g.met.D.Disk.only_now volume.disk volume.map volume.failed
     c.args.job.now c.outbuf.new.job (Outbuf c.in-Outbuf.channel c.in-Outbuf.count) c.args.moment c.outbuf.result
     c.requires.ready.alive c.requires.ready.placed c.requires.timely said.row said.keeps said.reads said.only
     said.refused said.decided)
@@ -65,7 +65,7 @@ pub returns-in-Getsts-clause-serving : goal.returns-in-Getsts-clause-serving
 returns-in-Getsts-clause-serving g c =
     let volume = c.args.volume.now in
     let job = c.args.job.now in
-    as_called c.in-Getsts.is (alone_serves g.D.Disk.state g.met.D.Disk.only_now volume.disk volume.core volume.failed
+    as_called c.in-Getsts.is (alone_serves g.D.Disk.state g.met.D.Disk.only_now volume.disk volume.map volume.failed
     job job (Getsts c.in-Getsts.channel) c.args.moment c.getsts.result c.requires.ready.alive c.requires.ready.placed
     c.requires.timely c.getsts.ensures.row (λ pending. keeps_same pending job) (λ live. reads_same live job)
     c.getsts.ensures.only (λ code is. refl) (λ is. refl))

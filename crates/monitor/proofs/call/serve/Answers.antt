@@ -10,7 +10,7 @@ returns-then-number-len-clause-serving g c =
     let volume = c.args.volume.now in
     let none : slot c.args.jobs.now c.args.number ≡ None = slot_past c.args.jobs.now c.args.number
     (omega (arith, ap length c.jobs.view_is)) in
-    nobody_serves g.D.Disk.state g.met.D.Disk.only_now volume.disk volume.core volume.failed c.args.jobs.now
+    nobody_serves g.D.Disk.state g.met.D.Disk.only_now volume.disk volume.map volume.failed c.args.jobs.now
     c.args.jobs.now c.args.number c.args.call.now c.args.moment c.requires.alive c.requires.timely
     c.requires.keyed c.requires.placed c.requires.reading none refl
 
@@ -44,7 +44,7 @@ returns-clause-serving g c =
           let new = w.answer.new.volume in
           let set = ap (λ js. slice_set js c.args.number (Some w.answer.new.job)) c.jobs.view_is in
           rw (w.volume-is, w.result-is, w.jobs-inside-is) (
-          set_serves g.D.Disk.state g.met.D.Disk.only_now volume.disk new.disk volume.core new.core
+          set_serves g.D.Disk.state g.met.D.Disk.only_now volume.disk new.disk volume.map new.map
           new.failed jobs (slice_set items c.args.number (Some w.answer.new.job)) c.args.number w.in-Some.job
           w.answer.new.job c.args.call.now c.args.moment w.answer.result set
           (w.answer.ensures.serving jobs c.args.number
@@ -56,7 +56,7 @@ returns-clause-serving g c =
           let same : slice_set items c.args.number c.index_mut.result.now ≡ jobs =
           set_same items c.args.number c.index_mut.result.now c.index_mut.ensures.value ∙ c.jobs.view_is in
           rw (w.volume-is, w.result-is, w.jobs-inside-is) (
-          nobody_serves g.D.Disk.state g.met.D.Disk.only_now volume.disk volume.core volume.failed jobs
+          nobody_serves g.D.Disk.state g.met.D.Disk.only_now volume.disk volume.map volume.failed jobs
           (slice_set items c.args.number c.index_mut.result.now) c.args.number c.args.call.now c.args.moment
           c.requires.alive c.requires.timely c.requires.keyed c.requires.placed c.requires.reading none same)
     ]

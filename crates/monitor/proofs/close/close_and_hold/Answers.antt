@@ -2,11 +2,11 @@ use Rattle.std.proofs.Common.{◌≡◌, ◌∙◌, rules, refl, sym, ap, Some, 
 use Rattle.spec_machine.specs.declared.call.Reply.TheVariants.{Done}
 use Rattle.retrieval.specs.declared.prime.Prime.{Prime}
 use Rattle.monitor.specs.Common.{last_at}
-use Rattle.monitor.proofs.CloseChannel.Serving.{side_live, side_starts}
+use Rattle.monitor.proofs.CloseChannel.Serves.{side_live, side_starts}
 use Rattle.monitor.proofs.CloseChannel.Sides.{has_published, holds_published}
 use Rattle.monitor.proofs.CloseChannel.Publications.{few_behind, held_behind, named_behind}
 use Rattle.monitor.proofs.CloseChannel.PublishedAnswers.{publishes_by}
-use Rattle.monitor.proofs.common.ReadingJobs.{job_held, few_readers}
+use Rattle.monitor.proofs.common.JobReaders.{job_held, few_readers}
 use Rattle.monitor.proofs.close.close_and_hold.Goals as goal
 
 pub publish_output-reply-requires-clause-live : goal.publish_output-reply-requires-clause-live
@@ -30,7 +30,7 @@ renew-renewed-requires-clause-there g c =
     let state = g.D.Disk.state in
     let old = c.args.volume.now in
     let mid = c.publish_output-reply.new.volume in
-    let by = publishes_by state old.disk mid.disk mid.disk old.core mid.core old.failed mid.failed mid.failed
+    let by = publishes_by state old.disk mid.disk mid.disk old.map mid.map old.failed mid.failed mid.failed
     c.args.channel c.args.output (last_at c.args.job.now.core c.args.channel) c.publish_output-reply.result
     (refl, refl) c.publish_output-reply.ensures.whatever
     c.publish_output-reply.ensures.answered c.publish_output-reply.ensures.same in
@@ -46,7 +46,7 @@ renew-renewed-requires-clause-few g c =
     let state = g.D.Disk.state in
     let old = c.args.volume.now in
     let mid = c.publish_output-reply.new.volume in
-    let by = publishes_by state old.disk mid.disk mid.disk old.core mid.core old.failed mid.failed mid.failed
+    let by = publishes_by state old.disk mid.disk mid.disk old.map mid.map old.failed mid.failed mid.failed
     c.args.channel c.args.output (last_at c.args.job.now.core c.args.channel) c.publish_output-reply.result
     (refl, refl) c.publish_output-reply.ensures.whatever
     c.publish_output-reply.ensures.answered c.publish_output-reply.ensures.same in
@@ -54,14 +54,14 @@ renew-renewed-requires-clause-few g c =
     let has = has_published by done in
     few_behind c.args.output {last = has.0} (by.whatever has.0 has.1) has.2
     (side_live c.requires.ready c.args.number c.args.channel c.requires.there c.args.output c.requires.side)
-    (few_readers old.core.live c.requires.ready.jobs c.requires.ready.among.reading)
+    (few_readers old.map.live c.requires.ready.jobs c.requires.ready.among.reading)
 
 pub renew-renewed-requires-clause-held : goal.renew-renewed-requires-clause-held
 renew-renewed-requires-clause-held g c =
     let state = g.D.Disk.state in
     let old = c.args.volume.now in
     let mid = c.publish_output-reply.new.volume in
-    let by = publishes_by state old.disk mid.disk mid.disk old.core mid.core old.failed mid.failed mid.failed
+    let by = publishes_by state old.disk mid.disk mid.disk old.map mid.map old.failed mid.failed mid.failed
     c.args.channel c.args.output (last_at c.args.job.now.core c.args.channel) c.publish_output-reply.result
     (refl, refl) c.publish_output-reply.ensures.whatever
     c.publish_output-reply.ensures.answered c.publish_output-reply.ensures.same in
@@ -71,7 +71,7 @@ renew-renewed-requires-clause-held g c =
     held_behind c.args.output {last = has.0} (by.whatever has.0 has.1) has.2
     (side_live ready c.args.number c.args.channel c.requires.there c.args.output c.requires.side) c.args.job.now
     c.args.number c.args.channel c.requires.there
-    (job_held old.core.live ready.jobs ready.number c.args.job.now ready.among.reading ready.among.there)
+    (job_held old.map.live ready.jobs ready.number c.args.job.now ready.among.reading ready.among.there)
     (Some c.args.input) (sym c.requires.reads)
 
 pub returns-then-eq-clause-published : goal.returns-then-eq-clause-published
@@ -82,12 +82,12 @@ returns-then-eq-clause-published g c =
     let new = c.renew-renewed.new.volume in
     let core = c.close_rings.ensures in
     let status = c.cleared.ensures.value in (
-      mid.core,
-      publishes_by state old.disk mid.disk new.disk old.core mid.core old.failed mid.failed new.failed
+      mid.map,
+      publishes_by state old.disk mid.disk new.disk old.map mid.map old.failed mid.failed new.failed
           c.args.channel c.args.output (last_at c.args.job.now.core c.args.channel) c.publish_output-reply.result
           c.renew-renewed.ensures.untouched c.publish_output-reply.ensures.whatever
           c.publish_output-reply.ensures.answered c.publish_output-reply.ensures.same,
-      λ done. holds_published state mid.disk new.disk old.core mid.core new.core mid.failed c.args.output.pending.key
+      λ done. holds_published state mid.disk new.disk old.map mid.map new.map mid.failed c.args.output.pending.key
           c.args.job.now c.set_channel.new.self c.args.number c.args.channel c.args.input c.renew-renewed.result
           c.prime_of-prime.result c.renew-renewed.ensures.untouched.0 c.has_failed-failed.ensures.sound
           c.renew-renewed.ensures.renews c.prime_of-prime.ensures
@@ -103,8 +103,8 @@ returns-else-eq-clause-published g c =
     let old = c.args.volume.now in
     let mid = c.publish_output-reply.new.volume in
     let not : c.publish_output-reply.result ≡ Done → ⊥ = search rules in (
-      mid.core,
-      publishes_by g.D.Disk.state old.disk mid.disk mid.disk old.core mid.core old.failed mid.failed mid.failed
+      mid.map,
+      publishes_by g.D.Disk.state old.disk mid.disk mid.disk old.map mid.map old.failed mid.failed mid.failed
           c.args.channel c.args.output (last_at c.args.job.now.core c.args.channel) c.publish_output-reply.result
           (refl, refl) c.publish_output-reply.ensures.whatever
           c.publish_output-reply.ensures.answered c.publish_output-reply.ensures.same,

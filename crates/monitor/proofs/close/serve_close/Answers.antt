@@ -1,22 +1,22 @@
 use Rattle.std.proofs.Common.{sym, ◌∙◌}
 use Rattle.spec_machine.specs.Common.{keeps_input}
 use Rattle.spec_machine.specs.declared.call.Call.TheVariants.{Close}
-use Rattle.monitor.proofs.CloseChannel.Serving.{close_serves, hold_serves}
+use Rattle.monitor.proofs.CloseChannel.Serves.{close_serves, hold_serves}
 use Rattle.monitor.proofs.CloseChannel.Sides.{kept_by}
 use Rattle.monitor.proofs.common.Dropped.{job_live}
 use Rattle.monitor.proofs.common.Promised.{dropping_serves}
-use Rattle.monitor.proofs.common.ReadingJobs.{job_held}
+use Rattle.monitor.proofs.common.JobReaders.{job_held}
 use Rattle.monitor.proofs.close.serve_close.Goals as goal
 
 pub close-requires-clause-live : goal.close-requires-clause-live
 close-requires-clause-live g c =
     let ready = c.requires.ready in
-    job_live c.args.volume.now.core ready.jobs ready.number c.args.job.now ready.among.keyed ready.among.there
+    job_live c.args.volume.now.map ready.jobs ready.number c.args.job.now ready.among.keyed ready.among.there
 
 pub close-requires-clause-held : goal.close-requires-clause-held
 close-requires-clause-held g c =
     let ready = c.requires.ready in
-    job_held c.args.volume.now.core.live ready.jobs ready.number c.args.job.now ready.among.reading ready.among.there
+    job_held c.args.volume.now.map.live ready.jobs ready.number c.args.job.now ready.among.reading ready.among.there
 
 pub returns-in-None-clause-serving : goal.returns-in-None-clause-serving
 returns-in-None-clause-serving g c =
@@ -40,7 +40,7 @@ returns-in_default-clause-serving g c = λ moment timely.
     let old = c.args.volume.now in
     let new = c.close.new.volume in
     let ready = c.requires.ready in
-    dropping_serves g.D.Disk.state g.met.D.Disk.only_now old.disk new.disk old.core new.core old.failed
+    dropping_serves g.D.Disk.state g.met.D.Disk.only_now old.disk new.disk old.map new.map old.failed
     new.failed c.args.job.now c.close.new.job (Close c.args.channel c.args.bits) moment c.close.result
     ready.alive c.close.ensures.untouched ready.placed timely c.close.ensures.row c.close.ensures.keeps
     c.close.ensures.reads c.close.ensures.leaves c.close.ensures.only

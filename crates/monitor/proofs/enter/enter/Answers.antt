@@ -6,7 +6,7 @@ use Rattle.volume.specs.Common.{begun}
 use Rattle.monitor.specs.Common.{entered_kind, IsAnswer, begin_answer_at, job_of, reader_of}
 use Rattle.monitor.proofs.EnterFile.Readers.{reading_entered}
 use Rattle.monitor.proofs.EnterFile.Enters.{done, refused, wanting}
-use Rattle.monitor.proofs.common.Placing.{placed_begun}
+use Rattle.monitor.proofs.common.PlacedVersions.{placed_begun}
 use Rattle.spec_machine.proofs.Common.{is_none_of}
 use Rattle.monitor.proofs.enter.enter.Goals as goal
 
@@ -75,11 +75,11 @@ returns-in-Err-NoMemory-clause-row g c h s known w =
 
 pub returns-in-Ok-clause-placed : goal.returns-in-Ok-clause-placed
 returns-in-Ok-clause-placed g c placed =
-    placed_begun c.args.volume.now.core c.begin_at.new.volume.core c.in-Ok.pending.key c.in-Ok.ensures.begun.0
+    placed_begun c.args.volume.now.map c.begin_at.new.volume.map c.in-Ok.pending.key c.in-Ok.ensures.begun.0
     c.in-Ok.prime c.in-Ok.ensures.begun.2 c.in-Ok.ensures.free.0 c.in-Ok.ensures.free.1 placed
 
 pub returns-in-Ok-clause-reads : goal.returns-in-Ok-clause-reads
 returns-in-Ok-clause-reads g c =
     let begun = returns-in-Ok-clause-begun g c refl in
-    reading_entered c.args.volume.now.core c.begin_at.new.volume.core c.args.job.now c.set_channel.new.self
+    reading_entered c.args.volume.now.map c.begin_at.new.volume.map c.args.job.now c.set_channel.new.self
     c.args.number c.args.address c.args.moment begun.0 begun.1 begun.2 begun.3

@@ -1,19 +1,19 @@
 use Rattle.std.proofs.Common.{false, Some, refl, sym, subst, ◌∙◌, slice_set}
 use Rattle.spec_machine.specs.declared.call.Call.TheVariants.{Enter}
-use Rattle.volume.specs.Common.{IsSoundCore}
+use Rattle.volume.specs.Common.{IsSoundMemory}
 use Rattle.monitor.specs.Common.{IsDecided}
 use Rattle.monitor.proofs.EnterFile.ByJobs.{enters_keyed, enters_reading, enter_answered}
 use Rattle.monitor.proofs.common.Promised.{quiet_serves}
-use Rattle.monitor.proofs.common.ReadingJobs.{job_held, few_readers}
+use Rattle.monitor.proofs.common.JobReaders.{job_held, few_readers}
 use Rattle.monitor.proofs.UpdateFile.ByJobs.{updates_keyed, updates_reading, update_answered}
 use Rattle.monitor.proofs.enter.serve_enter.Goals as goal
 
 pub update-requires-clause-held : goal.update-requires-clause-held
-update-requires-clause-held g c = job_held c.args.volume.now.core.live c.requires.ready.jobs c.requires.ready.number
+update-requires-clause-held g c = job_held c.args.volume.now.map.live c.requires.ready.jobs c.requires.ready.number
     c.args.job.now c.requires.ready.among.reading c.requires.ready.among.there
 
 pub update-requires-clause-few : goal.update-requires-clause-few
-update-requires-clause-few g c = few_readers c.args.volume.now.core.live c.requires.ready.jobs
+update-requires-clause-few g c = few_readers c.args.volume.now.map.live c.requires.ready.jobs
     c.requires.ready.among.reading
 
 pub returns-in-Some-clause-serving : goal.returns-in-Some-clause-serving
@@ -22,12 +22,12 @@ returns-in-Some-clause-serving g c = λ jobs n among.
     let state = g.D.Disk.state in
     let old = c.args.volume.now in
     let new = c.update.new.volume in
-    let map = old.core in
-    let map' = new.core in
+    let map = old.map in
+    let map' = new.map in
     let job = c.args.job.now in
     let job' = c.update.new.job in
     let jobs' = slice_set jobs n (Some job') in
-    let sound = subst (IsSoundCore (state old.disk) map) c.requires.ready.alive c.requires.ready.sound in
+    let sound = subst (IsSoundMemory (state old.disk) map) c.requires.ready.alive c.requires.ready.sound in
     quiet_serves state g.met.D.Disk.only_now old.disk new.disk map map' old.failed new.failed job job'
     (Enter c.args.channel c.args.address) moment c.update.result c.requires.ready.alive c.update.ensures.untouched
     c.update.ensures.only (c.update.ensures.placed c.requires.ready.placed) (λ light. absurd light)
@@ -54,12 +54,12 @@ returns-in-None-clause-serving g c = λ jobs n among.
     let state = g.D.Disk.state in
     let old = c.args.volume.now in
     let new = c.enter.new.volume in
-    let map = old.core in
-    let map' = new.core in
+    let map = old.map in
+    let map' = new.map in
     let job = c.args.job.now in
     let job' = c.enter.new.job in
     let jobs' = slice_set jobs n (Some job') in
-    let sound = subst (IsSoundCore (state old.disk) map) c.requires.ready.alive c.requires.ready.sound in
+    let sound = subst (IsSoundMemory (state old.disk) map) c.requires.ready.alive c.requires.ready.sound in
     quiet_serves state g.met.D.Disk.only_now old.disk new.disk map map' old.failed new.failed job job'
     (Enter c.args.channel c.args.address) moment c.enter.result c.requires.ready.alive c.enter.ensures.untouched
     c.enter.ensures.only (c.enter.ensures.placed c.requires.ready.placed) (λ light. absurd light)

@@ -1,5 +1,5 @@
 use Rattle.std.proofs.Common.{sym, ◌∙◌}
-use Rattle.monitor.proofs.common.Calling.{keeps_same, reads_same}
+use Rattle.monitor.proofs.common.CallRows.{keeps_same, reads_same}
 use Rattle.monitor.proofs.OtherCalls.RingsMade.{inbuf_none, inbuf_row}
 use Rattle.monitor.proofs.inbuf.inbuf.Goals as goal
 

@@ -2,19 +2,19 @@ use Rattle.std.proofs.Common.{◌∙◌, sym, ap, refl, Some, slice_set, subst}
 use Rattle.spec_machine.proofs.Common.{is_none_of}
 use Rattle.monitor.specs.Common.{channel_of}
 use Rattle.monitor.specs.declared.job.Job.{Job}
-use Rattle.monitor.proofs.common.Answering.{nothing}
+use Rattle.monitor.proofs.common.EventAnswers.{nothing}
 use Rattle.monitor.proofs.LookupFile.Lookups.{old_held, looks_reading, is_found, refused, done, free_still}
 use Rattle.monitor.proofs.lookup.lookup.Goals as goal
 
 pub release_input-requires : goal.release_input-requires
 release_input-requires g c = record {
   held =
-      old_held c.args.volume.now.core c.find_input.new.volume.core c.in-Ok.input
+      old_held c.args.volume.now.map c.find_input.new.volume.map c.in-Ok.input
       (record {
         at = c.in-Ok.ensures.at;
         pinned = c.in-Ok.ensures.pinned;
         others = c.in-Ok.ensures.others;
-        core = c.in-Ok.ensures.core;
+        map = c.in-Ok.ensures.map;
       }) c.args.job.now c.args.number
       c.in-Some.channel (sym c.channel.ensures ∙ c.in-Some.is) c.requires.held;
 }
@@ -26,7 +26,7 @@ returns-in-Ok-clause-looked g c is =
     let status = c.cleared.ensures.value in (
       c.in-Some.channel,
       c.in-Ok.input,
-      c.find_input.new.volume.core,
+      c.find_input.new.volume.map,
       record {
         there = sym c.channel.ensures ∙ c.in-Some.is;
         free = is_none_of c.in-Some.channel.output (sym c.is_some.ensures ∙ c.if-is_some.false);
@@ -36,7 +36,7 @@ returns-in-Ok-clause-looked g c is =
           at = c.in-Ok.ensures.at;
           pinned = c.in-Ok.ensures.pinned;
           others = c.in-Ok.ensures.others;
-          core = c.in-Ok.ensures.core;
+          map = c.in-Ok.ensures.map;
         };
         closed = c.release_input.ensures.closed;
         job_is = c.set_channel.ensures
@@ -46,7 +46,7 @@ returns-in-Ok-clause-looked g c is =
                   (Some (record c.in-Some.channel { status = status i; input = Some c.in-Ok.input }));
             });
       },
-      λ h s known. is_found (g.D.Disk.state c.args.volume.now.disk).contents c.find_input.new.volume.core.live
+      λ h s known. is_found (g.D.Disk.state c.args.volume.now.disk).contents c.find_input.new.volume.map.live
           s nothing c.args.job.now c.set_channel.new.self c.args.address c.in-Ok.input c.in-Ok.facts
           (c.in-Ok.ensures.place nothing)
           (c.in-Ok.ensures.answered (subst (λ disk. (g.D.Disk.state disk).honest) c.release_input.ensures.untouched.0 h)
@@ -59,7 +59,7 @@ returns-in-Ok-clause-looked g c is =
 pub returns-in-Ok-clause-reads : goal.returns-in-Ok-clause-reads
 returns-in-Ok-clause-reads g c =
     let l = returns-in-Ok-clause-looked g c refl in
-    looks_reading c.args.volume.now.core l.2 c.release_input.new.volume.core c.args.job.now c.set_channel.new.self
+    looks_reading c.args.volume.now.map l.2 c.release_input.new.volume.map c.args.job.now c.set_channel.new.self
     c.args.number c.args.address l.0 l.1 l.3
 
 pub returns-in-Ok-clause-row : goal.returns-in-Ok-clause-row

@@ -3,7 +3,7 @@ use Rattle.std.specs.Prelude.{is_some}
 use Rattle.spec_machine.specs.declared.call.Call.TheVariants.{Open}
 use Rattle.spec_machine.specs.declared.call.Reply.TheVariants.{Done, Refused}
 use Rattle.monitor.specs.Common.{IsRow, KeepsSides, KeepsReading, improper_at, opened_at, rings_opened}
-use Rattle.monitor.proofs.common.Calling.{keeps_same, keeps_core, reads_core}
+use Rattle.monitor.proofs.common.CallRows.{keeps_same, keeps_core, reads_core}
 use Rattle.monitor.proofs.OtherCalls.Opens.{answer_is, no_channel_row, refused_row, done_row, keeps_opened}
 use Rattle.monitor.proofs.OtherCalls.Opens.{reads_opened, opened_job}
 use Rattle.monitor.proofs.open.open.Goals as goal

@@ -4,9 +4,9 @@ use Rattle.std.proofs.lemmas.Bool.{both_ways}
 use Rattle.spec_image.specs.Common.{most_blocks, length_after}
 use Rattle.spec_image.specs.declared.code.ErrorCode.TheVariants.{NoRoom}
 use Rattle.volume.specs.declared.error.CallError.TheVariants.{Refused}
-use Rattle.volume.specs.Common.{VolumeCore}
+use Rattle.volume.specs.Common.{MemoryMap}
 use Rattle.monitor.specs.Common.{moved, IsBarred, IsOut, KeepsSides}
-use Rattle.monitor.proofs.common.Calling.{keeps_same}
+use Rattle.monitor.proofs.common.CallRows.{keeps_same}
 use Rattle.monitor.proofs.WriteOut.Outgoings.{Found, at_output, goes_out, has_outgoing}
 use Rattle.monitor.proofs.WriteOut.Outs.{version_there, version_live, its_side, next_fits, not_refused, keeps_put}
 use Rattle.monitor.proofs.WriteOut.Outs.{barred_none, finds_place, lacks_room, reads_status, reads_moved}
@@ -14,13 +14,13 @@ use Rattle.monitor.proofs.OtherCalls.Usetos.{keeps_status}
 use Rattle.monitor.proofs.out.out.Goals as goal
 
 pub returns-in_default-clause-keeps : goal.returns-in_default-clause-keeps
-returns-in_default-clause-keeps g c alive = keeps_same c.args.volume.now.core.pending c.args.job.now
+returns-in_default-clause-keeps g c alive = keeps_same c.args.volume.now.map.pending c.args.job.now
 
 pub returns-in_default-output-clause-keeps : goal.returns-in_default-output-clause-keeps
-returns-in_default-output-clause-keeps g c alive = keeps_same c.args.volume.now.core.pending c.args.job.now
+returns-in_default-output-clause-keeps g c alive = keeps_same c.args.volume.now.map.pending c.args.job.now
 
 pub returns-then-lacks_header-clause-keeps : goal.returns-then-lacks_header-clause-keeps
-returns-then-lacks_header-clause-keeps g c alive = keeps_same c.args.volume.now.core.pending c.args.job.now
+returns-then-lacks_header-clause-keeps g c alive = keeps_same c.args.volume.now.map.pending c.args.job.now
 
 pub returns-in-Err-AddressCheck-clause-outcome : goal.returns-in-Err-AddressCheck-clause-outcome
 returns-in-Err-AddressCheck-clause-outcome g c = (
@@ -64,26 +64,26 @@ returns-in-Err-Device-clause-outcome g c = (
 )
 
 pub returns-in-Err-AddressCheck-clause-keeps : goal.returns-in-Err-AddressCheck-clause-keeps
-returns-in-Err-AddressCheck-clause-keeps g c alive = keeps_same c.args.volume.now.core.pending c.args.job.now
+returns-in-Err-AddressCheck-clause-keeps g c alive = keeps_same c.args.volume.now.map.pending c.args.job.now
 
 pub returns-in-Err-NoMemory-clause-keeps : goal.returns-in-Err-NoMemory-clause-keeps
-returns-in-Err-NoMemory-clause-keeps g c alive = keeps_same c.args.volume.now.core.pending c.args.job.now
+returns-in-Err-NoMemory-clause-keeps g c alive = keeps_same c.args.volume.now.map.pending c.args.job.now
 
 pub put_words-requires-clause-live : goal.put_words-requires-clause-live
 put_words-requires-clause-live g c =
-    version_live c.args.volume.now.core.pending c.args.job.now c.args.number c.in-Some.channel
+    version_live c.args.volume.now.map.pending c.args.job.now c.args.number c.in-Some.channel
     (sym c.channel.ensures ∙ c.in-Some.is) c.in-Some-output.output c.in-Some-output.is c.requires.live
 
 pub put_words-requires-clause-first : goal.put_words-requires-clause-first
 put_words-requires-clause-first g c =
-    (its_side c.args.volume.now.core.pending c.args.job.now c.args.number c.in-Some.channel
+    (its_side c.args.volume.now.map.pending c.args.job.now c.args.number c.in-Some.channel
     (sym c.channel.ensures ∙ c.in-Some.is) c.in-Some-output.output c.in-Some-output.is c.requires.sides).starts
 
 pub returns-then-is_barred-clause-outcome : goal.returns-then-is_barred-clause-outcome
 returns-then-is_barred-clause-outcome g c =
     subst (IsOut (g.D.Disk.state c.args.volume.now.disk) (g.D.Disk.state c.args.volume.now.disk)
-    c.args.volume.now.core c.args.volume.now.core
-    ((c.args.volume.now.disk ≡ c.args.volume.now.disk) × (c.args.volume.now.core ≡ c.args.volume.now.core))
+    c.args.volume.now.map c.args.volume.now.map
+    ((c.args.volume.now.disk ≡ c.args.volume.now.disk) × (c.args.volume.now.map ≡ c.args.volume.now.map))
     c.args.job.now c.stop.new.job c.args.number c.args.address) (sym c.stop.ensures.answered) (
       goes_out c.args.job.now c.args.number c.args.address (at_output c.args.job.now c.args.number c.in-Some.channel
           (sym c.channel.ensures ∙ c.in-Some.is) c.in-Some-output.output c.in-Some-output.is
@@ -93,9 +93,9 @@ returns-then-is_barred-clause-outcome g c =
       c.stop.ensures.kept,
       λ p at.
           let counted : c.len.result ≡ length c.in-Ok.words.items = omega (arith, c.in-Ok.words.ok, c.len.ensures) in
-          barred_none (g.D.Disk.state c.args.volume.now.disk).size c.args.volume.now.core p c.in-Some-output.output
+          barred_none (g.D.Disk.state c.args.volume.now.disk).size c.args.volume.now.map p c.in-Some-output.output
           (length c.in-Ok.words.items)
-          (subst (IsBarred c.args.volume.now.core p c.in-Some-output.output) counted
+          (subst (IsBarred c.args.volume.now.map p c.in-Some-output.output) counted
           ((c.is_barred.ensures p at).0 c.if-is_barred.true)),
       (refl, refl),
     )
@@ -103,18 +103,18 @@ returns-then-is_barred-clause-outcome g c =
 pub returns-then-is_barred-clause-keeps : goal.returns-then-is_barred-clause-keeps
 returns-then-is_barred-clause-keeps g c alive =
     keeps_status c.args.job.now c.args.number 0 c.in-Some.channel (sym c.channel.ensures ∙ c.in-Some.is)
-    c.args.volume.now.core.pending c.stop.new.job _ c.stop.ensures.kept
+    c.args.volume.now.map.pending c.stop.new.job _ c.stop.ensures.kept
 
 pub returns-then-is_barred-clause-reads : goal.returns-then-is_barred-clause-reads
 returns-then-is_barred-clause-reads g c alive =
-    reads_status c.args.volume.now.core.live c.args.volume.now.core.live c.args.job.now refl c.args.number
+    reads_status c.args.volume.now.map.live c.args.volume.now.map.live c.args.job.now refl c.args.number
     c.in-Some.channel (sym c.channel.ensures ∙ c.in-Some.is) _ c.stop.new.job c.stop.ensures.kept
 
 pub moved-moved-requires-clause-fits : goal.moved-moved-requires-clause-fits
 moved-moved-requires-clause-fits g c =
-    let p = version_there c.args.volume.now.core.pending c.args.job.now c.args.number c.in-Some.channel
+    let p = version_there c.args.volume.now.map.pending c.args.job.now c.args.number c.in-Some.channel
     (sym c.channel.ensures ∙ c.in-Some.is) c.in-Some-output.output c.in-Some-output.is c.requires.live in
-    let first = (its_side c.args.volume.now.core.pending c.args.job.now c.args.number c.in-Some.channel
+    let first = (its_side c.args.volume.now.map.pending c.args.job.now c.args.number c.in-Some.channel
     (sym c.channel.ensures ∙ c.in-Some.is) c.in-Some-output.output c.in-Some-output.is c.requires.sides).starts in
     let counted : c.len-in-Ok-put_words.result ≡ length c.as_slice.result.now = omega
     (arith, c.in-Ok.words.ok, c.len-in-Ok-put_words.ensures, ap length c.as_slice.ensures.value) in
@@ -154,11 +154,11 @@ returns-in-Ok-put_words-clause-outcome g c =
         fits =
             let asked : c.len.result ≡ length c.as_slice.result.now = omega
             (arith, c.in-Ok.words.ok, c.len.ensures, ap length c.as_slice.ensures.value) in
-            finds_place (g.D.Disk.state c.args.volume.now.disk).size c.args.volume.now.core p c.in-Some-output.output
+            finds_place (g.D.Disk.state c.args.volume.now.disk).size c.args.volume.now.map p c.in-Some-output.output
             (length c.as_slice.result.now)
             (not_refused c.put_words.result c.in-Ok-put_words.field-0 (Refused NoRoom) c.in-Ok-put_words.is
             (c.put_words.ensures.room c.requires.serves p at))
-            (subst (λ (n : ℕ). IsBarred c.args.volume.now.core p c.in-Some-output.output n → ⊥) asked
+            (subst (λ (n : ℕ). IsBarred c.args.volume.now.map p c.in-Some-output.output n → ⊥) asked
             (λ barred. both_ways c.is_barred.result c.if-is_barred.false ((c.is_barred.ensures p at).1 barred)));
         version = put.0;
         here = put.1;
@@ -169,10 +169,10 @@ returns-in-Ok-put_words-clause-outcome g c =
 
 pub returns-in-Ok-put_words-clause-keeps : goal.returns-in-Ok-put_words-clause-keeps
 returns-in-Ok-put_words-clause-keeps g c alive =
-    let p = version_there c.args.volume.now.core.pending c.args.job.now c.args.number c.in-Some.channel
+    let p = version_there c.args.volume.now.map.pending c.args.job.now c.args.number c.in-Some.channel
     (sym c.channel.ensures ∙ c.in-Some.is) c.in-Some-output.output c.in-Some-output.is c.requires.live in
     let put = c.in-Ok-put_words.ensures.put p.0 p.1 in
-    keeps_put c.args.volume.now.core.pending c.put_words.new.self.core.pending c.args.job.now c.set_channel.new.self
+    keeps_put c.args.volume.now.map.pending c.put_words.new.self.map.pending c.args.job.now c.set_channel.new.self
     c.args.number c.in-Some.channel (sym c.channel.ensures ∙ c.in-Some.is) c.in-Some-output.output
     c.in-Some-output.is c.len-in-Ok-put_words.result c.leave_buffer.new.core
     (c.set_channel.ensures ∙ ap (λ x. record c.args.job.now {
@@ -182,7 +182,7 @@ returns-in-Ok-put_words-clause-keeps g c alive =
 
 pub returns-in-Ok-put_words-clause-reads : goal.returns-in-Ok-put_words-clause-reads
 returns-in-Ok-put_words-clause-reads g c alive =
-    reads_moved c.args.volume.now.core.live c.put_words.new.self.core.live c.args.job.now c.put_words.ensures.live
+    reads_moved c.args.volume.now.map.live c.put_words.new.self.map.live c.args.job.now c.put_words.ensures.live
     c.args.number c.in-Some.channel (sym c.channel.ensures ∙ c.in-Some.is) c.in-Some-output.output
     c.len-in-Ok-put_words.result c.leave_buffer.new.core c.set_channel.new.self
     (c.set_channel.ensures ∙ ap (λ x. record c.args.job.now {
@@ -193,8 +193,8 @@ returns-in-Ok-put_words-clause-reads g c alive =
 pub returns-in-Err-Refused-clause-outcome : goal.returns-in-Err-Refused-clause-outcome
 returns-in-Err-Refused-clause-outcome g c =
     subst (IsOut (g.D.Disk.state c.args.volume.now.disk) (g.D.Disk.state c.put_words.new.self.disk)
-    c.args.volume.now.core c.put_words.new.self.core
-    ((c.put_words.new.self.disk ≡ c.args.volume.now.disk) × (c.put_words.new.self.core ≡ c.args.volume.now.core))
+    c.args.volume.now.map c.put_words.new.self.map
+    ((c.put_words.new.self.disk ≡ c.args.volume.now.disk) × (c.put_words.new.self.map ≡ c.args.volume.now.map))
     c.args.job.now c.stop-in-Err-Refused.new.job c.args.number c.args.address)
     (sym c.stop-in-Err-Refused.ensures.answered) (
       goes_out c.args.job.now c.args.number c.args.address (at_output c.args.job.now c.args.number c.in-Some.channel
@@ -205,7 +205,7 @@ returns-in-Err-Refused-clause-outcome g c =
           c.in-Ok.ensures.words),
       refl,
       c.stop-in-Err-Refused.ensures.kept,
-      (λ p at. lacks_room (g.D.Disk.state c.args.volume.now.disk).size c.args.volume.now.core p
+      (λ p at. lacks_room (g.D.Disk.state c.args.volume.now.disk).size c.args.volume.now.map p
           c.in-Some-output.output (length c.as_slice.result.now) ((c.put_words.ensures.room c.requires.serves p at).0
           (c.in-Err-Refused.is ∙ ap Err c.in-Err-Refused.field-0-is ∙ ap (λ code. Err (Refused code))
           (c.put_words.ensures.codes c.in-Err-Refused.field-0-0
@@ -217,14 +217,14 @@ pub returns-in-Err-Refused-clause-keeps : goal.returns-in-Err-Refused-clause-kee
 returns-in-Err-Refused-clause-keeps g c alive =
     let same = c.put_words.ensures.refused c.in-Err-Refused.field-0-0
     (c.in-Err-Refused.is ∙ ap Err c.in-Err-Refused.field-0-is) in
-    subst (λ (core : VolumeCore). KeepsSides c.args.volume.now.core.pending core.pending c.args.job.now
+    subst (λ (core : MemoryMap). KeepsSides c.args.volume.now.map.pending core.pending c.args.job.now
     c.stop-in-Err-Refused.new.job) (sym same.1)
     (keeps_status c.args.job.now c.args.number 0 c.in-Some.channel (sym c.channel.ensures ∙ c.in-Some.is)
-    c.args.volume.now.core.pending c.stop-in-Err-Refused.new.job _ c.stop-in-Err-Refused.ensures.kept)
+    c.args.volume.now.map.pending c.stop-in-Err-Refused.new.job _ c.stop-in-Err-Refused.ensures.kept)
 
 pub returns-in-Err-Refused-clause-reads : goal.returns-in-Err-Refused-clause-reads
 returns-in-Err-Refused-clause-reads g c alive =
-    reads_status c.args.volume.now.core.live c.put_words.new.self.core.live c.args.job.now c.put_words.ensures.live
+    reads_status c.args.volume.now.map.live c.put_words.new.self.map.live c.args.job.now c.put_words.ensures.live
     c.args.number c.in-Some.channel (sym c.channel.ensures ∙ c.in-Some.is) _ c.stop-in-Err-Refused.new.job
     c.stop-in-Err-Refused.ensures.kept
 
@@ -232,12 +232,12 @@ pub returns-in-Err-NoMemory-put_words-clause-keeps : goal.returns-in-Err-NoMemor
 returns-in-Err-NoMemory-put_words-clause-keeps g c alive =
     let same = c.put_words.ensures.memory
     (c.in-Err-NoMemory-put_words.is ∙ ap Err c.in-Err-NoMemory-put_words.field-0-is) in
-    subst (λ (core : VolumeCore). KeepsSides c.args.volume.now.core.pending core.pending c.args.job.now c.args.job.now)
+    subst (λ (core : MemoryMap). KeepsSides c.args.volume.now.map.pending core.pending c.args.job.now c.args.job.now)
     (sym same.1)
-    (keeps_same c.args.volume.now.core.pending c.args.job.now)
+    (keeps_same c.args.volume.now.map.pending c.args.job.now)
 
 pub is_barred-requires : goal.is_barred-requires
 is_barred-requires g c = record {
-  first = (its_side c.args.volume.now.core.pending c.args.job.now c.args.number c.in-Some.channel
+  first = (its_side c.args.volume.now.map.pending c.args.job.now c.args.number c.in-Some.channel
       (sym c.channel.ensures ∙ c.in-Some.is) c.in-Some-output.output c.in-Some-output.is c.requires.sides).starts;
 }

@@ -2,7 +2,7 @@ use Rattle.std.proofs.Common.{◌≡◌, false, Some, refl, subst, ap, slice_set
 use Rattle.std.specs.List.{AllByRecursion}
 use Rattle.spec_machine.specs.declared.call.Call.TheVariants.{Out}
 use Rattle.spec_machine.proofs.Common.{slot-set_other}
-use Rattle.volume.specs.Common.{IsSoundCore}
+use Rattle.volume.specs.Common.{IsSoundMemory}
 use Rattle.monitor.specs.Common.{IsOut, IsSide, sides_in}
 use Rattle.monitor.proofs.common.Called.{still_serves, decided_serves}
 use Rattle.monitor.proofs.common.Dropped.{job_live}
@@ -15,13 +15,13 @@ use Rattle.monitor.proofs.common.Untouched.{quiet_crashes}
 use Rattle.monitor.proofs.out.serve_out.Goals as goal
 
 pub out-requires-clause-live : goal.out-requires-clause-live
-out-requires-clause-live g c = job_live c.args.volume.now.core c.requires.ready.jobs c.requires.ready.number
+out-requires-clause-live g c = job_live c.args.volume.now.map c.requires.ready.jobs c.requires.ready.number
     c.args.job.now c.requires.ready.among.keyed c.requires.ready.among.there
 
 pub out-requires-clause-sides : goal.out-requires-clause-sides
 out-requires-clause-sides g c =
-    subst (λ o. AllByRecursion (IsSide c.args.volume.now.core.pending) (sides_in o)) c.requires.ready.among.there
-    (each-slot (IsSide c.args.volume.now.core.pending) c.requires.ready.jobs c.requires.ready.number
+    subst (λ o. AllByRecursion (IsSide c.args.volume.now.map.pending) (sides_in o)) c.requires.ready.among.there
+    (each-slot (IsSide c.args.volume.now.map.pending) c.requires.ready.jobs c.requires.ready.number
     c.requires.ready.among.keyed.each)
 
 pub returns-clause-serving : goal.returns-clause-serving
@@ -29,12 +29,12 @@ returns-clause-serving g c = λ moment timely jobs n among.
     let state = g.D.Disk.state in
     let old = c.args.volume.now in
     let new = c.out.new.volume in
-    let map = old.core in
-    let map' = new.core in
+    let map = old.map in
+    let map' = new.map in
     let job = c.args.job.now in
     let job' = c.out.new.job in
     let jobs' = slice_set jobs n (Some job') in
-    let sound = subst (IsSoundCore (state old.disk) map) c.requires.ready.alive c.requires.ready.sound in
+    let sound = subst (IsSoundMemory (state old.disk) map) c.requires.ready.alive c.requires.ready.sound in
     let same = (new.disk ≡ old.disk) × (map' ≡ map) in
     record {
       keyed = out_keyed state old.disk new.disk map map' false new.failed jobs jobs' n job job' c.args.channel

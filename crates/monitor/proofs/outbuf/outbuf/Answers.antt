@@ -1,5 +1,5 @@
 use Rattle.std.proofs.Common.{sym, ◌∙◌}
-use Rattle.monitor.proofs.common.Calling.{keeps_same, reads_same}
+use Rattle.monitor.proofs.common.CallRows.{keeps_same, reads_same}
 use Rattle.monitor.proofs.OtherCalls.RingsMade.{outbuf_none, outbuf_row}
 use Rattle.monitor.proofs.outbuf.outbuf.Goals as goal
 

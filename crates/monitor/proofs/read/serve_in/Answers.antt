@@ -5,14 +5,14 @@ use Rattle.monitor.specs.Common.{AreKeyed, ArePlaced, AreReading}
 use Rattle.monitor.proofs.common.Called.{still_serves, decided_idle, decided_serves}
 use Rattle.monitor.proofs.common.Dropped.{job_live}
 use Rattle.monitor.proofs.ReadIn.ByJobs.{in_keyed, in_reading, in_answered, quiet_read}
-use Rattle.monitor.proofs.common.ReadingJobs.{job_held}
+use Rattle.monitor.proofs.common.JobReaders.{job_held}
 use Rattle.monitor.proofs.common.Refusals.{in_refused, in_decided}
 use Rattle.monitor.proofs.common.Slots.{unchanged}
 use Rattle.monitor.proofs.common.Untouched.{quiet_crashes}
 use Rattle.monitor.proofs.read.serve_in.Goals as goal
 
 pub read-requires-clause-held : goal.read-requires-clause-held
-read-requires-clause-held g c = job_held c.args.volume.now.core.live c.requires.ready.jobs c.requires.ready.number
+read-requires-clause-held g c = job_held c.args.volume.now.map.live c.requires.ready.jobs c.requires.ready.number
     c.args.job.now c.requires.ready.among.reading c.requires.ready.among.there
 
 pub read-requires-clause-readers : goal.read-requires-clause-readers
@@ -20,7 +20,7 @@ read-requires-clause-readers g c = c.requires.ready.among.reading.each c.require
     c.requires.ready.among.there
 
 pub read-requires-clause-live : goal.read-requires-clause-live
-read-requires-clause-live g c = job_live c.args.volume.now.core c.requires.ready.jobs c.requires.ready.number
+read-requires-clause-live g c = job_live c.args.volume.now.map c.requires.ready.jobs c.requires.ready.number
     c.args.job.now c.requires.ready.among.keyed c.requires.ready.among.there
 
 pub returns-clause-serving : goal.returns-clause-serving
@@ -28,12 +28,12 @@ returns-clause-serving g c = λ moment timely jobs n among.
     let state = g.D.Disk.state in
     let old = c.args.volume.now in
     let new = c.read.new.volume in
-    let map = old.core in
-    let map' = new.core in
+    let map = old.map in
+    let map' = new.map in
     let job = c.args.job.now in
     let job' = c.read.new.job in
     let jobs' = slice_set jobs n (Some job') in
-    let core = c.read.ensures.core in
+    let core = c.read.ensures.map in
     record {
       keyed = λ serves. subst (λ m. AreKeyed m.pending jobs') (sym core)
           (in_keyed (state old.disk) (state new.disk) map false jobs n c.args.channel c.args.address moment refl

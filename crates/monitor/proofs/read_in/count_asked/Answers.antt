@@ -5,7 +5,7 @@ use Rattle.spec_machine.specs.Common.{word_count, byte_size}
 use Rattle.spec_machine.specs.declared.area.Area.{Area}
 use Rattle.retrieval.specs.Common.{mode_number}
 use Rattle.usercore.specs.Common.{bits_of}
-use Rattle.monitor.proofs.ReadIn.Asking.{IsAsked, list_asked, ready_found, ring_asked}
+use Rattle.monitor.proofs.ReadIn.AskedWords.{IsAsked, list_asked, ready_found, ring_asked}
 use Rattle.monitor.proofs.read_in.count_asked.Goals as goal
 
 pub returns-then-is_buffered-clause-count : goal.returns-then-is_buffered-clause-count

@@ -2,7 +2,7 @@ use Rattle.std.proofs.Common.{◌≡◌, ◌-◌, length, min, take, sym, ap, �
 use Rattle.spec_image.proofs.Common.{some_same}
 use Rattle.spec_image.specs.Common.{block_start, words_from}
 use Rattle.monitor.specs.Common.{Asked}
-use Rattle.monitor.proofs.ReadIn.Asking.{enough_asked}
+use Rattle.monitor.proofs.ReadIn.AskedWords.{enough_asked}
 use Rattle.monitor.proofs.ReadIn.Inputs.{version_there}
 use Rattle.monitor.proofs.read_in.read_in.Goals as goal
 
@@ -20,7 +20,7 @@ pub returns-in-Ok-2-clause-few : goal.returns-in-Ok-2-clause-few
 returns-in-Ok-2-clause-few g c k asks n is =
     let asked = c.in-Ok.ensures.count in
     let count : c.in-Ok.count ≡ k.count = sym asked.2 ∙ ap (λ (x : Asked). x.count) (some_same (sym asked.1 ∙ asks)) in
-    let found = version_there c.args.volume.now.core c.args.handle c.requires.live in
+    let found = version_there c.args.volume.now.map c.args.handle c.requires.live in
     let many : length c.in-Ok-get_words.words.items ≡ min c.in-Ok.count (found.0.words - block_start c.args.block) =
     c.in-Ok-get_words.ensures.few found.0 found.1 in
     let same : n ≡ length c.in-Ok-get_words.words.items =

@@ -1,14 +1,14 @@
 use Rattle.std.proofs.Common.{refl}
 use Rattle.spec_machine.specs.declared.call.Call.TheVariants.{Releas}
-use Rattle.monitor.proofs.CloseChannel.Serving.{release_serves}
+use Rattle.monitor.proofs.CloseChannel.Serves.{release_serves}
 use Rattle.monitor.proofs.common.Promised.{dropping_serves}
-use Rattle.monitor.proofs.common.ReadingJobs.{job_held}
+use Rattle.monitor.proofs.common.JobReaders.{job_held}
 use Rattle.monitor.proofs.releas.serve_release.Goals as goal
 
 pub release-requires-clause-held : goal.release-requires-clause-held
 release-requires-clause-held g c =
     let ready = c.requires.ready in
-    job_held c.args.volume.now.core.live ready.jobs ready.number c.args.job.now ready.among.reading ready.among.there
+    job_held c.args.volume.now.map.live ready.jobs ready.number c.args.job.now ready.among.reading ready.among.there
 
 pub returns-in-Some-clause-serving : goal.returns-in-Some-clause-serving
 returns-in-Some-clause-serving g c =
@@ -22,7 +22,7 @@ returns-in-None-clause-serving g c = λ moment timely.
     let old = c.args.volume.now in
     let new = c.release.new.volume in
     let ready = c.requires.ready in
-    dropping_serves g.D.Disk.state g.met.D.Disk.only_now old.disk new.disk old.core new.core old.failed
+    dropping_serves g.D.Disk.state g.met.D.Disk.only_now old.disk new.disk old.map new.map old.failed
     new.failed c.args.job.now c.release.new.job (Releas c.args.channel) moment c.release.result
     ready.alive c.release.ensures.untouched ready.placed timely c.release.ensures.row c.release.ensures.keeps
     c.release.ensures.reads c.release.ensures.leaves c.release.ensures.only

@@ -5,19 +5,19 @@ use Rattle.spec_image.specs.Common.{number_of, pack_of, place_of}
 use Rattle.spec_machine.specs.Common.{place_at}
 use Rattle.spec_image.specs.declared.code.ErrorCode.TheVariants.{NoDirectory, NoRoom}
 use Rattle.spec_machine.specs.declared.call.Call.TheVariants.{Rename}
-use Rattle.volume.specs.Common.{DeviceAnswer, IsSoundCore}
+use Rattle.volume.specs.Common.{DeviceAnswer, IsSoundMemory}
 use Rattle.monitor.specs.Common.{changed_job, changed_reply, job_of}
-use Rattle.monitor.proofs.common.Answering.{contrary}
+use Rattle.monitor.proofs.common.EventAnswers.{contrary}
 use Rattle.monitor.proofs.RenameFile.ChangeAnswers.{rename_stops}
 use Rattle.monitor.proofs.EnterFile.Outcomes.{at_place, no_directory}
 use Rattle.monitor.proofs.common.InputsClosed.{input_is_held}
 use Rattle.monitor.proofs.RenameFile.MoveReplies.{arrival_refused, arrival_homeless, moves_limited, other_place}
-use Rattle.monitor.proofs.RenameFile.MoveServing.{read_on, move_serves}
+use Rattle.monitor.proofs.RenameFile.MoveServes.{read_on, move_serves}
 use Rattle.monitor.proofs.RenameFile.Moves.{address_within, asks_for}
-use Rattle.monitor.proofs.common.ReadingJobs.{job_held}
+use Rattle.monitor.proofs.common.JobReaders.{job_held}
 use Rattle.monitor.proofs.RenameFile.Refusals.{address_fits, refusing_serves}
-use Rattle.monitor.proofs.RenameFile.Wanting.{rename_serves}
-use Rattle.volume.proofs.common.Marking.{on_ok}
+use Rattle.monitor.proofs.RenameFile.NoMemory.{rename_serves}
+use Rattle.volume.proofs.common.MarkedBlocks.{on_ok}
 use Rattle.spec_machine.specs.declared.call.Reply.TheVariants as replies
 use Rattle.monitor.proofs.rename.move_file.Goals as goal
 
@@ -38,9 +38,9 @@ returns-in-Err-clause-serving g c = λ moment timely jobs n among.
     let input = c.args.input in
     let d = g.D.Disk.state volume.disk in
     let ready = c.requires.ready in
-    refusing_serves g.D.Disk.state g.met.D.Disk.only_now volume.disk volume.core volume.failed ready.alive job
+    refusing_serves g.D.Disk.state g.met.D.Disk.only_now volume.disk volume.map volume.failed ready.alive job
     c.args.number c.args.address c.args.channel input c.requires.there c.requires.side c.requires.free
-    c.requires.inside (subst (IsSoundCore d volume.core) ready.alive ready.sound) ready.placed c.in-Err.code
+    c.requires.inside (subst (IsSoundMemory d volume.map) ready.alive ready.sound) ready.placed c.in-Err.code
     (λ h s known w. rename_stops s (job_of w job) c.args.address (place_of input.ppn input.file) (pack_of d)
     (number_of c.in-Err.code) (c.in-Err.ensures.answered h ready.alive s known (job_of w job) c.args.address refl
     (asks_for w job c.args.address (c.bits.result / 2 ^ 27)
@@ -74,10 +74,10 @@ answer_change-requires-clause-held g c =
     let job = c.args.job.now in
     let input = c.args.input in
     let ready = c.requires.ready in
-    read_on volume.core.live c.rename-changed.new.self.core.live input.pin.key
+    read_on volume.map.live c.rename-changed.new.self.map.live input.pin.key
     (λ v at read. c.rename-changed.ensures.held input.pin.key v at read)
-    (input_is_held job c.args.number c.args.channel c.requires.there input c.requires.side volume.core.live
-    (job_held volume.core.live ready.jobs ready.number job ready.among.reading ready.among.there))
+    (input_is_held job c.args.number c.args.channel c.requires.there input c.requires.side volume.map.live
+    (job_held volume.map.live ready.jobs ready.number job ready.among.reading ready.among.there))
     c.rename-changed.result
 
 pub returns-in_default-owner_at-clause-serving : goal.returns-in_default-owner_at-clause-serving
@@ -87,9 +87,9 @@ returns-in_default-owner_at-clause-serving g c = λ moment timely jobs n among.
     let input = c.args.input in
     let d = g.D.Disk.state volume.disk in
     let ready = c.requires.ready in
-    let sound = subst (IsSoundCore d volume.core) ready.alive ready.sound in
+    let sound = subst (IsSoundMemory d volume.map) ready.alive ready.sound in
     let moves = ne_eqb _ 0 c.requires.named in
-    refusing_serves g.D.Disk.state g.met.D.Disk.only_now volume.disk volume.core volume.failed ready.alive job
+    refusing_serves g.D.Disk.state g.met.D.Disk.only_now volume.disk volume.map volume.failed ready.alive job
     c.args.number c.args.address c.args.channel input c.requires.there c.requires.side c.requires.free
     c.requires.inside sound ready.placed NoDirectory
     (λ h s known w.
@@ -99,7 +99,7 @@ returns-in_default-owner_at-clause-serving g c = λ moment timely jobs n among.
     (c.in_default.ensures.answered h ready.alive s known (job_of w job) e refl
     (asks_for w job e (c.bits.result / 2 ^ 27)
     c.requires.named (ap (λ x. x / 2 ^ 27) (c.bits.ensures.value ∙ c.word_at.ensures.value))))
-    (ap is_none (no_directory d volume.core s known sound h place c.in_default-owner_at.ensures.none)))
+    (ap is_none (no_directory d volume.map s known sound h place c.in_default-owner_at.ensures.none)))
     moment timely jobs n among (record job { core = c.refuse-in_default-owner_at.new.core })
     c.refuse-in_default-owner_at.result
     (ap (λ core. record job { core = core }) c.refuse-in_default-owner_at.ensures.kept)
@@ -112,10 +112,10 @@ returns-in-Err-may_come-clause-serving g c = λ moment timely jobs n among.
     let input = c.args.input in
     let d = g.D.Disk.state volume.disk in
     let ready = c.requires.ready in
-    let sound = subst (IsSoundCore d volume.core) ready.alive ready.sound in
+    let sound = subst (IsSoundMemory d volume.map) ready.alive ready.sound in
     let moves = ne_eqb _ 0 c.requires.named in
     let name = c.name_at-name.result in
-    refusing_serves g.D.Disk.state g.met.D.Disk.only_now volume.disk volume.core volume.failed ready.alive job
+    refusing_serves g.D.Disk.state g.met.D.Disk.only_now volume.disk volume.map volume.failed ready.alive job
     c.args.number c.args.address c.args.channel input c.requires.there c.requires.side c.requires.free
     c.requires.inside sound ready.placed c.in-Err-may_come.code
     (λ h s known w.
@@ -147,14 +147,14 @@ returns-clause-serving g c =
     let e = c.args.address in
     let old = place_of input.ppn input.file in
     let new = place_of c.in-Some.ppn name in
-    rename_serves state volume.disk moved.disk after.volume.disk volume.core after.volume.core after.volume.core
+    rename_serves state volume.disk moved.disk after.volume.disk volume.map after.volume.map after.volume.map
     moved.failed after.volume.failed job after.job
     (changed_job c.rename-changed.result job c.args.number e c.args.channel) (Rename c.args.number e)
     c.answer_change.result (changed_reply c.rename-changed.result) (sym c.answer_change.ensures.untouched.0) refl
     (sym c.answer_change.ensures.untouched.1) (sym c.answer_change.ensures.job) (sym c.answer_change.ensures.answered)
-    (move_serves state g.met.D.Disk.only_now volume.disk moved.disk volume.core moved.core moved.failed job
+    (move_serves state g.met.D.Disk.only_now volume.disk moved.disk volume.map moved.map moved.failed job
     c.args.number e c.args.channel c.requires.there input c.requires.side c.requires.free c.requires.inside
-    c.requires.named (subst (IsSoundCore d volume.core) ready.alive ready.sound) ready.placed c.in-Some.ppn name
+    c.requires.named (subst (IsSoundMemory d volume.map) ready.alive ready.sound) ready.placed c.in-Some.ppn name
     (c.bits.result / 2 ^ 27)
     (λ w. at_place w job e c.in-Some.ppn name c.in-Some.ensures.there c.name_at-name.ensures.0
     c.name_at-name.ensures.1)
@@ -186,7 +186,7 @@ returns-clause-serving g c =
       answer = subst (λ (was : Bool). DeviceAnswer d (state moved.disk) was moved.failed c.rename-changed.result)
           ready.alive facts.answer;
     })
-    after.volume.core c.answer_change.ensures.closed)
+    after.volume.map c.answer_change.ensures.closed)
 
 pub refuse-requires-then-not-quota_allows_move : goal.refuse-requires-then-not-quota_allows_move
 refuse-requires-then-not-quota_allows_move g c = address_fits c.args.job.now.core c.args.address c.requires.inside
@@ -200,15 +200,15 @@ returns-then-not-quota_allows_move-clause-serving g c = λ moment timely jobs n 
     let input = c.args.input in
     let d = g.D.Disk.state volume.disk in
     let ready = c.requires.ready in
-    let sound = subst (IsSoundCore d volume.core) ready.alive ready.sound in
+    let sound = subst (IsSoundMemory d volume.map) ready.alive ready.sound in
     let moves = ne_eqb _ 0 c.requires.named in
     let name = c.name_at-name.result in
-    refusing_serves g.D.Disk.state g.met.D.Disk.only_now volume.disk volume.core volume.failed ready.alive job
+    refusing_serves g.D.Disk.state g.met.D.Disk.only_now volume.disk volume.map volume.failed ready.alive job
     c.args.number c.args.address c.args.channel input c.requires.there c.requires.side c.requires.free
     c.requires.inside sound ready.placed NoRoom
     (λ h s known w.
     let e = c.args.address in
-    moves_limited d volume.core s known sound h (job_of w job) e input.ppn input.file c.in-Some.ppn name
+    moves_limited d volume.map s known sound h (job_of w job) e input.ppn input.file c.in-Some.ppn name
     (at_place w job e c.in-Some.ppn name c.in-Some.ensures.there c.name_at-name.ensures.0 c.name_at-name.ensures.1)
     moves (c.in_default.ensures.answered h ready.alive s known (job_of w job) e refl
     (asks_for w job e (c.bits.result / 2 ^ 27)

@@ -1,11 +1,11 @@
 use Rattle.std.proofs.Common.{◌≤◌, refl, ap, subst}
 use Rattle.spec_image.specs.Common.{number_of, pack_of, place_of}
-use Rattle.volume.specs.Common.{IsSoundCore}
+use Rattle.volume.specs.Common.{IsSoundMemory}
 use Rattle.monitor.specs.Common.{job_of}
 use Rattle.monitor.proofs.RenameFile.ChangeAnswers.{rename_stops}
 use Rattle.monitor.proofs.RenameFile.Deletions.{deleting_serves}
 use Rattle.monitor.proofs.common.InputsClosed.{input_is_held}
-use Rattle.monitor.proofs.common.ReadingJobs.{job_held}
+use Rattle.monitor.proofs.common.JobReaders.{job_held}
 use Rattle.monitor.proofs.RenameFile.Refusals.{address_fits, asks_none, still_read, refusing_serves}
 use Rattle.monitor.proofs.rename.remove_file.Goals as goal
 
@@ -20,9 +20,9 @@ returns-in-Err-clause-serving g c = λ moment timely jobs n among.
     let input = c.args.input in
     let d = g.D.Disk.state volume.disk in
     let ready = c.requires.ready in
-    refusing_serves g.D.Disk.state g.met.D.Disk.only_now volume.disk volume.core volume.failed ready.alive job
+    refusing_serves g.D.Disk.state g.met.D.Disk.only_now volume.disk volume.map volume.failed ready.alive job
     c.args.number c.args.address c.args.channel input c.requires.there c.requires.side c.requires.free
-    c.requires.inside (subst (IsSoundCore d volume.core) ready.alive ready.sound) ready.placed c.in-Err.code
+    c.requires.inside (subst (IsSoundMemory d volume.map) ready.alive ready.sound) ready.placed c.in-Err.code
     (λ h s known w. rename_stops s (job_of w job) c.args.address (place_of input.ppn input.file) (pack_of d)
     (number_of c.in-Err.code) (c.in-Err.ensures.answered h ready.alive s known (job_of w job) c.args.address refl
     (asks_none w job c.args.address c.requires.deletes)))
@@ -39,10 +39,10 @@ answer_change-requires-clause-held g c =
     let job = c.args.job.now in
     let input = c.args.input in
     let ready = c.requires.ready in
-    still_read volume.core.live c.delete-changed.new.self.core.live input.pin.key
+    still_read volume.map.live c.delete-changed.new.self.map.live input.pin.key
     (λ v at read. c.delete-changed.ensures.held input.pin.key v at read)
-    (input_is_held job c.args.number c.args.channel c.requires.there input c.requires.side volume.core.live
-    (job_held volume.core.live ready.jobs ready.number job ready.among.reading ready.among.there))
+    (input_is_held job c.args.number c.args.channel c.requires.there input c.requires.side volume.map.live
+    (job_held volume.map.live ready.jobs ready.number job ready.among.reading ready.among.there))
     c.delete-changed.result
 
 pub returns-clause-serving : goal.returns-clause-serving
@@ -55,10 +55,10 @@ returns-clause-serving g c = λ moment timely jobs n among.
     let after = c.answer_change.new in
     let ready = c.requires.ready in
     let facts = c.delete-changed.ensures in
-    deleting_serves g.D.Disk.state g.met.D.Disk.only_now volume.disk deleted.disk volume.core deleted.core
-    after.volume.core volume.failed deleted.failed ready.alive job c.args.number c.args.address c.args.channel input
+    deleting_serves g.D.Disk.state g.met.D.Disk.only_now volume.disk deleted.disk volume.map deleted.map
+    after.volume.map volume.failed deleted.failed ready.alive job c.args.number c.args.address c.args.channel input
     c.requires.there c.requires.side c.requires.free c.requires.inside c.requires.deletes
-    (subst (IsSoundCore d volume.core) ready.alive ready.sound) ready.placed c.in_default.ensures.free
+    (subst (IsSoundMemory d volume.map) ready.alive ready.sound) ready.placed c.in_default.ensures.free
     (λ h s known w. c.in_default.ensures.answered h ready.alive s known (job_of w job) c.args.address refl
     (asks_none w job c.args.address c.requires.deletes))
     c.delete-changed.result

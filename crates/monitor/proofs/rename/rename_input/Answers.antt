@@ -2,7 +2,7 @@ use Rattle.std.proofs.Common.{refl, sym, ap, ◌∙◌}
 use Rattle.spec_machine.specs.declared.call.Call.TheVariants.{Rename}
 use Rattle.spec_machine.specs.declared.call.Reply.TheVariants.{AddressCheck}
 use Rattle.spec_image.proofs.Common.{some_is}
-use Rattle.monitor.proofs.common.Calling.{keeps_same}
+use Rattle.monitor.proofs.common.CallRows.{keeps_same}
 use Rattle.monitor.proofs.EnterFile.Readers.{reading_core}
 use Rattle.monitor.proofs.RenameFile.OutOfOrder.{rename_outside}
 use Rattle.monitor.proofs.common.Promised.{alone_serves}
@@ -15,7 +15,7 @@ returns-then-lies_outside-clause-serving g c = λ moment timely.
     let volume = c.args.volume.now in
     let job = c.args.job.now in
     let ready = c.requires.ready in
-    alone_serves g.D.Disk.state g.met.D.Disk.only_now volume.disk volume.core volume.failed job job
+    alone_serves g.D.Disk.state g.met.D.Disk.only_now volume.disk volume.map volume.failed job job
     (Rename c.args.number c.args.address) moment AddressCheck ready.alive ready.placed timely
     (rename_outside job c.args.number c.args.address c.args.channel c.requires.there
     (sym c.lies_outside.ensures.value ∙ c.if-lies_outside.true))
@@ -28,7 +28,7 @@ returns-then-is_some-clause-serving g c = λ moment timely.
     let job = c.args.job.now in
     let ready = c.requires.ready in
     let writes = some_is c.args.channel.output (sym c.is_some.ensures ∙ c.if-is_some.true) in
-    out_of_order g.D.Disk.state g.met.D.Disk.only_now volume.disk volume.core volume.failed job
+    out_of_order g.D.Disk.state g.met.D.Disk.only_now volume.disk volume.map volume.failed job
     (record job { core = c.refuse.new.core }) c.args.number c.args.address moment c.refuse.result ready.alive
     ready.placed timely
     (rename_writing job c.args.number c.args.address c.args.channel c.requires.there writes.0 writes.1

@@ -2,7 +2,7 @@ use Rattle.std.proofs.Common.{refl, sym, ap, subst, ◌∙◌}
 use Rattle.spec_machine.specs.declared.call.Call.TheVariants.{Rename}
 use Rattle.spec_machine.specs.declared.call.Reply.TheVariants.{Refused}
 use Rattle.monitor.specs.Common.{IsRow, reader_of}
-use Rattle.monitor.proofs.common.Calling.{keeps_same}
+use Rattle.monitor.proofs.common.CallRows.{keeps_same}
 use Rattle.monitor.proofs.common.Changes.{keeps_core}
 use Rattle.monitor.proofs.RenameFile.OutOfOrder.{rename_none, rename_outside, rename_refused}
 use Rattle.monitor.proofs.rename.rename_nothing.Goals as goal

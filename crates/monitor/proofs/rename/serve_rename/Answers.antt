@@ -7,6 +7,6 @@ returns-in-None-clause-serving g c = λ moment timely.
     let volume = c.args.volume.now in
     let ready = c.requires.ready in
     let told = c.rename_nothing.ensures in
-    alone_serves g.D.Disk.state g.met.D.Disk.only_now volume.disk volume.core volume.failed c.args.job.now
+    alone_serves g.D.Disk.state g.met.D.Disk.only_now volume.disk volume.map volume.failed c.args.job.now
     c.rename_nothing.new.job (Rename c.args.channel c.args.address) moment c.rename_nothing.result ready.alive
     ready.placed timely told.row told.keeps told.reads told.only told.refused told.decided

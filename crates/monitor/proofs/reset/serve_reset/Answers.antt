@@ -5,21 +5,21 @@ use Rattle.spec_machine.specs.declared.call.Call.TheVariants.{Reset}
 use Rattle.spec_machine.specs.declared.call.Reply.TheVariants.{Done}
 use Rattle.monitor.specs.Common.{sides_in, readers_in, keys_of, pins_of, reset_job, Closes}
 use Rattle.monitor.specs.declared.job.Job.{Job}
-use Rattle.monitor.proofs.common.Answering.{row}
+use Rattle.monitor.proofs.common.EventAnswers.{row}
 use Rattle.monitor.proofs.common.Dropped.{job_live, closed_keyed}
-use Rattle.monitor.proofs.common.Placing.{placed_left}
+use Rattle.monitor.proofs.common.PlacedVersions.{placed_left}
 use Rattle.monitor.proofs.common.Promised.{quiet_serves}
-use Rattle.monitor.proofs.common.ReadingJobs.{job_held, closed_reading, bare_readers}
-use Rattle.monitor.proofs.OtherCalls.Resetting.{reset_row}
+use Rattle.monitor.proofs.common.JobReaders.{job_held, closed_reading, bare_readers}
+use Rattle.monitor.proofs.OtherCalls.Resets.{reset_row}
 use Rattle.spec_machine.specs.declared.call.Event.TheVariants.{Call as Calls}
 use Rattle.monitor.proofs.reset.serve_reset.Goals as goal
 
 pub close_channels-requires-clause-live : goal.close_channels-requires-clause-live
-close_channels-requires-clause-live g c = job_live c.args.volume.now.core c.requires.ready.jobs c.requires.ready.number
+close_channels-requires-clause-live g c = job_live c.args.volume.now.map c.requires.ready.jobs c.requires.ready.number
     c.args.job.now c.requires.ready.among.keyed c.requires.ready.among.there
 
 pub close_channels-requires-clause-held : goal.close_channels-requires-clause-held
-close_channels-requires-clause-held g c = job_held c.args.volume.now.core.live c.requires.ready.jobs
+close_channels-requires-clause-held g c = job_held c.args.volume.now.map.live c.requires.ready.jobs
     c.requires.ready.number c.args.job.now c.requires.ready.among.reading c.requires.ready.among.there
 
 pub returns-clause-serving : goal.returns-clause-serving
@@ -27,8 +27,8 @@ returns-clause-serving g c = λ moment timely jobs n among.
     let state = g.D.Disk.state in
     let old = c.args.volume.now in
     let new = c.close_channels.new.volume in
-    let map = old.core in
-    let map' = new.core in
+    let map = old.map in
+    let map' = new.map in
     let job = c.args.job.now in
     let job' = c.reset.new.self in
     let jobs' = slice_set jobs n (Some job') in

@@ -7,7 +7,7 @@ use Rattle.spec_image.proofs.Common.{stands_in_any}
 use Rattle.monitor.specs.Common.{Serves, ServesFiles}
 use Rattle.monitor.proofs.Events.Along.{along, no_fault, stopped_like, stands_again, ok_each, ok_either, ok_and}
 use Rattle.monitor.proofs.Events.Along.{ok_pair, start_in}
-use Rattle.volume.proofs.common.Handing.{found_named}
+use Rattle.volume.proofs.common.PassedErrors.{found_named}
 use Rattle.monitor.proofs.restart.start_after_crash.Goals as goal
 
 pub returns-clause-found : goal.returns-clause-found

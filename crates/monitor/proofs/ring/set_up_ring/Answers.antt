@@ -3,7 +3,7 @@ use Rattle.spec_machine.specs.Common.{setup, buffers_of}
 use Rattle.retrieval.specs.Common.{mode_number}
 use Rattle.spec_machine.specs.declared.call.Reply.TheVariants.{Done}
 use Rattle.monitor.specs.Common.{KeepsSides, KeepsReading, job_of}
-use Rattle.monitor.proofs.common.Calling.{keeps_same, keeps_core, reads_core}
+use Rattle.monitor.proofs.common.CallRows.{keeps_same, keeps_core, reads_core}
 use Rattle.monitor.proofs.OtherCalls.RingsMade.{ring_done, ring_there, ok_gives}
 use Rattle.monitor.proofs.OtherCalls.Usetos.{keeps_status, reads_status}
 use Rattle.monitor.proofs.ring.set_up_ring.Goals as goal

@@ -3,9 +3,9 @@ use Rattle.std.specs.Prelude.{◌==◌}
 use Rattle.words36.specs.declared.names.FileName.{FileName}
 use Rattle.spec_image.specs.Common.{Place, pack_of, get, without_serials, place_of}
 use Rattle.spec_machine.specs.declared.call.Reply.TheVariants.{Done}
-use Rattle.volume.specs.Common.{pending_at, BeginsWithFile, IsSoundCore}
+use Rattle.volume.specs.Common.{pending_at, BeginsWithFile, IsSoundMemory}
 use Rattle.monitor.specs.Common.{IsAnswer, job_of, allowed_update, update_answer_at}
-use Rattle.monitor.proofs.common.Answering.{contrary}
+use Rattle.monitor.proofs.common.EventAnswers.{contrary}
 use Rattle.monitor.proofs.UpdateFile.Updates.{updates, may, refused, limited, begun, not_begun}
 use Rattle.monitor.proofs.common.Limits.{AllowsBegin}
 use Rattle.monitor.proofs.update.begin_update.Goals as goal
@@ -22,7 +22,7 @@ returns-in-Ok-begin-clause-begun g c = (
 pub returns-in-Ok-begin-clause-file : goal.returns-in-Ok-begin-clause-file
 returns-in-Ok-begin-clause-file g c h alive files rests =
     let contents = (g.D.Disk.state c.args.volume.now.disk).contents in
-    let version = pending_at c.begin.new.self.core.pending c.in-Ok-begin.pending.key in
+    let version = pending_at c.begin.new.self.map.pending c.in-Ok-begin.pending.key in
     let file : c.place_of.result.file ≡ c.args.input.now.file = c.place_of.ensures.1 in
     let ppn : c.place_of.result.ppn ≡ c.args.input.now.ppn = c.place_of.ensures.0 in
     subst (λ (n : ℕ). BeginsWithFile contents version c.args.input.now.file (get files n)) ppn
@@ -33,10 +33,10 @@ returns-in-Ok-begin-clause-file g c h alive files rests =
 pub returns-in-Err-clause-answered : goal.returns-in-Err-clause-answered
 returns-in-Err-clause-answered g c h alive s known w =
     let d = g.D.Disk.state c.args.volume.now.disk in
-    let map = c.args.volume.now.core in
+    let map = c.args.volume.now.map in
     let job = c.args.job.now in
     let input = c.args.input.now in
-    refused d map s known (subst (IsSoundCore d map) alive c.requires.sound) h w job
+    refused d map s known (subst (IsSoundMemory d map) alive c.requires.sound) h w job
     (place_of input.ppn input.file) c.in-Err.code
     ((λ i. allowed_update (sym (c.find-found.ensures h alive (without_serials s.files) known.files) i) job.ppn input.ppn
     (sym c.bits-is_zero.ensures.value i == 0) (sym c.is_claimed-claimed.ensures i)) ∙ sym c.in-Err.ensures)
@@ -45,11 +45,11 @@ pub returns-in-Ok-begin-clause-answered : goal.returns-in-Ok-begin-clause-answer
 returns-in-Ok-begin-clause-answered g c h alive s known w =
     let was = subst (λ disk. (g.D.Disk.state disk).honest) c.begin.ensures.untouched.0 h in
     let d = g.D.Disk.state c.args.volume.now.disk in
-    let map = c.args.volume.now.core in
+    let map = c.args.volume.now.map in
     let job = c.args.job.now in
     let input = c.args.input.now in
     let prime = c.place_of.result in
-    let sound = subst (IsSoundCore d map) alive c.requires.sound in
+    let sound = subst (IsSoundMemory d map) alive c.requires.sound in
     let at : place_of prime.ppn prime.file ≡ place_of input.ppn input.file =
     λ i. place_of (c.place_of.ensures.0 i) (c.place_of.ensures.1 i) in
     let with_file = updates c.find-found.result job.ppn input.ppn _ _ c.in-Ok.kind (sym c.in-Ok.ensures) in
@@ -69,11 +69,11 @@ pub returns-in-Err-begin-clause-answered : goal.returns-in-Err-begin-clause-answ
 returns-in-Err-begin-clause-answered g c h alive s known w =
     let was = subst (λ disk. (g.D.Disk.state disk).honest) c.begin.ensures.untouched.0 h in
     let d = g.D.Disk.state c.args.volume.now.disk in
-    let map = c.args.volume.now.core in
+    let map = c.args.volume.now.map in
     let job = c.args.job.now in
     let input = c.args.input.now in
     let prime = c.place_of.result in
-    let sound = subst (IsSoundCore d map) alive c.requires.sound in
+    let sound = subst (IsSoundMemory d map) alive c.requires.sound in
     let at : place_of prime.ppn prime.file ≡ place_of input.ppn input.file =
     λ i. place_of (c.place_of.ensures.0 i) (c.place_of.ensures.1 i) in
     let with_file = updates c.find-found.result job.ppn input.ppn _ _ c.in-Ok.kind (sym c.in-Ok.ensures) in
@@ -95,10 +95,10 @@ returns-in-Err-begin-clause-answered g c h alive s known w =
 pub returns-then-not-quota_allows_begin-clause-answered : goal.returns-then-not-quota_allows_begin-clause-answered
 returns-then-not-quota_allows_begin-clause-answered g c h alive s known w =
     let d = g.D.Disk.state c.args.volume.now.disk in
-    let map = c.args.volume.now.core in
+    let map = c.args.volume.now.map in
     let job = c.args.job.now in
     let input = c.args.input.now in
-    let sound = subst (IsSoundCore d map) alive c.requires.sound in
+    let sound = subst (IsSoundMemory d map) alive c.requires.sound in
     let with_file = updates c.find-found.result job.ppn input.ppn _ _ c.in-Ok.kind (sym c.in-Ok.ensures) in
     let ok : may d map s known sound h job.ppn (place_of input.ppn input.file) ≡ Ok c.in-Ok.kind =
     (λ i. allowed_update (sym (c.find-found.ensures h alive (without_serials s.files) known.files) i) job.ppn

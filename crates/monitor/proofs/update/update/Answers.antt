@@ -5,14 +5,14 @@ use Rattle.spec_image.specs.Common.{number_of, get, times, same_place, place_of,
 use Rattle.spec_machine.specs.Common.{with_right, place_at, with_attributes}
 use Rattle.spec_machine.specs.declared.call.Reply.TheVariants.{Refused}
 use Rattle.spec_machine.proofs.Common.{same_place-equal, is_none_of}
-use Rattle.volume.specs.Common.{begun, claims, IsWholeCore, slot as version_at, IsPinAnswer, prime_at, RestsAt}
+use Rattle.volume.specs.Common.{begun, claims, IsWholeMemory, slot as version_at, IsPinAnswer, prime_at, RestsAt}
 use Rattle.volume.specs.declared.live.LiveVersion.{LiveVersion}
 use Rattle.volume.proofs.common.PrimeBlocks.{begun_named}
 use Rattle.monitor.specs.Common.{IsAnswer, file_begun, KeepsReading, readers_in, pins_of, job_of, readers_of}
 use Rattle.monitor.specs.Common.{update_answer_at, updating_side}
 use Rattle.retrieval.specs.declared.prime.Prime.{Prime}
 use Rattle.monitor.proofs.LookupFile.Lookups.{placed_still}
-use Rattle.monitor.proofs.common.Placing.{placed_begun}
+use Rattle.monitor.proofs.common.PlacedVersions.{placed_begun}
 use Rattle.monitor.proofs.common.Renewals.{renews_with, renewed_reading, renewed_pending, renewed_known}
 use Rattle.monitor.proofs.UpdateFile.Rows.{out_of_order, done, refused, wanting, reader_held, few_kept, is_update_of}
 use Rattle.monitor.proofs.update.update.Goals.{then-is_some-via-then-is_some}
@@ -23,21 +23,21 @@ use Rattle.monitor.proofs.update.update.Goals as goal
 pub side_of-output-requires-clause-few : goal.side_of-output-requires-clause-few
 side_of-output-requires-clause-few g c =
     let begins = c.in-Ok.ensures.begun in
-    few_kept (g.D.Disk.state c.args.volume.now.disk).size c.args.volume.now.core c.begin_update.new.volume.core
+    few_kept (g.D.Disk.state c.args.volume.now.disk).size c.args.volume.now.map c.begin_update.new.volume.map
     c.in-Ok.pending.key c.in-Ok.kind begins.1 c.requires.sound.whole.map begins.4
 
 pub renew-renewed-requires-clause-there : goal.renew-renewed-requires-clause-there
 renew-renewed-requires-clause-there g c none =
     let begins = c.in-Ok.ensures.begun in
-    let between = c.begin_update.new.volume.core in
+    let between = c.begin_update.new.volume.map in
     let ppn : begins.1.ppn ≡ c.args.reading.1.ppn = begins.2 in
     let file : begins.1.file ≡ c.args.reading.1.file = begins.3 in
-    begun_named c.args.volume.now.core between c.in-Ok.pending.key c.in-Ok.kind begins.1 begins.4
+    begun_named c.args.volume.now.map between c.in-Ok.pending.key c.in-Ok.kind begins.1 begins.4
     (update_creates c.in-Ok.kind begins.0) ((λ i. prime_at between (ppn i) (file i)) ∙ none)
 
 pub renew-renewed-requires-clause-held : goal.renew-renewed-requires-clause-held
 renew-renewed-requires-clause-held g c =
-    reader_held c.begin_update.new.volume.core.live c.args.job.now c.args.number c.args.reading.0 c.args.reading.1
+    reader_held c.begin_update.new.volume.map.live c.args.job.now c.args.number c.args.reading.0 c.args.reading.1
     c.requires.there c.requires.side
     (subst (λ (live : List (Option LiveVersion)). (key : ℕ) → times key (pins_of (readers_in (Some c.args.job.now)))
     ≤ readers_of (version_at live key)) (sym c.in-Ok.ensures.begun.4.live) c.requires.held)
@@ -49,7 +49,7 @@ returns-in-Ok-clause-begun g c is =
     let version = begun c.in-Ok.kind begins.1 begins.4.old in
     let renews = c.renew-renewed.ensures.renews in
     let prime : c.prime_of-prime.result ≡ version.prime = c.prime_of-prime.ensures version begins.4.here in
-    let held = renews_with c.begin_update.new.volume.core c.renew-renewed.new.volume.core c.args.reading.1
+    let held = renews_with c.begin_update.new.volume.map c.renew-renewed.new.volume.map c.args.reading.1
     c.renew-renewed.result c.args.reading.1.ppn c.args.reading.1.file c.prime_of-prime.result.protection
     version.prime.protection (ap (λ (p : Prime). p.protection) prime) renews.0 in
     let side : c.side_of-output.result ≡ updating_side c.in-Ok.pending.key c.in-Ok.kind version.kept_blocks =
@@ -67,7 +67,7 @@ returns-in-Ok-clause-begun g c is =
         updates = begins.0;
         prime = begins.1;
         prime_is = (begins.2, begins.3);
-        between = c.begin_update.new.volume.core;
+        between = c.begin_update.new.volume.map;
         begun = begins.4;
         version = version;
         version_is = begins.4.here;
@@ -83,13 +83,13 @@ returns-in-Ok-clause-begun g c is =
               }));
         });
       },
-      subst (λ disk. IsWholeCore (state disk).size c.begin_update.new.volume.core) c.in-Ok.ensures.untouched.0
+      subst (λ disk. IsWholeMemory (state disk).size c.begin_update.new.volume.map) c.in-Ok.ensures.untouched.0
           c.has_failed-failed.ensures.sound.whole,
       λ h files rests.
           let between = subst (λ disk. (state disk).honest) c.renew-renewed.ensures.untouched.0 h in
           let same = c.in-Ok.ensures.untouched.0 in
           is_update_of (state c.args.volume.now.disk).contents c.args.job.now c.args.reading.1 c.in-Ok.kind version _
-          c.begin_update.new.volume.core c.renew-renewed.new.volume.core c.renew-renewed.result files held
+          c.begin_update.new.volume.map c.renew-renewed.new.volume.map c.renew-renewed.result files held
           begins.4.here (c.in-Ok.ensures.file between c.requires.alive files rests)
           (c.in-Ok.ensures.kind between c.requires.alive files rests)
           (subst (λ disk. IsPinAnswer (state disk).contents renews.0.between.live c.args.reading.1.file
@@ -102,23 +102,23 @@ returns-in-Ok-clause-placed g c placed =
     let begins = c.in-Ok.ensures.begun in
     let ppn : begins.1.ppn ≡ c.args.reading.1.ppn = begins.2 in
     let file : begins.1.file ≡ c.args.reading.1.file = begins.3 in
-    let between = c.begin_update.new.volume.core in
-    let new = c.renew-renewed.new.volume.core in
+    let between = c.begin_update.new.volume.map in
+    let new = c.renew-renewed.new.volume.map in
     let renews = c.renew-renewed.ensures.renews.0 in
     placed_still between new
     (renewed_pending between new c.args.reading.1 c.renew-renewed.result c.args.reading.1.ppn c.args.reading.1.file
     c.prime_of-prime.result.protection renews)
     (renewed_known between new c.args.reading.1 c.renew-renewed.result c.args.reading.1.ppn c.args.reading.1.file
     c.prime_of-prime.result.protection renews)
-    (placed_begun c.args.volume.now.core between c.in-Ok.pending.key c.in-Ok.kind begins.1 begins.4
+    (placed_begun c.args.volume.now.map between c.in-Ok.pending.key c.in-Ok.kind begins.1 begins.4
     (ap (λ (x : FileName). x.name == 0) file ∙ c.in-Ok.ensures.free.0)
-    ((λ i. claims c.args.volume.now.core.pending (place_of (ppn i) (file i))) ∙ c.in-Ok.ensures.free.1) placed)
+    ((λ i. claims c.args.volume.now.map.pending (place_of (ppn i) (file i))) ∙ c.in-Ok.ensures.free.1) placed)
 
 pub returns-in-Ok-clause-reads : goal.returns-in-Ok-clause-reads
 returns-in-Ok-clause-reads g c =
     let begins = c.in-Ok.ensures.begun in
-    let between = c.begin_update.new.volume.core in
-    let new = c.renew-renewed.new.volume.core in
+    let between = c.begin_update.new.volume.map in
+    let new = c.renew-renewed.new.volume.map in
     subst (λ live. KeepsReading live new.live c.args.job.now c.set_channel.new.self) begins.4.live
     (subst (KeepsReading between.live new.live c.args.job.now) (sym c.set_channel.ensures)
     (renewed_reading between new c.args.reading.1 c.renew-renewed.result c.args.reading.1.ppn c.args.reading.1.file

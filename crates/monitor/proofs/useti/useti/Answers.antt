@@ -2,7 +2,7 @@ use Rattle.std.proofs.Common.{sym, ap, ◌∙◌, subst, Some, slice_set, arith}
 use Rattle.spec_machine.specs.declared.call.Call.TheVariants.{Useti}
 use Rattle.spec_machine.specs.declared.call.Reply.TheVariants.{Refused}
 use Rattle.monitor.specs.Common.{IsRow}
-use Rattle.monitor.proofs.common.Calling.{keeps_same}
+use Rattle.monitor.proofs.common.CallRows.{keeps_same}
 use Rattle.monitor.proofs.OtherCalls.Usetis.{useti_none, useti_refused, useti_stopped, useti_moved, keeps_read}
 use Rattle.monitor.proofs.OtherCalls.Usetis.{reads_at}
 use Rattle.monitor.proofs.OtherCalls.Usetos.{keeps_status, reads_status}

@@ -2,7 +2,7 @@ use Rattle.std.proofs.Common.{sym, ap, ◌∙◌, subst, Some, slice_set, arith}
 use Rattle.spec_machine.specs.declared.call.Call.TheVariants.{Useto}
 use Rattle.spec_machine.specs.declared.call.Reply.TheVariants.{Refused}
 use Rattle.monitor.specs.Common.{IsRow}
-use Rattle.monitor.proofs.common.Calling.{keeps_same}
+use Rattle.monitor.proofs.common.CallRows.{keeps_same}
 use Rattle.monitor.proofs.OtherCalls.Usetos.{useto_none, useto_refused, useto_stopped, useto_moved, keeps_status}
 use Rattle.monitor.proofs.OtherCalls.Usetos.{keeps_moved, reads_status, reads_moved}
 use Rattle.monitor.proofs.useto.useto.Goals as goal

@@ -1,5 +1,5 @@
 use Rattle.std.proofs.Common.{rules, ◌+◌, ◌<◌, ◌∙◌, length, take, arith}
-use Rattle.retrieval.proofs.KeptRuns.{drop_later, same_at, joined_more}
+use Rattle.retrieval.proofs.RunListLaws.{drop_later, same_at, joined_more}
 use Rattle.retrieval.specs.Common.{pairs_of}
 use Rattle.retrieval.proofs.block_list.join_all.Goals as goal
 

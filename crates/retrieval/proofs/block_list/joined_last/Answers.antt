@@ -1,5 +1,5 @@
 use Rattle.std.proofs.Common.{arith}
-use Rattle.retrieval.proofs.KeptRuns.{joins_last, stands_apart}
+use Rattle.retrieval.proofs.RunListLaws.{joins_last, stands_apart}
 use Rattle.retrieval.proofs.block_list.joined_last.Goals as goal
 
 pub returns-then-not-adjoins-clause-none : goal.returns-then-not-adjoins-clause-none

@@ -1,6 +1,6 @@
 use Rattle.std.proofs.Common.{◌+◌, ◌∙◌, take, arith}
 use Rattle.std.proofs.lemmas.List.{length-take-le}
-use Rattle.retrieval.proofs.KeptRuns.{length_more}
+use Rattle.retrieval.proofs.RunListLaws.{length_more}
 use Rattle.retrieval.proofs.RunEnds.{count_ends, few_more, ends_more}
 use Rattle.retrieval.proofs.block_list.make_ends.Goals as goal
 

@@ -3,7 +3,7 @@ use Rattle.std.proofs.Common.{rules}
 use Rattle.std.proofs.lemmas.List.{take_all, length-set}
 use Rattle.retrieval.specs.Common.{pairs_of, pair_of, behind}
 use Rattle.retrieval.specs.declared.run.Run.{Run as RunValue}
-use Rattle.retrieval.proofs.KeptRuns.{set_before}
+use Rattle.retrieval.proofs.RunListLaws.{set_before}
 use Rattle.retrieval.proofs.RunEnds.{count_ends, ends_joined, ends_pushed}
 use Rattle.retrieval.proofs.block_list.push_run.Goals as goal
 

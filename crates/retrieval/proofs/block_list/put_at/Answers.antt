@@ -2,7 +2,7 @@ use Rattle.std.proofs.Common.{◌<◌, ◌∙◌, ap, sym, length, flat_map, sli
 use Rattle.spec_image.specs.Common.{run_blocks}
 use Rattle.retrieval.specs.Common.{blocks_of_runs, longest_runs, part_blocks}
 use Rattle.retrieval.proofs.LongestRuns.{blocks_of_longest}
-use Rattle.retrieval.proofs.KeptRuns.{parts_put, put_in, offset_at}
+use Rattle.retrieval.proofs.RunListLaws.{parts_put, put_in, offset_at}
 use Rattle.retrieval.proofs.block_list.put_at.Goals as goal
 
 pub returns-clause-are_longest : goal.returns-clause-are_longest

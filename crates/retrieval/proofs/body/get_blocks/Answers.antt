@@ -1,7 +1,7 @@
 use Rattle.std.proofs.Common.{◌≡◌, length, arith}
 use Rattle.std.proofs.lemmas.Result.{err_from_is_err_and}
 use Rattle.retrieval.specs.declared.error.BodyError.TheVariants.{BadData}
-use Rattle.changeset.proofs.Reading.{passed_on}
+use Rattle.changeset.proofs.LogRead.{passed_on}
 use Rattle.retrieval.proofs.RunReads.{stand_at}
 use Rattle.retrieval.proofs.body.get_blocks.Goals as goal
 

@@ -7,7 +7,7 @@ use Rattle.retrieval.specs.Common.{StandsAt}
 use Rattle.retrieval.specs.declared.error.BodyError.TheVariants.{BadData}
 use Rattle.retrieval.proofs.Parts.{all_at, whole_from, damaged_at, read_all}
 use Rattle.retrieval.proofs.RunReads.{read_run_more, none_damaged, damaged_place}
-use Rattle.changeset.proofs.Reading.{passed_on}
+use Rattle.changeset.proofs.LogRead.{passed_on}
 use Rattle.retrieval.proofs.body.get_words.Goals as goal
 
 pub get_run-requires-clause-inside : goal.get_run-requires-clause-inside

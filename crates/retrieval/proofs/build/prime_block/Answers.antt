@@ -2,9 +2,9 @@ use Rattle.std.proofs.Common.{◌-◌, ◌<◌, ◌≤◌, ◌^◌, ℕ, List, �
 use Rattle.std.proofs.Common.{ap, ◌∙◌}
 use Rattle.std.specs.List.{AllByRecursion}
 use Rattle.std.proofs.lemmas.List.{length-map, take-map}
-use Rattle.spec_image.specs.Common.{head_or_zero, Run, IsRun, pointer}
+use Rattle.spec_image.specs.Common.{head_or_zero, SpecRun, IsRun, pointer}
 use Rattle.retrieval.specs.Common.{with_length, pair_of, pairs_of, longest_runs}
-use Rattle.retrieval.proofs.Building.{block_written, all_first, runs_fit}
+use Rattle.retrieval.proofs.BuiltPointers.{block_written, all_first, runs_fit}
 use Rattle.retrieval.proofs.build.prime_block.Goals as goal
 
 pub put_pointers-requires-clause-fit : goal.put_pointers-requires-clause-fit
@@ -29,6 +29,6 @@ returns c =
     block_written (with_length c.args.prime.now v.words) (longest_runs v.blocks) part c.put_pointers.new.words count
     (head_or_zero v.ribs)
     (c.min-count.ensures ∙ ap (λ (n : ℕ). min n 112) (sym (length-map runs pair_of) ∙ ap length are))
-    (sym (take-map pair_of count runs) ∙ ap (λ (l : List Run). take count l) are)
+    (sym (take-map pair_of count runs) ∙ ap (λ (l : List SpecRun). take count l) are)
     (c.put_pointers.ensures ∙ ap (λ (l : List ℕ). take 16 l
     ++ (map pointer (pairs_of part) ++ replicate (112 - length part) 0)) c.without_pointers-words.ensures)

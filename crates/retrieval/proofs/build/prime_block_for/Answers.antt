@@ -1,6 +1,6 @@
 use Rattle.std.proofs.Common.{refl}
 use Rattle.retrieval.specs.Common.{with_length}
-use Rattle.retrieval.proofs.Building.{front_rewritten}
+use Rattle.retrieval.proofs.BuiltPointers.{front_rewritten}
 use Rattle.retrieval.proofs.build.prime_block_for.Goals as goal
 
 pub returns : goal.returns

@@ -2,7 +2,7 @@ use Rattle.std.proofs.Common.{◌+◌, ℕ, List, take, slice_set, ap, ◌∙◌
 use Rattle.std.proofs.lemmas.List.{length-take-le}
 use Rattle.spec_image.specs.Common.{pointer}
 use Rattle.retrieval.specs.Common.{pair_of}
-use Rattle.retrieval.proofs.Building.{put_in_prime, fits_at}
+use Rattle.retrieval.proofs.BuiltPointers.{put_in_prime, fits_at}
 use Rattle.retrieval.proofs.build.put_pointers.Goals as goal
 
 pub pointer_to-requires : goal.pointer_to-requires

@@ -1,7 +1,7 @@
 use Rattle.std.proofs.Common.{ℕ, List, ◌∙◌, ap}
 use Rattle.spec_image.specs.Common.{head_or_zero}
 use Rattle.retrieval.specs.Common.{with_length}
-use Rattle.retrieval.proofs.Building.{front_written}
+use Rattle.retrieval.proofs.BuiltPointers.{front_written}
 use Rattle.retrieval.proofs.build.without_pointers.Goals as goal
 
 pub returns : goal.returns

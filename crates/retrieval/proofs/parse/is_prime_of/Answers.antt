@@ -4,7 +4,7 @@ use Rattle.std.proofs.lemmas.Slice.Eq.{slice_eq-Decides}
 use Rattle.spec_image.specs.Common.{head_or_zero, layout_number}
 use Rattle.retrieval.specs.Common.{runs_of, with_length}
 use Rattle.retrieval.proofs.MatchedPrimes.{is_prime, prime_anew}
-use Rattle.retrieval.proofs.Writing.{is_mode}
+use Rattle.retrieval.proofs.WrittenRibs.{is_mode}
 use Rattle.retrieval.proofs.parse.is_prime_of.Goals as goal
 
 pub returns-in_default : goal.returns-in_default

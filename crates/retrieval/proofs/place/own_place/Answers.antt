@@ -2,7 +2,7 @@ use Rattle.std.proofs.Common.{◌≡◌, ◌+◌, ℕ, List, sym, ap, ◌∙◌,
 use Rattle.spec_image.specs.Common.{times}
 use Rattle.alloctab.specs.Common.{bit, holds}
 use Rattle.retrieval.specs.Common.{IsOwn}
-use Rattle.retrieval.proofs.Holding.{used_le_uses, held_once, still_held, swapped}
+use Rattle.retrieval.proofs.HeldBlocks.{used_le_uses, held_once, still_held, swapped}
 use Rattle.retrieval.proofs.place.own_place.Goals as goal
 
 pub returns-then-is_held_alone-clause-alone : goal.returns-then-is_held_alone-clause-alone

@@ -3,11 +3,11 @@ use Rattle.std.specs.List.{AllByRecursion}
 use Rattle.blockdisk.specs.Common.{modifies_on, modifies_wider, still_modifies, keeps_still}
 use Rattle.spec_image.specs.Common.{blocks_of, InSpace}
 use Rattle.retrieval.specs.Common.{IsOwn, IsPartlyPlaced}
-use Rattle.retrieval.proofs.Growing.{grown, grown_length, grown_keeps, after_some}
-use Rattle.retrieval.proofs.Holding.{used_le_uses}
+use Rattle.retrieval.proofs.GrownLists.{grown, grown_length, grown_keeps, after_some}
+use Rattle.retrieval.proofs.HeldBlocks.{used_le_uses}
 use Rattle.retrieval.proofs.Placed.{size_same, booked_same, fixed_on, room_on, same_on, held_on, own_before}
 use Rattle.retrieval.proofs.Placed.{held_again, adds_on}
-use Rattle.retrieval.proofs.Putting.{body_put}
+use Rattle.retrieval.proofs.PutBlocks.{body_put}
 use Rattle.retrieval.proofs.Parts.{whole_from}
 use Rattle.retrieval.proofs.put.put_into.Goals as goal
 

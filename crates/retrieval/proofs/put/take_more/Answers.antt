@@ -1,7 +1,7 @@
 use Rattle.std.proofs.Common.{◌≡◌, ◌++◌, ◌∷◌, [], ℕ, List, length, refl, sym, ap, subst, ◌∙◌, arith, append-nil}
 use Rattle.std.proofs.Common.{append_assoc, length-append}
 use Rattle.retrieval.specs.Common.{Takes, GrowsBy}
-use Rattle.retrieval.proofs.Taking.{room, takes_stays, takes_more}
+use Rattle.retrieval.proofs.TakenBlocks.{room, takes_stays, takes_more}
 use Rattle.retrieval.proofs.put.take_more.Goals as goal
 
 pub loop-init : goal.loop-init

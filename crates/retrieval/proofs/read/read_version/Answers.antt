@@ -10,7 +10,7 @@ use Rattle.retrieval.proofs.Readings.{read_whole, bad_count, damaged_prime, bad_
 use Rattle.retrieval.proofs.Readings.{extended_blocks, extended_ribs, falls, bad_of}
 use Rattle.retrieval.proofs.RibCounts.{started_filled, extended_filled, filled_few}
 use Rattle.retrieval.proofs.Whole.{read_as}
-use Rattle.changeset.proofs.Reading.{passed_on}
+use Rattle.changeset.proofs.LogRead.{passed_on}
 use Rattle.retrieval.proofs.read.read_version.Goals as goal
 
 pub returns-in_err-block-clause-bad : goal.returns-in_err-block-clause-bad

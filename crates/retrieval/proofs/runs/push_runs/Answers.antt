@@ -5,7 +5,7 @@ use Rattle.retrieval.specs.Common.{runs_of, VersionState}
 use Rattle.retrieval.specs.declared.runs.RunError.TheVariants.{Outside, TooMany}
 use Rattle.retrieval.proofs.PointerLists.{run_at}
 use Rattle.retrieval.proofs.RunLists.{inside_at, counted_at}
-use Rattle.changeset.proofs.Reading.{passed_on}
+use Rattle.changeset.proofs.LogRead.{passed_on}
 use Rattle.retrieval.proofs.runs.push_runs.Goals as goal
 
 pub push_pointer-requires-clause-run : goal.push_pointer-requires-clause-run

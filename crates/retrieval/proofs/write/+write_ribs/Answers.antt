@@ -3,9 +3,9 @@ use Rattle.std.specs.List.{AllByRecursion}
 use Rattle.std.proofs.lemmas.List.{length-map, take-map, drop-map}
 use Rattle.spec_image.specs.Common.{IsRun, times}
 use Rattle.retrieval.specs.Common.{pair_of, pairs_of}
-use Rattle.retrieval.proofs.Building.{all_first, all_later}
+use Rattle.retrieval.proofs.BuiltPointers.{all_first, all_later}
 use Rattle.blockdisk.specs.Common.{modifies_start, modifies_wider, modifies_write}
-use Rattle.retrieval.proofs.Writing.{written_on, behind, is_in, in_later}
+use Rattle.retrieval.proofs.WrittenRibs.{written_on, behind, is_in, in_later}
 use Rattle.retrieval.proofs.write.+write_ribs.Goals as goal
 
 pub returns-in_default-clause-modified : goal.returns-in_default-clause-modified

@@ -2,7 +2,7 @@ use Rattle.std.proofs.Common.{◌+◌, ℕ, List, slice_set, length, ap, ◌∙�
 use Rattle.words36.specs.Common.{join}
 use Rattle.spec_image.specs.Common.{extension_half, pointer}
 use Rattle.retrieval.specs.Common.{pair_of}
-use Rattle.retrieval.proofs.Building.{put_in_extension, fits_at}
+use Rattle.retrieval.proofs.BuiltPointers.{put_in_extension, fits_at}
 use Rattle.retrieval.proofs.write.extension_of.Goals as goal
 
 pub pointer_to-requires : goal.pointer_to-requires

@@ -2,7 +2,7 @@ use Rattle.std.proofs.Common.{◌++◌, ◌∷◌, [], ℕ, List, take, subst, s
 use Rattle.std.proofs.lemmas.List.{take_more_set, length-take-le, length-set}
 use Rattle.alloctab.specs.Common.{TableState}
 use Rattle.retrieval.specs.Common.{Takes}
-use Rattle.retrieval.proofs.Taking.{room, takes_stays, takes_more}
+use Rattle.retrieval.proofs.TakenBlocks.{room, takes_stays, takes_more}
 use Rattle.retrieval.proofs.write.take_blocks.Goals as goal
 
 pub take_block-requires-clause-used : goal.take_block-requires-clause-used

@@ -1,7 +1,7 @@
 use Rattle.std.proofs.Common.{◌≡◌, length, ap, sym, ◌∙◌, arith}
 use Rattle.std.proofs.lemmas.List.{length-map}
 use Rattle.retrieval.specs.Common.{pair_of, ribs_of, rib_count}
-use Rattle.retrieval.proofs.Taking.{fits_after}
+use Rattle.retrieval.proofs.TakenBlocks.{fits_after}
 use Rattle.retrieval.proofs.write.take_retrieval_blocks.Goals as goal
 
 pub take_blocks-requires-clause-used : goal.take_blocks-requires-clause-used

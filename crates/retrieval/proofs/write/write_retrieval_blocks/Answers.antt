@@ -5,9 +5,9 @@ use Rattle.std.proofs.lemmas.List.{drop-map}
 use Rattle.blockdisk.specs.Common.{modifies_wider, modifies_write, Modifies}
 use Rattle.spec_image.specs.Common.{AreExtensions, IsPrime, IsRun, times}
 use Rattle.retrieval.specs.Common.{pair_of, pairs_of, longest_runs, extensions_of, with_length}
-use Rattle.retrieval.proofs.Building.{runs_fit, all_later}
+use Rattle.retrieval.proofs.BuiltPointers.{runs_fit, all_later}
 use Rattle.retrieval.proofs.LongestRuns.{blocks_of_longest}
-use Rattle.retrieval.proofs.Writing.{retrieved_on, extended_on, behind, drop_min, is_in, in_later, is_mode}
+use Rattle.retrieval.proofs.WrittenRibs.{retrieved_on, extended_on, behind, drop_min, is_in, in_later, is_mode}
 use Rattle.retrieval.proofs.write.write_retrieval_blocks.Goals as goal
 
 pub write_ribs-requires-clause-fit : goal.write_ribs-requires-clause-fit

@@ -5,7 +5,7 @@ use Rattle.blockdisk.specs.Common.{modifies_wider, modifies_start}
 use Rattle.spec_image.specs.Common.{InSpace, times}
 use Rattle.alloctab.specs.Common.{IsFree}
 use Rattle.retrieval.specs.Common.{with_length, IsStandingVersion, VersionState}
-use Rattle.retrieval.proofs.Taking.{takes_apart, takes_inside, takes_nonzero, may_be_written, later}
+use Rattle.retrieval.proofs.TakenBlocks.{takes_apart, takes_inside, takes_nonzero, may_be_written, later}
 use Rattle.spec_image.proofs.Common.{all_times}
 use Rattle.retrieval.proofs.Whole.{whole_version}
 use Rattle.retrieval.proofs.write.write_version.Goals as goal

@@ -1,5 +1,5 @@
 use Rattle.std.proofs.Common.{subst, sym, ◌+◌, ◌<◌}
-use Rattle.salvage.proofs.Copying.{IsCopying, copying_read, copying_starts, copying_unread}
+use Rattle.salvage.proofs.CopySteps.{IsCopying, copying_read, copying_starts, copying_unread}
 use Rattle.salvage.proofs.copied.copy_blocks.Goals.{then-not-copy_block, else-not-copy_block}
 use Rattle.salvage.proofs.copied.copy_blocks.Goals as goal
 

@@ -1,4 +1,4 @@
-use Rattle.salvage.proofs.Copying.{IsCopying}
+use Rattle.salvage.proofs.CopySteps.{IsCopying}
 use Rattle.salvage.proofs.copied.copy_blocks.Given as goal
 
 abbrev pub invariant-loop-n : goal.invariant-loop-n

@@ -1,6 +1,6 @@
 use Rattle.std.proofs.Common.{◌+◌, refl}
 use Rattle.spec_image.specs.Common.{layout_number}
-use Rattle.volume.proofs.common.Marking.{on_ok}
+use Rattle.volume.proofs.common.MarkedBlocks.{on_ok}
 use Rattle.salvage.specs.Common.{AreFound, IsReadAt}
 use Rattle.salvage.proofs.LookedAt.{found_passed, found_more}
 use Rattle.salvage.proofs.scan.look_at.Goals as goal

@@ -2,7 +2,7 @@ use Rattle.std.proofs.Common.{◌≡◌, ℕ, ◌≤◌, sym, subst, ◌∙◌, 
 use Rattle.std.specs.List.{AllByRecursion}
 use Rattle.blockdisk.specs.Common.{same_contents, same_disk_on}
 use Rattle.spec_image.specs.Common.{layout_number, space_start}
-use Rattle.changeset.proofs.Reading.{only_reads_on}
+use Rattle.changeset.proofs.LogRead.{only_reads_on}
 use Rattle.salvage.specs.Common.{FitsDisk}
 use Rattle.salvage.proofs.LookedAt.{found_along, found_end}
 use Rattle.salvage.proofs.scan.look_through.Goals as goal

@@ -1,7 +1,7 @@
 use Rattle.std.proofs.Common.{◌≡◌, ◌++◌, ◌∷◌, [], refl}
 use Rattle.spec_image.specs.Common.{layout_number}
-use Rattle.volume.proofs.common.Marking.{on_ok}
-use Rattle.volume.proofs.VolumeStart.Opening.{reads_of}
+use Rattle.volume.proofs.common.MarkedBlocks.{on_ok}
+use Rattle.volume.proofs.VolumeStart.Opens.{reads_of}
 use Rattle.salvage.specs.Common.{IsReadAt}
 use Rattle.salvage.specs.declared.saved.SavedFile.{SavedFile}
 use Rattle.salvage.proofs.LookedAt.{nothing_here, one_here}

@@ -2,7 +2,7 @@ use Rattle.std.proofs.Common.{ℕ, replicate, refl, ap, ◌∙◌}
 use Rattle.std.proofs.lemmas.Result.{IfOk-weaker}
 use Rattle.blockdisk.specs.Common.{same_contents}
 use Rattle.spec_image.specs.Common.{layout_number}
-use Rattle.changeset.proofs.Reading.{only_reads_on}
+use Rattle.changeset.proofs.LogRead.{only_reads_on}
 use Rattle.salvage.specs.Common.{AreFound, IsScanned}
 use Rattle.salvage.proofs.CountLaws.{first_counts}
 use Rattle.salvage.proofs.LookedAt.{scanned_along, table_along}

@@ -1,10 +1,10 @@
 use Rattle.std.proofs.Common.{◌≡◌, List, subst, ◌∙◌}
 use Rattle.blockdisk.specs.Common.{same_contents}
-use Rattle.changeset.proofs.Reading.{only_reads_on}
+use Rattle.changeset.proofs.LogRead.{only_reads_on}
 use Rattle.spec_image.specs.Common.{layout_number}
 use Rattle.salvage.specs.Common.{IsScanned}
 use Rattle.salvage.specs.declared.saved.SavedFile.{SavedFile}
-use Rattle.salvage.proofs.Surveying.{survey_moved}
+use Rattle.salvage.proofs.SurveySteps.{survey_moved}
 use Rattle.salvage.proofs.survey.survey_volume.Goals as goal
 
 pub returns-in_err-files-clause-reads : goal.returns-in_err-files-clause-reads

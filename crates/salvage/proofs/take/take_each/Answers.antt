@@ -4,11 +4,11 @@ use Rattle.std.proofs.lemmas.Iterator.Consumers.{YieldsList-turn, YieldsList-end
 use Rattle.std.proofs.lemmas.List.{length_push, take_all}
 use Rattle.std.specs.List.{AllByRecursion}
 use Rattle.blockdisk.specs.Common.{Contents, same_contents, same_disk_on, same_disk_start, still_start}
-use Rattle.changeset.proofs.Reading.{only_reads_on}
+use Rattle.changeset.proofs.LogRead.{only_reads_on}
 use Rattle.salvage.specs.Common.{FitsDisk, Judges}
 use Rattle.salvage.specs.declared.saved.SavedFile.{SavedFile}
 use Rattle.salvage.proofs.CountLaws.{fits_at}
-use Rattle.salvage.proofs.Judging.{judges_start, judges_next}
+use Rattle.salvage.proofs.JudgedFiles.{judges_start, judges_next}
 use Rattle.salvage.proofs.Members.{nothing_behind}
 use Rattle.salvage.proofs.take.take_each.Goals as goal
 

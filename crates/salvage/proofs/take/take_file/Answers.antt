@@ -1,7 +1,7 @@
 use Rattle.std.proofs.Common.{◌≡◌, ◌++◌, ◌∷◌, [], ap, ◌∙◌}
-use Rattle.volume.proofs.common.Marking.{on_ok}
+use Rattle.volume.proofs.common.MarkedBlocks.{on_ok}
 use Rattle.salvage.specs.Common.{Judges, loss_of}
-use Rattle.salvage.proofs.Judging.{judged_sound, judged_blamed}
+use Rattle.salvage.proofs.JudgedFiles.{judged_sound, judged_blamed}
 use Rattle.salvage.proofs.Members.{nothing_behind}
 use Rattle.salvage.proofs.take.take_file.Goals as goal
 
@@ -30,10 +30,10 @@ returns-in-Ok-Some-clause-judged g c h =
     let file = c.args.file in
     let files = c.args.files.now.items in
     let old = c.args.findings.now.items in
-    let new = c.tell.new.findings.items in
+    let new = c.push_finding.new.findings.items in
     let counts = c.args.counts.now in
     let fault = c.in-Ok-Some.fault in
-    on_ok c.tell.result (new ≡ old ++ record { fault = fault; costs = c.loss_of-costs.result } ∷ [])
+    on_ok c.push_finding.result (new ≡ old ++ record { fault = fault; costs = c.loss_of-costs.result } ∷ [])
     (Judges s.contents counts c.args.is_named (file ∷ []) files files old new)
     (λ told. record {
       taken = [];
@@ -42,4 +42,4 @@ returns-in-Ok-Some-clause-judged g c h =
       findings_are = told ∙ ap (λ costs. old ++ record { fault = fault; costs = costs } ∷ []) c.loss_of-costs.ensures;
       judged = judged_blamed s.contents counts c.args.is_named file fault
           (rw c.in-Ok-Some.field-0-is at (c.in-Ok-Some.ensures.blamed h));
-    }) c.tell.ensures.told
+    }) c.push_finding.ensures.told

@@ -1,12 +1,12 @@
 use Rattle.std.proofs.Common.{ℕ, sym, subst, ◌∙◌}
 use Rattle.std.specs.List.{AllByRecursion}
 use Rattle.blockdisk.specs.Common.{same_contents, same_disk_on}
-use Rattle.changeset.proofs.Reading.{only_reads_on}
-use Rattle.spec_image.specs.Common.{MasterEntry, InSpace, layout_number}
+use Rattle.changeset.proofs.LogRead.{only_reads_on}
+use Rattle.spec_image.specs.Common.{SpecMasterEntry, InSpace, layout_number}
 use Rattle.volume.specs.Common.{master_view}
 use Rattle.volume.proofs.common.Lookups.{viewed_at}
 use Rattle.salvage.specs.Common.{FitsDisk}
-use Rattle.salvage.proofs.ReadingLoops.{directories_go_on}
+use Rattle.salvage.proofs.ReadLoops.{directories_go_on}
 use Rattle.salvage.proofs.tree.add_directories.Goals as goal
 
 pub add_directory-requires-clause-inside : goal.add_directory-requires-clause-inside
@@ -14,7 +14,7 @@ add_directory-requires-clause-inside g c =
     let s = g.D.Disk.state c.args.disk.now in
     subst (λ (n : ℕ). InSpace n c.entry-item.result.first) (sym c.loop-entry.invariant.same.size)
     (viewed_at master_view c.args.entries.now c.loop-entry.entry-index c.entry-item.result c.loop-entry-test.true
-    c.entry-item.is (λ (e : MasterEntry). InSpace s.size e.1.1) c.requires.inside)
+    c.entry-item.is (λ (e : SpecMasterEntry). InSpace s.size e.1.1) c.requires.inside)
 
 pub returns-in_err-add_directory-clause-reads : goal.returns-in_err-add_directory-clause-reads
 returns-in_err-add_directory-clause-reads g c h =

@@ -2,7 +2,7 @@ use Rattle.std.proofs.Common.{◌≡◌, [], map, take, nat_cmp}
 use Rattle.std.specs.List.{AllByRecursion}
 use Rattle.blockdisk.specs.Common.{SameDisk}
 use Rattle.changeset.specs.Common.{OnlyReads}
-use Rattle.spec_image.specs.Common.{MasterEntry, layout_number, EachOnce, IsDirectoryNamed}
+use Rattle.spec_image.specs.Common.{SpecMasterEntry, layout_number, EachOnce, IsDirectoryNamed}
 use Rattle.volume.specs.Common.{master_view}
 use Rattle.salvage.specs.Common.{IsReadTo, FitsDisk}
 use Rattle.salvage.proofs.tree.add_directories.Given as goal
@@ -15,7 +15,7 @@ invariant-loop-entry g l = record {
   fits : AllByRecursion (FitsDisk (g.D.Disk.state l.fn.disk).size) l.fn.files.items
       → AllByRecursion (FitsDisk (g.D.Disk.state l.fn.disk).size) l.files.items;
   read : (g.D.Disk.state l.disk).honest
-      → AllByRecursion (λ (e : MasterEntry). IsDirectoryNamed (g.D.Disk.state l.fn.disk).size
+      → AllByRecursion (λ (e : SpecMasterEntry). IsDirectoryNamed (g.D.Disk.state l.fn.disk).size
       (g.D.Disk.state l.fn.disk).contents (layout_number l.layout) e.0 e.1.0 e.1.1) (map master_view l.entries)
       → EachOnce nat_cmp (map master_view l.entries)
       → IsReadTo (g.D.Disk.state l.fn.disk).size (layout_number l.layout) (g.D.Disk.state l.fn.disk).contents

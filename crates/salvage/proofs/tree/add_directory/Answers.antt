@@ -3,11 +3,11 @@ use Rattle.std.specs.FinMap.Entries.{find}
 use Rattle.std.specs.List.{AllByRecursion}
 use Rattle.blockdisk.specs.Common.{same_contents}
 use Rattle.directory.specs.Common.{viewed}
-use Rattle.spec_image.specs.Common.{MasterEntry, FileEntry, name_cmp, layout_number, EachOnce}
+use Rattle.spec_image.specs.Common.{SpecMasterEntry, SpecFileEntry, name_cmp, layout_number, EachOnce}
 use Rattle.volume.specs.Common.{file_view, master_view}
 use Rattle.salvage.specs.Common.{IsNamedIn, IsReadTo}
-use Rattle.salvage.proofs.ReadingChains.{directory_on}
-use Rattle.salvage.proofs.ReadingOn.{directory_told_on}
+use Rattle.salvage.proofs.ReadChains.{directory_on}
+use Rattle.salvage.proofs.ReadSteps.{directory_told_on}
 use Rattle.salvage.proofs.Refusals.{directory_refused}
 use Rattle.salvage.proofs.tree.add_directory.Goals as goal
 
@@ -26,7 +26,7 @@ returns-in-Ok-clause-read g c h directories word named new r =
     (same_contents s.contents now.contents (c.load_chain.ensures.reads was).still.contents) named new
     c.in-Ok.ensures.chain (c.in-Ok.ensures.on was) (c.in-Ok.ensures.walk was) c.in-Ok.ensures.begins
     c.in-Ok.ensures.inside r
-    (subst (λ (es : List FileEntry). (ds : List MasterEntry)
+    (subst (λ (es : List SpecFileEntry). (ds : List SpecMasterEntry)
     → AllByRecursion (IsNamedIn now.size layout now.contents e.0) es → EachOnce name_cmp es
     → find nat_cmp e.0 ds ≡ None → IsReadTo now.size layout now.contents ds e.0 [] files findings
     → OnOk c.add_files.result (IsReadTo now.size layout now.contents ds e.0 es c.add_files.new.files.items

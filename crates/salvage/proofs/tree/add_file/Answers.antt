@@ -3,7 +3,7 @@ use Rattle.blockdisk.specs.Common.{keeps_still}
 use Rattle.spec_image.specs.Common.{layout_number}
 use Rattle.volume.specs.Common.{file_view}
 use Rattle.salvage.specs.declared.saved.SavedFile.{SavedFile}
-use Rattle.salvage.proofs.ReadingOn.{file_added_on, file_told_on}
+use Rattle.salvage.proofs.ReadSteps.{file_added_on, file_told_on}
 use Rattle.salvage.proofs.Refusals.{file_refused}
 use Rattle.salvage.proofs.tree.add_file.Goals as goal
 

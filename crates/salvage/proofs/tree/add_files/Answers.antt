@@ -1,12 +1,12 @@
 use Rattle.std.proofs.Common.{ℕ, sym, subst, ◌∙◌}
 use Rattle.std.specs.List.{AllByRecursion}
 use Rattle.blockdisk.specs.Common.{same_contents, same_disk_on}
-use Rattle.changeset.proofs.Reading.{only_reads_on}
-use Rattle.spec_image.specs.Common.{FileEntry, InSpace, layout_number}
+use Rattle.changeset.proofs.LogRead.{only_reads_on}
+use Rattle.spec_image.specs.Common.{SpecFileEntry, InSpace, layout_number}
 use Rattle.volume.specs.Common.{file_view}
 use Rattle.volume.proofs.common.Lookups.{viewed_at}
 use Rattle.salvage.specs.Common.{FitsDisk}
-use Rattle.salvage.proofs.ReadingLoops.{files_go_on}
+use Rattle.salvage.proofs.ReadLoops.{files_go_on}
 use Rattle.salvage.proofs.tree.add_files.Goals as goal
 
 pub add_file-requires-clause-inside : goal.add_file-requires-clause-inside
@@ -14,7 +14,7 @@ add_file-requires-clause-inside g c =
     let s = g.D.Disk.state c.args.disk.now in
     subst (λ (n : ℕ). InSpace n c.entry-item.result.prime) (sym c.loop-entry.invariant.same.size)
     (viewed_at file_view c.args.entries.now c.loop-entry.entry-index c.entry-item.result c.loop-entry-test.true
-    c.entry-item.is (λ (e : FileEntry). InSpace s.size e.1) c.requires.inside)
+    c.entry-item.is (λ (e : SpecFileEntry). InSpace s.size e.1) c.requires.inside)
 
 pub returns-in_err-add_file-clause-reads : goal.returns-in_err-add_file-clause-reads
 returns-in_err-add_file-clause-reads g c h =

@@ -3,7 +3,7 @@ use Rattle.std.specs.FinMap.Entries.{find}
 use Rattle.std.specs.List.{AllByRecursion}
 use Rattle.blockdisk.specs.Common.{SameDisk}
 use Rattle.changeset.specs.Common.{OnlyReads}
-use Rattle.spec_image.specs.Common.{MasterEntry, name_cmp, layout_number, EachOnce}
+use Rattle.spec_image.specs.Common.{SpecMasterEntry, name_cmp, layout_number, EachOnce}
 use Rattle.volume.specs.Common.{file_view}
 use Rattle.salvage.specs.Common.{IsNamedIn, IsReadTo, FitsDisk}
 use Rattle.salvage.proofs.tree.add_files.Given as goal
@@ -15,7 +15,7 @@ invariant-loop-entry g l = record {
   reads : (g.D.Disk.state l.disk).honest → OnlyReads (g.D.Disk.state l.fn.disk) (g.D.Disk.state l.disk);
   fits : AllByRecursion (FitsDisk (g.D.Disk.state l.fn.disk).size) l.fn.files.items
       → AllByRecursion (FitsDisk (g.D.Disk.state l.fn.disk).size) l.files.items;
-  read : (g.D.Disk.state l.disk).honest → (directories : List MasterEntry)
+  read : (g.D.Disk.state l.disk).honest → (directories : List SpecMasterEntry)
       → AllByRecursion (IsNamedIn (g.D.Disk.state l.fn.disk).size (layout_number l.layout)
       (g.D.Disk.state l.fn.disk).contents l.ppn) (map file_view l.entries)
       → EachOnce name_cmp (map file_view l.entries) → find nat_cmp l.ppn directories ≡ None

@@ -2,10 +2,10 @@ use Rattle.std.proofs.Common.{[], List, OnOk, map, ap, subst, nat_cmp}
 use Rattle.std.specs.List.{AllByRecursion}
 use Rattle.blockdisk.specs.Common.{same_contents}
 use Rattle.directory.specs.Common.{viewed}
-use Rattle.spec_image.specs.Common.{MasterEntry, layout_number, EachOnce, IsDirectoryNamed}
+use Rattle.spec_image.specs.Common.{SpecMasterEntry, layout_number, EachOnce, IsDirectoryNamed}
 use Rattle.volume.specs.Common.{master_view}
 use Rattle.salvage.specs.Common.{IsReadTo}
-use Rattle.salvage.proofs.ReadingChains.{master_on}
+use Rattle.salvage.proofs.ReadChains.{master_on}
 use Rattle.salvage.proofs.Refusals.{master_refused}
 use Rattle.salvage.proofs.TreesRead.{none_read_on}
 use Rattle.salvage.proofs.tree.add_master.Goals as goal
@@ -24,8 +24,8 @@ returns-in-Ok-clause-tree g c h home =
     (same_contents s.contents now.contents (c.load_chain.ensures.reads was).still.contents) c.requires.no_files
     c.requires.no_findings c.requires.volume home c.in-Ok.ensures.chain (c.in-Ok.ensures.on was)
     (c.in-Ok.ensures.walk was) c.in-Ok.ensures.begins c.in-Ok.ensures.inside
-    (subst (λ (es : List MasterEntry).
-    AllByRecursion (λ (x : MasterEntry). IsDirectoryNamed now.size now.contents layout x.0 x.1.0 x.1.1) es
+    (subst (λ (es : List SpecMasterEntry).
+    AllByRecursion (λ (x : SpecMasterEntry). IsDirectoryNamed now.size now.contents layout x.0 x.1.0 x.1.1) es
     → EachOnce nat_cmp es → IsReadTo now.size layout now.contents [] 0 [] files findings
     → OnOk c.add_directories.result (IsReadTo now.size layout now.contents es 0 [] c.add_directories.new.files.items
     c.add_directories.new.findings.items)) (ap (map master_view) c.entries.ensures.value)

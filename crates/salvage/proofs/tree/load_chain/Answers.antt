@@ -5,7 +5,7 @@ use Rattle.salvage.proofs.tree.load_chain.Goals as goal
 pub returns-clause-twice : goal.returns-clause-twice
 returns-clause-twice g c h =
     let s = g.D.Disk.state c.args.disk.now in
-    twice_named g.E.Entry.words_of s.contents c.in_ok-reached.reached c.blocks-2.result c.args.first c.in-Err.error
+    twice_named g.E.ChainEntry.words_of s.contents c.in_ok-reached.reached c.blocks-2.result c.args.first c.in-Err.error
     c.from.result c.from.ensures c.in_ok-reached.ensures (λ n is. c.load.ensures.twice h n (c.in-Err.is ∙ ap Err is))
 
 pub returns-clause-named : goal.returns-clause-named

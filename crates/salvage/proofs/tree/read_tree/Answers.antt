@@ -1,12 +1,12 @@
 use Rattle.std.proofs.Common.{◌≡◌, ℕ, IfOk, sym, ap, ◌∙◌}
 use Rattle.blockdisk.specs.Common.{Contents, same_contents}
-use Rattle.changeset.proofs.Reading.{only_reads_on}
-use Rattle.spec_image.specs.Common.{Home, IsHome, layout_number}
+use Rattle.changeset.proofs.LogRead.{only_reads_on}
+use Rattle.spec_image.specs.Common.{SpecHome, IsHome, layout_number}
 use Rattle.spec_image.proofs.Common.{home_same}
 use Rattle.volume.specs.Common.{home_in}
 use Rattle.salvage.specs.Common.{IsTree}
 use Rattle.salvage.specs.declared.tree.Tree.{Tree}
-use Rattle.salvage.proofs.Carrying.{moved}
+use Rattle.salvage.proofs.CarriedFacts.{moved}
 use Rattle.volume.proofs.VolumeStart.Starts.{ok_on}
 use Rattle.salvage.proofs.tree.read_tree.Goals as goal
 
@@ -30,7 +30,7 @@ returns-in-Ok-clause-layout g c h home is =
     let own = home_in (layout_number c.in-Ok.home.layout) c.in-Ok.home.master in
     ok_on (λ (tree : Tree). tree.layout ≡ c.in-Ok.home.layout)
     (λ (tree : Tree). layout_number tree.layout ≡ home.layout) c.read_from.result
-    (λ tree layout. ap layout_number layout ∙ ap (λ (x : Home). x.layout)
+    (λ tree layout. ap layout_number layout ∙ ap (λ (x : SpecHome). x.layout)
     (home_same s.size s.contents own home (c.in-Ok.ensures.ok (c.read_from.ensures.same.was_honest h)) is))
     c.read_from.ensures.layout
 

@@ -1,4 +1,4 @@
-use Rattle.spec_image.proofs.Counting.{set_bits}
+use Rattle.spec_image.proofs.BitCounts.{set_bits}
 use Rattle.spec_image.proofs.laws.bits_are_counted.Goals as goal
 
 pub returns : goal.returns

@@ -1,4 +1,4 @@
-use Rattle.spec_image.proofs.Reading.{directory_whole, directory_reaches, map_mapped, map_reaches, map_stands}
+use Rattle.spec_image.proofs.FoundMaps.{directory_whole, directory_reaches, map_mapped, map_reaches, map_stands}
 use Rattle.spec_image.proofs.starts.reading_finds_the_map.Goals as goal
 
 pub returns-clause-directory : goal.returns-clause-directory

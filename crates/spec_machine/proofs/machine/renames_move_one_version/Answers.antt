@@ -1,4 +1,4 @@
-use Rattle.spec_machine.proofs.MovingLaws.{is_moved, is_gone, is_left, is_untouched}
+use Rattle.spec_machine.proofs.MoveLaws.{is_moved, is_gone, is_left, is_untouched}
 use Rattle.spec_machine.proofs.machine.renames_move_one_version.Goals as goal
 
 pub returns-clause-moved : goal.returns-clause-moved

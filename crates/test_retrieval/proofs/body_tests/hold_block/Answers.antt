@@ -1,7 +1,7 @@
 use Rattle.std.proofs.Common.{◌≡◌, ◌+◌, ℕ, ap, sym, ◌∙◌, subst, arith}
 use Rattle.alloctab.specs.Common.{TableState, IsTable, holds, with_held, uses}
 use Rattle.spec_image.specs.Common.{InSpace}
-use Rattle.retrieval.proofs.Holding.{uses-with_held}
+use Rattle.retrieval.proofs.HeldBlocks.{uses-with_held}
 use Rattle.test_retrieval.proofs.body_tests.hold_block.Goals as goal
 
 once_more : (t t' : TableState) (n : ℕ) → IsTable t → t.size ≡ 1024 → InSpace 1024 n

@@ -1,6 +1,6 @@
 use Rattle.std.proofs.Common.{◌∷◌, ◌<◌, ℕ, subst, rules}
 use Rattle.std.specs.List.{AllByRecursion}
-use Rattle.retrieval.proofs.Taking.{takes_apart, takes_inside, takes_nonzero, later}
+use Rattle.retrieval.proofs.TakenBlocks.{takes_apart, takes_inside, takes_nonzero, later}
 use Rattle.test_retrieval.proofs.write_tests.write_found.Goals as goal
 
 pub write_retrieval_blocks-answer-requires-clause-inside : goal.write_retrieval_blocks-answer-requires-clause-inside

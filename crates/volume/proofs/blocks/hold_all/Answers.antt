@@ -1,6 +1,6 @@
 use Rattle.std.proofs.Common.{◌+◌, ◌<◌, ℕ, slice_index_or, refl, sym, ap, subst, ◌∙◌}
 use Rattle.alloctab.specs.Common.{IsTable, holds, sound-with_held}
-use Rattle.volume.proofs.common.Releasing.{rest_more}
+use Rattle.volume.proofs.common.ReleasedBlocks.{rest_more}
 use Rattle.volume.proofs.common.BlockLists.{next_there, holds_next, holds_fit}
 use Rattle.volume.proofs.blocks.hold_all.Goals as goal
 

@@ -1,20 +1,20 @@
 use Rattle.std.proofs.Common.{◌∙◌, sym, arith}
 use Rattle.spec_image.proofs.Common.{some_none}
-use Rattle.volume.specs.Common.{core_of}
+use Rattle.volume.specs.Common.{memory_of}
 use Rattle.volume.proofs.BeginVersion.Beginnings.{known_place}
 use Rattle.volume.proofs.Charges.Charges.{begun_over}
-use Rattle.volume.proofs.common.Growing.{entries_few}
+use Rattle.volume.proofs.common.Growths.{entries_few}
 use Rattle.volume.proofs.charge.begin_is_over.Goals as goal
 
 pub begin_cost-cost-requires-clause-few : goal.begin_cost-cost-requires-clause-few
 begin_cost-cost-requires-clause-few c d at =
-    let m = c.args.core.now in
-    let few = entries_few m.table.size (core_of m) c.args.ppn c.in-Ok.place d c.requires.whole at in
+    let m = c.args.memory.now in
+    let few = entries_few m.table.size (memory_of m) c.args.ppn c.in-Ok.place d c.requires.whole at in
     omega arith
 
 pub returns-clause-value : goal.returns-clause-value
 returns-clause-value c d there old named =
-    let m = c.args.core.now in
+    let m = c.args.memory.now in
     let whole = c.requires.whole in
     let stands = c.in-Ok.ensures.found in
     let e = known_place m whole c.args.ppn c.in-Ok.place stands.0 stands.1 in

@@ -1,6 +1,6 @@
 use Rattle.std.proofs.Common.{ap, ◌∙◌}
 use Rattle.spec_image.specs.Common.{place_of}
-use Rattle.volume.proofs.common.Claiming.{claimed_among, claimed_from}
+use Rattle.volume.proofs.common.Claims.{claimed_among, claimed_from}
 use Rattle.volume.proofs.claims.is_claimed.Goals as goal
 
 pub loop-version-init : goal.loop-version-init

@@ -1,6 +1,6 @@
 use Rattle.std.proofs.Common.{◌<◌, ◌≤◌, ◌∙◌, refl, arith, rules}
 use Rattle.blockdisk.specs.Common.{modifies_start, same_disk_start, same_disk_on, still_start}
-use Rattle.changeset.proofs.Reading.{only_reads_on}
+use Rattle.changeset.proofs.LogRead.{only_reads_on}
 use Rattle.volume.proofs.CopyImage.CopyOrder.{part_modified}
 use Rattle.volume.proofs.copy.copy_blocks.Goals as goal
 

@@ -3,7 +3,7 @@ use Rattle.std.specs.List.{AllByRecursion}
 use Rattle.spec_image.specs.Common.{total}
 use Rattle.volume.specs.Common.{known_version, IsWholeVersion, cost_of_version}
 use Rattle.volume.proofs.common.Lookups.{viewed_at}
-use Rattle.volume.proofs.common.Costing.{chain_short, few_blocks, sum_more, sum_within, booked_more}
+use Rattle.volume.proofs.common.MapCosts.{chain_short, few_blocks, sum_more, sum_within, booked_more}
 use Rattle.volume.proofs.cost.book_directory.Goals as goal
 
 pub overflow_cast-blocks : goal.overflow_cast-blocks

@@ -3,7 +3,7 @@ use Rattle.spec_image.specs.Common.{IsVolumeSize, total}
 use Rattle.std.proofs.lemmas.List.{length-map}
 use Rattle.volume.specs.Common.{known_directory, master_view, IsWholeDirectory, cost_of_directory}
 use Rattle.volume.proofs.common.Lookups.{viewed_at}
-use Rattle.volume.proofs.common.Costing.{chain_short, booked_fits, sum_more, sum_within, booked_more}
+use Rattle.volume.proofs.common.MapCosts.{chain_short, booked_fits, sum_more, sum_within, booked_more}
 use Rattle.volume.proofs.cost.book_map.Goals as goal
 
 pub overflow_cast-blocks : goal.overflow_cast-blocks

@@ -1,7 +1,7 @@
 use Rattle.std.proofs.Common.{[], option_to_list, ap, arith}
 use Rattle.spec_image.specs.Common.{times}
 use Rattle.spec_image.proofs.Common.{times_here}
-use Rattle.volume.proofs.common.Retiring.{set_inside}
+use Rattle.volume.proofs.common.RetiredVersions.{set_inside}
 use Rattle.volume.proofs.delete.clear_left.Goals as goal
 
 pub clear-requires : goal.clear-requires

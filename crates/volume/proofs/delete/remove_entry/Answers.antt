@@ -1,7 +1,7 @@
 use Rattle.std.proofs.Common.{◌<◌, length, ◌∙◌, arith}
 use Rattle.std.proofs.lemmas.List.{length-map}
 use Rattle.volume.specs.Common.{file_view}
-use Rattle.volume.proofs.PublishVersion.MakingCurrent.{index_is}
+use Rattle.volume.proofs.PublishVersion.StepPremises.{index_is}
 use Rattle.directory.proofs.EditedEntries.{swap_removed}
 use Rattle.volume.proofs.delete.remove_entry.Goals as goal
 

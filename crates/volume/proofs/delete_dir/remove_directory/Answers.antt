@@ -10,13 +10,13 @@ use Rattle.volume.proofs.delete_dir.remove_directory.Goals as goal
 
 pub clear_left-requires-clause-set : goal.clear_left-requires-clause-set
 clear_left-requires-clause-set c =
-    left_set c.args.core.now c.requires.whole c.args.ppn c.args.place c.requires.there c.remove-left.new.self
+    left_set c.args.memory.now c.requires.whole c.args.ppn c.args.place c.requires.there c.remove-left.new.self
     c.remove-left.result c.remove-left.ensures.blocks c.swap_remove-directory.result
     c.swap_remove-directory.ensures.value
 
 pub clear_all-requires-clause-inside : goal.clear_all-requires-clause-inside
 clear_all-requires-clause-inside c =
-    own_inside c.args.core.now c.requires.whole c.args.ppn c.args.place c.requires.there c.remove-left.new.self
+    own_inside c.args.memory.now c.requires.whole c.args.ppn c.args.place c.requires.there c.remove-left.new.self
     c.remove-left.result c.remove-left.ensures.blocks c.swap_remove-directory.result
     c.swap_remove-directory.ensures.value
     c.blocks-2.result.now c.blocks-2.ensures.value c.clear_left.new.table c.clear_left.ensures
@@ -24,14 +24,14 @@ clear_all-requires-clause-inside c =
 
 pub clear_all-requires-clause-set : goal.clear_all-requires-clause-set
 clear_all-requires-clause-set c =
-    own_set c.args.core.now c.requires.whole c.args.ppn c.args.place c.requires.there c.remove-left.new.self
+    own_set c.args.memory.now c.requires.whole c.args.ppn c.args.place c.requires.there c.remove-left.new.self
     c.remove-left.result c.remove-left.ensures.blocks c.swap_remove-directory.result
     c.swap_remove-directory.ensures.value
     c.blocks-2.result.now c.blocks-2.ensures.value c.clear_left.new.table c.clear_left.ensures
 
 pub changes-requires : goal.changes-requires
 changes-requires c =
-    changes_many c.args.core.now c.requires.whole c.args.ppn c.args.place c.requires.there c.remove-left.new.self
+    changes_many c.args.memory.now c.requires.whole c.args.ppn c.args.place c.requires.there c.remove-left.new.self
     c.remove-left.result c.remove-left.ensures.blocks c.swap_remove-directory.result
     c.swap_remove-directory.ensures.value
     c.blocks-2.result.now c.blocks-2.ensures.value c.clear_left.new.table c.clear_left.ensures
@@ -42,7 +42,7 @@ changes-requires c =
 
 pub returns : goal.returns
 returns c =
-    let m = c.args.core.now in
+    let m = c.args.memory.now in
     let m' : LiveMap = record {
       master = c.remove-left.new.self;
       directories = c.swap_remove-directory.new.self;

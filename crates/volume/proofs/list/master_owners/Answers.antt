@@ -1,5 +1,5 @@
 use Rattle.std.proofs.Common.{◌≡◌, ◌++◌, ◌∷◌, [], rules}
-use Rattle.volume.proofs.common.Listing.{owner_more, owners_sorted}
+use Rattle.volume.proofs.common.DirectoryLists.{owner_more, owners_sorted}
 use Rattle.volume.proofs.list.master_owners.Goals as goal
 
 pub loop-entry-preserved : goal.loop-entry-preserved

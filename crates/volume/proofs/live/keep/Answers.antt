@@ -4,12 +4,12 @@ use Rattle.std.proofs.lemmas.Iterator.Consumers.{YieldsList-turn}
 use Rattle.std.proofs.lemmas.List.{length_push, length-map}
 use Rattle.volume.specs.Common.{file_view, known_version, known_directory, IsWholeDirectory, IsFirstRead}
 use Rattle.volume.proofs.common.Lookups.{viewed_at}
-use Rattle.volume.proofs.common.Keeping.{next_directory_keyed, next_directory_known, next_directory_current}
-use Rattle.volume.proofs.common.Keeping.{all_slots}
+use Rattle.volume.proofs.common.VersionKeys.{next_directory_keyed, next_directory_known, next_directory_current}
+use Rattle.volume.proofs.common.VersionKeys.{all_slots}
 use Rattle.volume.proofs.live.keep.Goals as goal
 
-pub keep_directory-requires-clause-aligned : goal.keep_directory-requires-clause-aligned
-keep_directory-requires-clause-aligned c =
+pub into_live_directory-requires-clause-aligned : goal.into_live_directory-requires-clause-aligned
+into_live_directory-requires-clause-aligned c =
     let stored = c.args.map.directories.items in
     let d = c.in-Some.directory in
     let gives = c.into_iter-directory-iterator.ensures.into_iter_gives in
@@ -19,8 +19,8 @@ keep_directory-requires-clause-aligned c =
     (IsWholeDirectory c.requires.whole.0) c.requires.whole.1.each in
     sym (length-map d.versions.items known_version) ∙ whole.aligned ∙ length-map d.chain.entries file_view
 
-pub keep_directory-requires-clause-whole : goal.keep_directory-requires-clause-whole
-keep_directory-requires-clause-whole c =
+pub into_live_directory-requires-clause-whole : goal.into_live_directory-requires-clause-whole
+into_live_directory-requires-clause-whole c =
     let stored = c.args.map.directories.items in
     let d = c.in-Some.directory in
     let gives = c.into_iter-directory-iterator.ensures.into_iter_gives in

@@ -1,7 +1,7 @@
 use Rattle.std.proofs.Common.{◌+◌, ◌≤◌, [], ◌∷◌, ◌++◌, sym, ap, subst, ◌∙◌}
 use Rattle.spec_image.specs.Common.{times}
 use Rattle.alloctab.specs.Common.{holds}
-use Rattle.volume.proofs.common.Releasing.{ribs_held, blocks_held, prime_held, prime_less, less_parts}
+use Rattle.volume.proofs.common.ReleasedBlocks.{ribs_held, blocks_held, prime_held, prime_less, less_parts}
 use Rattle.volume.proofs.live.release_version.Goals as goal
 
 pub unhold-requires-clause-inside : goal.unhold-requires-clause-inside

@@ -1,7 +1,7 @@
 use Rattle.spec_image.specs.Common.{times}
 use Rattle.alloctab.specs.Common.{holds}
 use Rattle.std.proofs.Common.{◌<◌, ◌+◌, ℕ, take, sym, ap, subst, ◌∙◌, arith, length}
-use Rattle.volume.proofs.common.Releasing.{still_held, next_less, rest_more}
+use Rattle.volume.proofs.common.ReleasedBlocks.{still_held, next_less, rest_more}
 use Rattle.volume.proofs.live.unhold_blocks.Goals as goal
 
 pub unhold-requires-clause-held : goal.unhold-requires-clause-held

@@ -2,7 +2,7 @@ use Rattle.std.proofs.Common.{◌<◌, ◌+◌, ◌≤◌, ℕ, slice_index_or, 
 use Rattle.std.proofs.Math.ListN.{length-set}
 use Rattle.spec_image.specs.Common.{times}
 use Rattle.alloctab.specs.Common.{digit_at}
-use Rattle.volume.proofs.common.Marking.{all_at, marked_more, marked_twice}
+use Rattle.volume.proofs.common.MarkedBlocks.{all_at, marked_more, marked_twice}
 use Rattle.directory.proofs.ChainPuts.{times_get}
 use Rattle.volume.proofs.marks.mark_all.Goals as goal
 

@@ -5,8 +5,8 @@ use Rattle.std.proofs.Math.ListN.{length-set}
 use Rattle.spec_image.specs.Common.{times}
 use Rattle.spec_image.proofs.Common.{times_here}
 use Rattle.alloctab.specs.Common.{digit_at}
-use Rattle.volume.proofs.common.Marking.{digit-marked, times_parts, on_ok}
-use Rattle.changeset.proofs.Reading.{passed_on}
+use Rattle.volume.proofs.common.MarkedBlocks.{digit-marked, times_parts, on_ok}
+use Rattle.changeset.proofs.LogRead.{passed_on}
 use Rattle.volume.proofs.marks.mark_version.Goals as goal
 
 pub returns-in_err-mark_all-clause-twice : goal.returns-in_err-mark_all-clause-twice

@@ -1,7 +1,7 @@
 use Rattle.std.proofs.Common.{inl, inr, Err, ap, ◌∙◌}
 use Rattle.spec_image.specs.Common.{InSpace, layout_number}
 use Rattle.volume.specs.Common.{NamesInSpace, SettledRefuses}
-use Rattle.volume.proofs.common.Handing.{by_chain}
+use Rattle.volume.proofs.common.PassedErrors.{by_chain}
 use Rattle.volume.proofs.VolumeStart.FaultyMaps.{master_fault, master_twice}
 use Rattle.volume.proofs.VolumeStart.Quotas.{chain_carries, quota_refused}
 use Rattle.spec_image.proofs.Common.{each_times}

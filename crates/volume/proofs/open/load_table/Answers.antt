@@ -1,6 +1,6 @@
 use Rattle.std.proofs.Common.{◌≡◌, subst}
 use Rattle.volume.specs.Common.{IsWrongFor}
-use Rattle.volume.proofs.VolumeStart.Opening.{bad_block_wrong}
+use Rattle.volume.proofs.VolumeStart.Opens.{bad_block_wrong}
 use Rattle.volume.proofs.open.load_table.Goals as goal
 
 pub returns-in-Err-TableWrong-clause-wrong : goal.returns-in-Err-TableWrong-clause-wrong

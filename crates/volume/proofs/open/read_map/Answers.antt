@@ -9,10 +9,10 @@ use Rattle.volume.specs.Common.{master_view, known_directory, cost_of_known, hom
 use Rattle.volume.specs.Common.{IsRightFor, IsWrongFor, NamesInSpace, SettledRefuses}
 use Rattle.volume.specs.declared.error.VolumeError.TheVariants.{Device}
 use Rattle.volume.proofs.common.DisksAsked.{reads_disk_served, reads_disk_ok, reads_disk_on, reads_disk_handed}
-use Rattle.volume.proofs.common.Handing.{handed, found_on, home_named, table_named, named_on}
+use Rattle.volume.proofs.common.PassedErrors.{handed, found_on, home_named, table_named, named_on}
 use Rattle.volume.proofs.VolumeStart.FoundMaps.{map_found, map_held, table_fault}
 use Rattle.volume.proofs.common.LayoutLimits.{wide_entry}
-use Rattle.volume.proofs.VolumeStart.Opening.{table_refused, right_bits, read_whole, read_booked}
+use Rattle.volume.proofs.VolumeStart.Opens.{table_refused, right_bits, read_whole, read_booked}
 use Rattle.volume.proofs.open.read_map.Goals as goal
 
 pub returns-in_err-master-clause-fault : goal.returns-in_err-master-clause-fault

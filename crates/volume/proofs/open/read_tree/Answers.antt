@@ -1,14 +1,14 @@
 use Rattle.std.proofs.Common.{◌<◌, ℕ, List, map, sym, ap, subst, ◌∙◌, ◌≡◌, Err, IsErrOf}
 use Rattle.std.proofs.lemmas.Result.{err_from_is_err_and}
 use Rattle.blockdisk.specs.Common.{same_contents}
-use Rattle.spec_image.specs.Common.{MasterEntry, master_words, layout_number, times, InSpace, IsMasterEntryOf}
+use Rattle.spec_image.specs.Common.{SpecMasterEntry, master_words, layout_number, times, InSpace, IsMasterEntryOf}
 use Rattle.alloctab.specs.Common.{digit_at}
 use Rattle.directory.specs.Common.{nodes_of, viewed, chain_items, numbers_of}
 use Rattle.volume.specs.Common.{master_view, IsOnlySpace, NamesInSpace, IsFaultOfDirectories, SettledRefuses}
 use Rattle.volume.specs.declared.error.VolumeError.TheVariants.{Device}
 use Rattle.volume.proofs.common.DisksAsked.{reads_disk_served, reads_disk_ok, reads_disk_on, reads_disk_handed}
 use Rattle.volume.proofs.common.DisksAsked.{reads_disk_of}
-use Rattle.volume.proofs.common.Handing.{handed, found_named, named_on}
+use Rattle.volume.proofs.common.PassedErrors.{handed, found_named, named_on}
 use Rattle.volume.proofs.VolumeStart.FaultyMaps.{directories_fault}
 use Rattle.spec_image.proofs.Common.{each_times}
 use Rattle.volume.proofs.open.read_tree.Goals as goal
@@ -33,7 +33,7 @@ returns-in_err-directories-clause-fault g c h home =
     (chain_items master_words (IsMasterEntryOf (layout_number c.args.layout)) chain c.in_ok-master.ensures.chain)
     (λ n. c.in_ok-master.ensures.marked n ∙ ap (times n) (sym (numbers_of chain.blocks chain.entries)))
     (subst (λ (n : ℕ). NamesInSpace n error) c.load_master.ensures.disk.same.size inside)
-    (subst (λ (es : List MasterEntry). IsFaultOfDirectories s.size (layout_number c.args.layout) s.contents marks es error)
+    (subst (λ (es : List SpecMasterEntry). IsFaultOfDirectories s.size (layout_number c.args.layout) s.contents marks es error)
     (ap (map master_view) c.entries.ensures.value)
     (subst (λ contents. IsFaultOfDirectories s.size (layout_number c.args.layout) contents marks (map master_view c.entries.result.now) error) same
     (subst (λ (n : ℕ). IsFaultOfDirectories n (layout_number c.args.layout) now.contents marks (map master_view c.entries.result.now) error)

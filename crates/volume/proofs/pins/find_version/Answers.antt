@@ -2,7 +2,7 @@ use Rattle.std.proofs.Common.{inr, map, refl, sym, ap, ◌∙◌, arith}
 use Rattle.std.proofs.lemmas.List.{length-map}
 use Rattle.spec_image.proofs.Common.{some_same}
 use Rattle.volume.specs.Common.{master_view, file_view, live_directory}
-use Rattle.volume.proofs.common.Answering.{placed}
+use Rattle.volume.proofs.common.Answers.{placed}
 use Rattle.volume.proofs.common.LiveLookups.{as_many, keyed_at, kept_at, current_at}
 use Rattle.volume.proofs.pins.find_version.Goals as goal
 

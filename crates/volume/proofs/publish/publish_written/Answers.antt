@@ -1,7 +1,7 @@
 use Rattle.std.proofs.Common.{◌≡◌, ℕ, List, length, Some, true, Err, refl, sym, subst, ◌∙◌}
 use Rattle.std.specs.List.{AllByRecursion}
 use Rattle.spec_image.specs.Common.{File, Files, IsTarget, targets, HasBody}
-use Rattle.volume.specs.Common.{IsEdited, pending_at, core_of, file_of, files_published}
+use Rattle.volume.specs.Common.{IsEdited, pending_at, memory_of, file_of, files_published}
 use Rattle.volume.specs.declared.error.CallError.TheVariants.{Device}
 use Rattle.volume.specs.declared.pending.PendingVersion.{PendingVersion}
 use Rattle.volume.proofs.PublishVersion.Blocks.{made_current_of, retrieval_inside, retrieval_apart, retrieval_nonzero}
@@ -14,52 +14,52 @@ use Rattle.volume.proofs.publish.publish_written.Goals as goal
 pub write_retrieval_blocks-written-requires-clause-inside :
     goal.write_retrieval_blocks-written-requires-clause-inside
 write_retrieval_blocks-written-requires-clause-inside g c =
-    let there = some_is (pending_at (core_of c.args.map.now).pending c.args.key) c.requires.there in
+    let there = some_is (pending_at (memory_of c.args.map.now).pending c.args.key) c.requires.there in
     let made = made_current_of c.requires.sound (c.make_current-current.ensures there.0 there.1) c.in-Some.ensures in
     retrieval_inside c.requires.sound.whole made
 
 pub write_retrieval_blocks-written-requires-clause-apart :
     goal.write_retrieval_blocks-written-requires-clause-apart
 write_retrieval_blocks-written-requires-clause-apart g c =
-    let there = some_is (pending_at (core_of c.args.map.now).pending c.args.key) c.requires.there in
+    let there = some_is (pending_at (memory_of c.args.map.now).pending c.args.key) c.requires.there in
     let made = made_current_of c.requires.sound (c.make_current-current.ensures there.0 there.1) c.in-Some.ensures in
     retrieval_apart c.requires.sound.whole made
 
 pub write_retrieval_blocks-written-requires-clause-nonzero :
     goal.write_retrieval_blocks-written-requires-clause-nonzero
 write_retrieval_blocks-written-requires-clause-nonzero g c =
-    let there = some_is (pending_at (core_of c.args.map.now).pending c.args.key) c.requires.there in
+    let there = some_is (pending_at (memory_of c.args.map.now).pending c.args.key) c.requires.there in
     let made = made_current_of c.requires.sound (c.make_current-current.ensures there.0 there.1) c.in-Some.ensures in
     retrieval_nonzero c.requires.sound.whole made
 
 pub write_retrieval_blocks-written-requires-clause-words :
     goal.write_retrieval_blocks-written-requires-clause-words
 write_retrieval_blocks-written-requires-clause-words g c =
-    let there = some_is (pending_at (core_of c.args.map.now).pending c.args.key) c.requires.there in
+    let there = some_is (pending_at (memory_of c.args.map.now).pending c.args.key) c.requires.there in
     let made = made_current_of c.requires.sound (c.make_current-current.ensures there.0 there.1) c.in-Some.ensures in
     version_words c.requires.sound.whole made
 
 pub write_retrieval_blocks-written-requires-clause-enough :
     goal.write_retrieval_blocks-written-requires-clause-enough
 write_retrieval_blocks-written-requires-clause-enough g c =
-    let there = some_is (pending_at (core_of c.args.map.now).pending c.args.key) c.requires.there in
+    let there = some_is (pending_at (memory_of c.args.map.now).pending c.args.key) c.requires.there in
     let made = made_current_of c.requires.sound (c.make_current-current.ensures there.0 there.1) c.in-Some.ensures in
     version_enough c.requires.sound.whole made
 
 pub write_retrieval_blocks-written-requires-clause-fit :
     goal.write_retrieval_blocks-written-requires-clause-fit
 write_retrieval_blocks-written-requires-clause-fit g c =
-    let there = some_is (pending_at (core_of c.args.map.now).pending c.args.key) c.requires.there in
+    let there = some_is (pending_at (memory_of c.args.map.now).pending c.args.key) c.requires.there in
     let made = made_current_of c.requires.sound (c.make_current-current.ensures there.0 there.1) c.in-Some.ensures in
     version_fits c.requires.sound.whole made
 
--- Where the retrieval blocks were not written.
+-- If the retrieval blocks were not written.
 
 ended : (g : Given.Over) (c : goal.Then-is_err g) (become : Files File → Files File)
     → IsEdited (g.D.Disk.state c.args.disk.now) (g.D.Disk.state c.write_retrieval_blocks-written.new.disk)
-    (core_of c.args.map.now) (core_of c.make_current-current.new.core) become true (Err Device)
+    (memory_of c.args.map.now) (memory_of c.make_current-current.new.memory) become true (Err Device)
 ended g c become =
-    let there = some_is (pending_at (core_of c.args.map.now).pending c.args.key) c.requires.there in
+    let there = some_is (pending_at (memory_of c.args.map.now).pending c.args.key) c.requires.there in
     let made = made_current_of c.requires.sound (c.make_current-current.ensures there.0 there.1) c.in-Some.ensures in
     published_ended c.requires.sound made (λ h d left. g.met.D.Disk.only_now c.args.disk.now d h left)
     c.write_retrieval_blocks-written.ensures.same c.write_retrieval_blocks-written.ensures.modified become
@@ -78,18 +78,18 @@ returns-then-is_err-clause-homes g c = (ended g c (λ f. f)).files.homes
 
 pub commit_edit-requires-clause-in_range : goal.commit_edit-requires-clause-in_range
 commit_edit-requires-clause-in_range g c =
-    let there = some_is (pending_at (core_of c.args.map.now).pending c.args.key) c.requires.there in
+    let there = some_is (pending_at (memory_of c.args.map.now).pending c.args.key) c.requires.there in
     let made = made_current_of c.requires.sound (c.make_current-current.ensures there.0 there.1) c.in-Some.ensures in
     subst (λ (n : ℕ). AllByRecursion (IsTarget n) (targets c.make_current-current.new.set))
     (sym c.write_retrieval_blocks-written.ensures.same.size) (puts_in_range c.requires.sound.whole made)
 
 changed : (g : Given.Over) (c : goal.After-commit_edit g) (p : PendingVersion)
-    → pending_at (core_of c.args.map.now).pending c.args.key ≡ Some p → (body : List ℕ)
+    → pending_at (memory_of c.args.map.now).pending c.args.key ≡ Some p → (body : List ℕ)
     → length body ≡ p.version.words
     → ((g.D.Disk.state c.args.disk.now).honest
     → HasBody (g.D.Disk.state c.args.disk.now).contents p.version.blocks body)
-    → IsEdited (g.D.Disk.state c.args.disk.now) (g.D.Disk.state c.commit_edit.new.disk) (core_of c.args.map.now)
-    (core_of c.make_current-current.new.core)
+    → IsEdited (g.D.Disk.state c.args.disk.now) (g.D.Disk.state c.commit_edit.new.disk) (memory_of c.args.map.now)
+    (memory_of c.make_current-current.new.memory)
     (λ f. files_published f p.prime.ppn p.prime.file (file_of p.prime body)) c.commit_edit.new.failed
     c.commit_edit.result
 changed g c p is =
@@ -103,10 +103,10 @@ changed g c p is =
 -- for the words that the version has
 with_words : (g : Given.Over) (c : goal.After-commit_edit g) → (g.D.Disk.state c.commit_edit.new.disk).honest
     → (become : Files File → Files File)
-    × IsEdited (g.D.Disk.state c.args.disk.now) (g.D.Disk.state c.commit_edit.new.disk) (core_of c.args.map.now)
-    (core_of c.make_current-current.new.core) become c.commit_edit.new.failed c.commit_edit.result
+    × IsEdited (g.D.Disk.state c.args.disk.now) (g.D.Disk.state c.commit_edit.new.disk) (memory_of c.args.map.now)
+    (memory_of c.make_current-current.new.memory) become c.commit_edit.new.failed c.commit_edit.result
 with_words g c h' =
-    let there = some_is (pending_at (core_of c.args.map.now).pending c.args.key) c.requires.there in
+    let there = some_is (pending_at (memory_of c.args.map.now).pending c.args.key) c.requires.there in
     let p = there.0 in
     let h = c.write_retrieval_blocks-written.ensures.same.was_honest (c.commit_edit.ensures.same.was_honest h') in
     let has = c.requires.sound.written h refl c.args.key p there.1 in (
@@ -116,7 +116,7 @@ with_words g c h' =
 
 pub returns-clause-sound : goal.returns-clause-sound
 returns-clause-sound g c =
-    let there = some_is (pending_at (core_of c.args.map.now).pending c.args.key) c.requires.there in
+    let there = some_is (pending_at (memory_of c.args.map.now).pending c.args.key) c.requires.there in
     let made = made_current_of c.requires.sound (c.make_current-current.ensures there.0 there.1) c.in-Some.ensures in
     published_sound c.requires.sound made (λ h d left. g.met.D.Disk.only_now c.args.disk.now d h left)
     c.write_retrieval_blocks-written.ensures.same c.write_retrieval_blocks-written.ensures.modified

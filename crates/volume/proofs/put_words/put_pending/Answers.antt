@@ -3,7 +3,7 @@ use Rattle.blockdisk.specs.Common.{modifies_start}
 use Rattle.spec_image.specs.Common.{HasBody, splice, length_after}
 use Rattle.retrieval.specs.Common.{IsOwn, IsEdgeBlock}
 use Rattle.volume.specs.declared.pending.PendingVersion.{PendingVersion}
-use Rattle.volume.proofs.PutWords.Core.{same_version, now_put, regrown_same}
+use Rattle.volume.proofs.PutWords.Memory.{same_version, now_put, regrown_same}
 use Rattle.volume.proofs.put_words.put_pending.Goals as goal
 
 pub growth-requires-clause-few : goal.growth-requires-clause-few

@@ -3,7 +3,7 @@ use Rattle.std.proofs.lemmas.Result.{err_from_is_err_and}
 use Rattle.spec_image.specs.Common.{layout_number, place_of, InSpace}
 use Rattle.volume.specs.Common.{NamesInSpace, IsFaultOfFile}
 use Rattle.volume.proofs.VolumeStart.FoundDirectories.{space_more}
-use Rattle.volume.proofs.common.Handing.{handed, file_met_by}
+use Rattle.volume.proofs.common.PassedErrors.{handed, file_met_by}
 use Rattle.spec_image.proofs.Common.{all_append}
 use Rattle.volume.proofs.read.add_file.Goals as goal
 

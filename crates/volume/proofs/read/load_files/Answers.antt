@@ -2,7 +2,7 @@ use Rattle.std.proofs.Common.{inl, inr, Err, ap, ◌∙◌}
 use Rattle.volume.specs.Common.{NamesInSpace, IsFaultOfDirectory}
 use Rattle.alloctab.specs.Common.{digit_at}
 use Rattle.volume.proofs.VolumeStart.FaultyDirectories.{chain_twice}
-use Rattle.volume.proofs.common.Handing.{by_chain}
+use Rattle.volume.proofs.common.PassedErrors.{by_chain}
 use Rattle.volume.proofs.read.load_files.Goals as goal
 
 pub returns-in-Err-clause-fault : goal.returns-in-Err-clause-fault

@@ -3,16 +3,16 @@ use Rattle.std.proofs.Common.{IsErrOf}
 use Rattle.std.proofs.lemmas.Result.{err_from_is_err_and}
 use Rattle.std.specs.List.{AllByRecursion}
 use Rattle.blockdisk.specs.Common.{same_contents}
-use Rattle.spec_image.specs.Common.{layout_number, InSpace, IsMasterEntryOf, MasterEntry, total}
+use Rattle.spec_image.specs.Common.{layout_number, InSpace, IsMasterEntryOf, SpecMasterEntry, total}
 use Rattle.alloctab.specs.Common.{digit_at}
 use Rattle.volume.specs.declared.error.VolumeError.TheVariants.{Device}
-use Rattle.volume.specs.Common.{master_view, known_directory, KnownDirectory, reaches_in_known, IsWholeDirectory}
+use Rattle.volume.specs.Common.{master_view, known_directory, CurrentDirectory, reaches_in_known, IsWholeDirectory}
 use Rattle.volume.specs.Common.{IsOnlySpace, IsAdded, AreDirectoriesRead, NamesInSpace, IsFaultOfDirectory}
 use Rattle.volume.specs.Common.{IsFaultOfDirectories}
 use Rattle.volume.proofs.common.DisksAsked.{keeps_disk_start, keeps_disk_served, keeps_disk_on, keeps_disk_handed}
-use Rattle.volume.proofs.common.Handing.{handed, found_on, named_on}
+use Rattle.volume.proofs.common.PassedErrors.{handed, found_on, named_on}
 use Rattle.volume.proofs.common.Lookups.{viewed_at, viewed_split}
-use Rattle.volume.proofs.common.Reaching.{total_marked}
+use Rattle.volume.proofs.common.ReachedBlocks.{total_marked}
 use Rattle.volume.proofs.VolumeStart.FoundDirectories.{no_directories, directories_go_on, all_added}
 use Rattle.volume.proofs.VolumeStart.FaultyDirectories.{directory_fault}
 use Rattle.volume.proofs.read.read_directories.Goals as goal
@@ -22,7 +22,7 @@ add_directory-requires-clause-inside g c =
     let s = g.D.Disk.state c.args.disk.now in
     subst (λ (n : ℕ). InSpace n c.entry-item.result.first) (sym c.loop-entry.invariant.disk.same.size)
     (viewed_at master_view c.args.entries.now c.loop-entry.entry-index c.entry-item.result c.loop-entry-test.true
-    c.entry-item.is (λ (e : MasterEntry). InSpace s.size e.1.1) c.requires.inside)
+    c.entry-item.is (λ (e : SpecMasterEntry). InSpace s.size e.1.1) c.requires.inside)
 
 pub add_directory-requires-clause-entry : goal.add_directory-requires-clause-entry
 add_directory-requires-clause-entry g c =
@@ -113,7 +113,7 @@ loop-entry-init g c =
       aligned = ap length c.new-directories.ensures.items;
       whole = subst (AllByRecursion (IsWholeDirectory s.size)) (sym none) tt;
       marked = λ n. let e = ap (total (reaches_in_known n)) none in omega arith;
-      read = λ h. subst (λ (ds : List KnownDirectory). AreDirectoriesRead (layout_number c.args.layout) s.contents [] ds (digit_at c.args.reached.now)
+      read = λ h. subst (λ (ds : List CurrentDirectory). AreDirectoriesRead (layout_number c.args.layout) s.contents [] ds (digit_at c.args.reached.now)
           (digit_at c.args.reached.now)) (sym none) (no_directories (layout_number c.args.layout) s.contents (digit_at c.args.reached.now));
     }
 

@@ -3,14 +3,14 @@ use Rattle.std.specs.List.{AllByRecursion}
 use Rattle.std.proofs.lemmas.Result.{err_from_is_err_and}
 use Rattle.std.proofs.lemmas.List.{length-map}
 use Rattle.blockdisk.specs.Common.{Contents, same_contents}
-use Rattle.spec_image.specs.Common.{layout_number, InSpace, FileEntry}
+use Rattle.spec_image.specs.Common.{layout_number, InSpace, SpecFileEntry}
 use Rattle.alloctab.specs.Common.{digit_at}
 use Rattle.directory.specs.Common.{viewed}
 use Rattle.volume.specs.Common.{file_view, known_version, IsOnlySpace, AreFilesRead, NamesInSpace, IsFaultOfFiles}
 use Rattle.volume.specs.Common.{IsFaultOfDirectory}
 use Rattle.volume.specs.declared.error.VolumeError.TheVariants.{Device}
 use Rattle.volume.proofs.common.DisksAsked.{keeps_disk_served, keeps_disk_ok, keeps_disk_on, keeps_disk_handed}
-use Rattle.volume.proofs.common.Handing.{handed, found_on, named_on}
+use Rattle.volume.proofs.common.PassedErrors.{handed, found_on, named_on}
 use Rattle.volume.proofs.VolumeStart.FoundDirectories.{directory_found, space_more}
 use Rattle.volume.proofs.VolumeStart.FaultyDirectories.{files_fault}
 use Rattle.volume.proofs.common.LayoutLimits.{entry_quota}
@@ -27,9 +27,9 @@ returns-in_err-chain-clause-fault g c h =
 
 pub read_files-requires-clause-inside : goal.read_files-requires-clause-inside
 read_files-requires-clause-inside g c =
-    subst (λ (es : List FileEntry). AllByRecursion (λ e. InSpace (g.D.Disk.state c.load_files.new.disk).size e.1) es)
+    subst (λ (es : List SpecFileEntry). AllByRecursion (λ e. InSpace (g.D.Disk.state c.load_files.new.disk).size e.1) es)
     (ap (map file_view) (sym c.entries.ensures.value))
-    (subst (λ (n : ℕ). AllByRecursion (λ (e : FileEntry). InSpace n e.1) (map file_view c.in_ok-chain.chain.entries))
+    (subst (λ (n : ℕ). AllByRecursion (λ (e : SpecFileEntry). InSpace n e.1) (map file_view c.in_ok-chain.chain.entries))
     (sym c.load_files.ensures.disk.same.size) c.in_ok-chain.ensures.targets)
 
 pub returns-in_err-versions-clause-fault : goal.returns-in_err-versions-clause-fault
@@ -50,7 +50,7 @@ returns-in_err-versions-clause-fault g c h =
     (λ error met. files_fault s.size (layout_number c.args.layout) s.contents (digit_at c.args.reached.now) marks ppn c.args.entry.now.first
     chain error c.in_ok-chain.ensures.chain (c.in_ok-chain.ensures.walk (c.read_files.ensures.disk.same.was_honest h))
     c.in_ok-chain.ensures.marked
-    (subst (λ (es : List FileEntry). IsFaultOfFiles s.size (layout_number c.args.layout) s.contents marks ppn es error)
+    (subst (λ (es : List SpecFileEntry). IsFaultOfFiles s.size (layout_number c.args.layout) s.contents marks ppn es error)
     (ap (map file_view) c.entries.ensures.value)
     (subst (λ contents. IsFaultOfFiles s.size (layout_number c.args.layout) contents marks ppn (map file_view c.entries.result.now) error) same
     (subst (λ (n : ℕ). IsFaultOfFiles n (layout_number c.args.layout) now.contents marks ppn (map file_view c.entries.result.now) error)
@@ -77,7 +77,7 @@ returns-clause-read g c h =
     let versions = map known_version c.in_ok-versions.versions.items in
     let read : AreFilesRead (layout_number c.args.layout) s.contents ppn chain.entries versions (digit_at c.load_files.new.reached)
     (digit_at c.read_files.new.reached) =
-    subst (λ (es : List FileEntry). AreFilesRead (layout_number c.args.layout) s.contents ppn es versions (digit_at c.load_files.new.reached)
+    subst (λ (es : List SpecFileEntry). AreFilesRead (layout_number c.args.layout) s.contents ppn es versions (digit_at c.load_files.new.reached)
     (digit_at c.read_files.new.reached)) (ap (map file_view) c.entries.ensures.value)
     (subst (λ (contents : Contents). AreFilesRead (layout_number c.args.layout) contents ppn (map file_view c.entries.result.now) versions
     (digit_at c.load_files.new.reached) (digit_at c.read_files.new.reached)) same

@@ -2,12 +2,12 @@ use Rattle.std.proofs.Common.{◌+◌, List, map, ap, subst, sym, ◌∙◌}
 use Rattle.std.proofs.lemmas.Result.{err_from_is_err_and}
 use Rattle.std.specs.List.{AllByRecursion}
 use Rattle.alloctab.specs.Common.{digit_at}
-use Rattle.spec_image.specs.Common.{FileEntry, InSpace, name_cmp, layout_number, EachOnce}
+use Rattle.spec_image.specs.Common.{SpecFileEntry, InSpace, name_cmp, layout_number, EachOnce}
 use Rattle.spec_image.proofs.Common.{name_exact, name_total}
 use Rattle.volume.specs.declared.turns.Turn.{Turn}
 use Rattle.volume.specs.Common.{file_view, turn_view, placed_known, IsWholeVersion, reaches_in_entries, AreFilesRead}
 use Rattle.volume.specs.Common.{IsFaultOfFiles}
-use Rattle.volume.proofs.common.Handing.{handed, found_on}
+use Rattle.volume.proofs.common.PassedErrors.{handed, found_on}
 use Rattle.volume.proofs.VolumeStart.ReadTurns.{as_many_versions, entries_moved, fault_moved, places_read}
 use Rattle.volume.proofs.VolumeStart.ReadTurns.{read_the_same, reached_the_same, whole_the_same}
 use Rattle.volume.proofs.common.Reordered.{all_moved, once_moved}
@@ -15,7 +15,7 @@ use Rattle.volume.proofs.read.read_files.Goals as goal
 
 pub read_turns-requires-clause-inside : goal.read_turns-requires-clause-inside
 read_turns-requires-clause-inside g c =
-    let inside : FileEntry → Type 0 = λ e. InSpace (g.D.Disk.state c.args.disk.now).size e.1 in
+    let inside : SpecFileEntry → Type 0 = λ e. InSpace (g.D.Disk.state c.args.disk.now).size e.1 in
     subst (λ (ts : List Turn). AllByRecursion inside (map turn_view ts)) (sym c.deref.ensures.value)
     (all_moved (map file_view c.args.entries.now) (map turn_view c.in_ok-turns.turns.items)
     (entries_moved c.args.entries.now c.in_ok-turns.turns.items c.in_ok-turns.ensures.all) inside c.requires.inside)

@@ -1,16 +1,16 @@
 use Rattle.std.proofs.Common.{◌+◌, ℕ, map, take, drop, sym, ap, subst, ◌∙◌, ◌≡◌, Err, IsErrOf}
 use Rattle.std.proofs.lemmas.Result.{err_from_is_err_and}
 use Rattle.blockdisk.specs.Common.{same_contents}
-use Rattle.spec_image.specs.Common.{layout_number, place_of, InSpace, FileEntry}
+use Rattle.spec_image.specs.Common.{layout_number, place_of, InSpace, SpecFileEntry}
 use Rattle.alloctab.specs.Common.{digit_at}
 use Rattle.volume.specs.Common.{turn_view, placed_known, NamesInSpace, IsFaultOfFile, IsFaultOfFiles, IsWholeVersion}
 use Rattle.volume.specs.Common.{IsOnlySpace}
 use Rattle.volume.specs.declared.error.VolumeError.TheVariants.{Device}
 use Rattle.volume.proofs.common.DisksAsked.{keeps_disk_served, keeps_disk_on, keeps_disk_handed}
-use Rattle.volume.proofs.common.Handing.{handed, found_on, named_on}
+use Rattle.volume.proofs.common.PassedErrors.{handed, found_on, named_on}
 use Rattle.volume.proofs.common.Lookups.{viewed_at, viewed_split}
 use Rattle.volume.proofs.VolumeStart.FoundDirectories.{all_added}
-use Rattle.volume.proofs.common.Reaching.{entries_marked}
+use Rattle.volume.proofs.common.ReachedBlocks.{entries_marked}
 use Rattle.volume.proofs.VolumeStart.FoundFiles.{file_fault, files_go_on}
 use Rattle.volume.proofs.VolumeStart.ReadTurns.{places_more}
 use Rattle.volume.proofs.read.read_turns.Goals as goal
@@ -20,7 +20,7 @@ add_file-requires-clause-inside g c =
     let s = g.D.Disk.state c.args.disk.now in
     subst (λ (n : ℕ). InSpace n c.turn-item.result.entry.prime) (sym c.loop-turn.invariant.disk.same.size)
     (viewed_at turn_view c.args.turns.now c.loop-turn.turn-index c.turn-item.result c.loop-turn-test.true
-    c.turn-item.is (λ (e : FileEntry). InSpace s.size e.1) c.requires.inside)
+    c.turn-item.is (λ (e : SpecFileEntry). InSpace s.size e.1) c.requires.inside)
 
 pub returns-in_err-add_file-clause-fault : goal.returns-in_err-add_file-clause-fault
 returns-in_err-add_file-clause-fault g c h =

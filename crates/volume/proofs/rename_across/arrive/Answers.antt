@@ -4,14 +4,14 @@ use Rattle.spec_image.specs.Common.{name_cmp}
 use Rattle.directory.specs.Common.{viewed, IsReserve}
 use Rattle.volume.specs.Common.{file_view, live_directory}
 use Rattle.volume.specs.declared.live.LiveMap.{LiveMap}
-use Rattle.volume.proofs.RenameAcross.Arriving.{known_here, directory_here, as_many_keys, known_fit, chain_booked}
-use Rattle.volume.proofs.RenameAcross.Arriving.{chain_room, grown_free, use_held, use_clear, takes_for, arrives}
-use Rattle.volume.proofs.PublishVersion.MakingCurrent.{directory_there, directory_read}
+use Rattle.volume.proofs.RenameAcross.Arrivals.{known_here, directory_here, as_many_keys, known_fit, chain_booked}
+use Rattle.volume.proofs.RenameAcross.Arrivals.{chain_room, grown_free, use_held, use_clear, takes_for, arrives}
+use Rattle.volume.proofs.PublishVersion.StepPremises.{directory_there, directory_read}
 use Rattle.volume.proofs.rename_across.arrive.Goals as goal
 
 pub growth_at-more-requires-clause-few : goal.growth_at-more-requires-clause-few
 growth_at-more-requires-clause-few c =
-    let m = c.args.core.now in
+    let m = c.args.memory.now in
     let place = c.place_of-place.result in
     let stands = c.place_of-place.ensures in
     let d = directory_there m c.requires.whole c.args.ppn place stands.0 stands.1 in
@@ -19,7 +19,7 @@ growth_at-more-requires-clause-few c =
 
 pub take_for_chain-grown-requires-clause-used : goal.take_for_chain-grown-requires-clause-used
 take_for_chain-grown-requires-clause-used c =
-    let m = c.args.core.now in
+    let m = c.args.memory.now in
     let ppn = c.args.ppn in
     let place = c.place_of-place.result in
     let stands = c.place_of-place.ensures in
@@ -34,7 +34,7 @@ take_for_chain-grown-requires-clause-used c =
 
 pub take_for_chain-grown-requires-clause-room : goal.take_for_chain-grown-requires-clause-room
 take_for_chain-grown-requires-clause-room c =
-    let m = c.args.core.now in
+    let m = c.args.memory.now in
     let ppn = c.args.ppn in
     let place = c.place_of-place.result in
     let stands = c.place_of-place.ensures in
@@ -49,7 +49,7 @@ take_for_chain-grown-requires-clause-room c =
 
 pub put_entry-requires-clause-reserve : goal.put_entry-requires-clause-reserve
 put_entry-requires-clause-reserve c =
-    let m = c.args.core.now in
+    let m = c.args.memory.now in
     let place = c.place_of-place.result in
     let stands = c.place_of-place.ensures in
     let d = c.index_mut.result.now in
@@ -59,7 +59,7 @@ put_entry-requires-clause-reserve c =
 
 pub put_entry-requires-clause-keys : goal.put_entry-requires-clause-keys
 put_entry-requires-clause-keys c absent =
-    let m = c.args.core.now in
+    let m = c.args.memory.now in
     let place = c.place_of-place.result in
     let stands = c.place_of-place.ensures in
     let d = c.index_mut.result.now in
@@ -68,7 +68,7 @@ put_entry-requires-clause-keys c absent =
 
 pub put_entry-requires-clause-grown : goal.put_entry-requires-clause-grown
 put_entry-requires-clause-grown c =
-    let m = c.args.core.now in
+    let m = c.args.memory.now in
     let ppn = c.args.ppn in
     let place = c.place_of-place.result in
     let stands = c.place_of-place.ensures in
@@ -86,7 +86,7 @@ put_entry-requires-clause-grown c =
 
 pub put_entry-requires-clause-aligned : goal.put_entry-requires-clause-aligned
 put_entry-requires-clause-aligned c =
-    let m = c.args.core.now in
+    let m = c.args.memory.now in
     let place = c.place_of-place.result in
     let stands = c.place_of-place.ensures in
     let d = c.index_mut.result.now in
@@ -95,7 +95,7 @@ put_entry-requires-clause-aligned c =
 
 pub use_grown-requires-clause-sound : goal.use_grown-requires-clause-sound
 use_grown-requires-clause-sound c =
-    let m = c.args.core.now in
+    let m = c.args.memory.now in
     let ppn = c.args.ppn in
     let place = c.place_of-place.result in
     let stands = c.place_of-place.ensures in
@@ -112,7 +112,7 @@ use_grown-requires-clause-sound c =
 
 pub use_grown-requires-clause-held : goal.use_grown-requires-clause-held
 use_grown-requires-clause-held c =
-    let m = c.args.core.now in
+    let m = c.args.memory.now in
     let ppn = c.args.ppn in
     let place = c.place_of-place.result in
     let stands = c.place_of-place.ensures in
@@ -129,7 +129,7 @@ use_grown-requires-clause-held c =
 
 pub use_grown-requires-clause-clear : goal.use_grown-requires-clause-clear
 use_grown-requires-clause-clear c =
-    let m = c.args.core.now in
+    let m = c.args.memory.now in
     let ppn = c.args.ppn in
     let place = c.place_of-place.result in
     let stands = c.place_of-place.ensures in
@@ -146,7 +146,7 @@ use_grown-requires-clause-clear c =
 
 pub returns : goal.returns
 returns c =
-    let m = c.args.core.now in
+    let m = c.args.memory.now in
     let ppn = c.args.ppn in
     let place = c.place_of-place.result in
     let stands = c.place_of-place.ensures in

@@ -1,7 +1,7 @@
 use Rattle.std.proofs.Common.{◌<◌, ◌≤◌, ◌+◌, refl, sym, ◌∙◌, arith}
 use Rattle.alloctab.specs.Common.{space}
 use Rattle.volume.proofs.BeginVersion.Beginnings.{no_room}
-use Rattle.volume.proofs.PublishVersion.MakingCurrent.{directory_read}
+use Rattle.volume.proofs.PublishVersion.StepPremises.{directory_read}
 use Rattle.volume.proofs.RenameAcross.Refusals.{target_few, target_named, named_no_room, target_free, free_unnamed}
 use Rattle.volume.proofs.RenameAcross.Refusals.{target_full, target_room, room_enough}
 use Rattle.volume.proofs.rename_across.find_target.Goals.{else-more-gt0-via-then-more-gt0+else-not-can_book}
@@ -10,7 +10,7 @@ use Rattle.volume.proofs.rename_across.find_target.Goals as goal
 
 pub returns-then-is_some-clause-exists : goal.returns-then-is_some-clause-exists
 returns-then-is_some-clause-exists c =
-    let m = c.args.core.now in
+    let m = c.args.memory.now in
     let stands = c.in-Ok.ensures.found in
     let at = directory_read m c.requires.whole stands.1 _ c.index.ensures in (
       λ said. target_named m c.requires.whole c.args.ppn c.in-Ok.place stands.0 stands.1 c.index.result.now at
@@ -20,7 +20,7 @@ returns-then-is_some-clause-exists c =
 
 pub returns-then-is_some-clause-no_room : goal.returns-then-is_some-clause-no_room
 returns-then-is_some-clause-no_room c =
-    let m = c.args.core.now in
+    let m = c.args.memory.now in
     let stands = c.in-Ok.ensures.found in
     let at = directory_read m c.requires.whole stands.1 _ c.index.ensures in (
       λ said. cc,
@@ -30,14 +30,14 @@ returns-then-is_some-clause-no_room c =
 
 pub growth_at-more-requires-clause-few : goal.growth_at-more-requires-clause-few
 growth_at-more-requires-clause-few c =
-    let m = c.args.core.now in
+    let m = c.args.memory.now in
     let stands = c.in-Ok.ensures.found in
     let at = directory_read m c.requires.whole stands.1 _ c.index.ensures in
     target_few m c.requires.whole c.args.ppn c.in-Ok.place stands.0 stands.1 c.index.result.now at c.args.name.now
 
 pub returns-then-not-can_book-clause-exists : goal.returns-then-not-can_book-clause-exists
 returns-then-not-can_book-clause-exists c =
-    let m = c.args.core.now in
+    let m = c.args.memory.now in
     let stands = c.in-Ok.ensures.found in
     let at = directory_read m c.requires.whole stands.1 _ c.index.ensures in (
       λ said. cc,
@@ -47,7 +47,7 @@ returns-then-not-can_book-clause-exists c =
 
 pub returns-then-not-can_book-clause-no_room : goal.returns-then-not-can_book-clause-no_room
 returns-then-not-can_book-clause-no_room c =
-    let m = c.args.core.now in
+    let m = c.args.memory.now in
     let stands = c.in-Ok.ensures.found in
     let at = directory_read m c.requires.whole stands.1 _ c.index.ensures in
     let more = c.growth_at-more.result in
@@ -61,7 +61,7 @@ returns-then-not-can_book-clause-no_room c =
 
 pub returns-clause-free : goal.returns-clause-free
 returns-clause-free c =
-    let m = c.args.core.now in
+    let m = c.args.memory.now in
     let stands = c.in-Ok.ensures.found in
     let at = directory_read m c.requires.whole stands.1 _ c.index.ensures in
     target_free m c.requires.whole c.args.ppn c.in-Ok.place stands.0 stands.1 c.index.result.now at
@@ -69,7 +69,7 @@ returns-clause-free c =
 
 pub returns-clause-room : goal.returns-clause-room
 returns-clause-room c =
-    let m = c.args.core.now in
+    let m = c.args.memory.now in
     let stands = c.in-Ok.ensures.found in
     let at = directory_read m c.requires.whole stands.1 _ c.index.ensures in
     let more = c.growth_at-more.result in
@@ -84,7 +84,7 @@ returns-clause-room c =
 
 pub returns-clause-exists : goal.returns-clause-exists
 returns-clause-exists c =
-    let m = c.args.core.now in
+    let m = c.args.memory.now in
     let stands = c.in-Ok.ensures.found in
     let at = directory_read m c.requires.whole stands.1 _ c.index.ensures in (
       λ said. cc,
@@ -94,7 +94,7 @@ returns-clause-exists c =
 
 pub returns-clause-no_room : goal.returns-clause-no_room
 returns-clause-no_room c =
-    let m = c.args.core.now in
+    let m = c.args.memory.now in
     let stands = c.in-Ok.ensures.found in
     let at = directory_read m c.requires.whole stands.1 _ c.index.ensures in
     let more = c.growth_at-more.result in

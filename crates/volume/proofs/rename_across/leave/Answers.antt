@@ -1,14 +1,14 @@
 use Rattle.std.proofs.Common.{option_to_list, refl}
 use Rattle.std.specs.Vec.{with_item}
 use Rattle.volume.specs.declared.live.LiveMap.{LiveMap}
-use Rattle.volume.proofs.RenameAcross.Leaving.{place_inside, leaves_few, leaves_set, leaves}
-use Rattle.volume.proofs.PublishVersion.MakingCurrent.{index_is}
+use Rattle.volume.proofs.RenameAcross.Departures.{place_inside, leaves_few, leaves_set, leaves}
+use Rattle.volume.proofs.PublishVersion.StepPremises.{index_is}
 use Rattle.volume.proofs.DeleteFile.Removals.{grown_at}
 use Rattle.volume.proofs.rename_across.leave.Goals as goal
 
 pub remove_entry-block-requires-clause-there : goal.remove_entry-block-requires-clause-there
 remove_entry-block-requires-clause-there c =
-    let m = c.args.core.now in
+    let m = c.args.memory.now in
     let place = c.place_of-place.result in
     let stands = c.place_of-place.ensures in
     let d = c.index_mut.result.now in
@@ -18,7 +18,7 @@ remove_entry-block-requires-clause-there c =
 
 pub remove_entry-block-requires-clause-aligned : goal.remove_entry-block-requires-clause-aligned
 remove_entry-block-requires-clause-aligned c =
-    let m = c.args.core.now in
+    let m = c.args.memory.now in
     let place = c.place_of-place.result in
     let stands = c.place_of-place.ensures in
     let d = c.index_mut.result.now in
@@ -28,7 +28,7 @@ remove_entry-block-requires-clause-aligned c =
 
 pub growth_at-less-requires-clause-few : goal.growth_at-less-requires-clause-few
 growth_at-less-requires-clause-few c =
-    let m = c.args.core.now in
+    let m = c.args.memory.now in
     let place = c.place_of-place.result in
     let stands = c.place_of-place.ensures in
     let d = c.index_mut.result.now in
@@ -41,7 +41,7 @@ growth_at-less-requires-clause-few c =
 
 pub clear_left-requires-clause-set : goal.clear_left-requires-clause-set
 clear_left-requires-clause-set c =
-    let m = c.args.core.now in
+    let m = c.args.memory.now in
     let place = c.place_of-place.result in
     let stands = c.place_of-place.ensures in
     let d = c.index_mut.result.now in
@@ -54,7 +54,7 @@ clear_left-requires-clause-set c =
 
 pub returns : goal.returns
 returns c =
-    let m = c.args.core.now in
+    let m = c.args.memory.now in
     let ppn = c.args.ppn in
     let place = c.place_of-place.result in
     let stands = c.place_of-place.ensures in

@@ -1,8 +1,8 @@
 use Rattle.std.proofs.Common.{ℕ, ◌<◌, refl, sym, ap, subst, ◌∙◌}
-use Rattle.volume.specs.Common.{core_of}
+use Rattle.volume.specs.Common.{memory_of}
 use Rattle.volume.specs.declared.error.CallError.TheVariants.{Failed}
 use Rattle.volume.proofs.common.Edits.{edit_in_range, edit_few, read_nothing, ok_anyway, interrupted, edited}
-use Rattle.volume.proofs.common.Handing.{err_on}
+use Rattle.volume.proofs.common.PassedErrors.{err_on}
 use Rattle.volume.proofs.RenameAcross.Transactions.{across_sized, across_edit}
 use Rattle.volume.proofs.RenameAcross.PrimesRead.{prime_holds}
 use Rattle.volume.proofs.RenameWithin.Transactions.{first_below}
@@ -12,10 +12,10 @@ use Rattle.volume.proofs.rename_across.move_across.Goals as goal
 pub read_prime-requires-clause-inside : goal.read_prime-requires-clause-inside
 read_prime-requires-clause-inside g c =
     let s = g.D.Disk.state c.args.disk.now in
-    let core = core_of c.args.core.now in
+    let memory = memory_of c.args.memory.now in
     let file = c.requires.there in
     subst (λ (n : ℕ). n < s.size) (sym (c.prime_of-at.ensures file.version file.here))
-    (first_below s.size core c.requires.sound.whole c.args.key file.version file.here file.current
+    (first_below s.size memory c.requires.sound.whole c.args.key file.version file.here file.current
     c.booked-booked.ensures.sound)
 
 -- The prime block isn't read.
@@ -33,10 +33,10 @@ returns-in-Err-clause-held g c k v is = (v.prime, is)
 pub returns-in-Err-clause-given_up : goal.returns-in-Err-clause-given_up
 returns-in-Err-clause-given_up g c is h =
     let s = g.D.Disk.state c.args.disk.now in
-    let core = core_of c.args.core.now in
+    let memory = memory_of c.args.memory.now in
     let same = c.read_prime.ensures.disk.same in
     let file = c.requires.there in
-    let holds = prime_holds s core c.requires.sound (same.was_honest h) c.args.moved.ppn c.args.moved.name c.args.key
+    let holds = prime_holds s memory c.requires.sound (same.was_honest h) c.args.moved.ppn c.args.moved.name c.args.key
     file in
     c.in-Err.ensures.broken h (err_on c.in-Err.error Failed is) file.version holds.0 file.here
     (ap s.contents (c.prime_of-at.ensures file.version file.here) ∙ holds.1) holds.2
@@ -86,5 +86,5 @@ pub returns-clause-held : goal.returns-clause-held
 returns-clause-held g c =
     let v = c.move_to_directory.ensures.0 in
     let moves = c.move_to_directory.ensures.1 in
-    version_held (core_of c.args.core.now) (core_of c.move_to_directory.new.core) c.args.key v moves.prime moves.there
+    version_held (memory_of c.args.memory.now) (memory_of c.move_to_directory.new.memory) c.args.key v moves.prime moves.there
     moves.here moves.others

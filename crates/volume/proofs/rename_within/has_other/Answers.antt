@@ -1,5 +1,5 @@
 use Rattle.std.proofs.Common.{inr, sym, ◌∙◌}
-use Rattle.volume.proofs.PublishVersion.MakingCurrent.{directory_read}
+use Rattle.volume.proofs.PublishVersion.StepPremises.{directory_read}
 use Rattle.volume.proofs.RenameWithin.Renamings.{name_free, name_taken, names_differ}
 use Rattle.volume.proofs.rename_within.has_other.Goals as goal
 

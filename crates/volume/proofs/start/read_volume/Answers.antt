@@ -5,10 +5,10 @@ use Rattle.changeset.specs.declared.error.LogError.TheVariants.{Device as LogDev
 use Rattle.spec_image.specs.Common.{with_puts, File, Files, layout_number, pack_of, StandsOn, DiskMap}
 use Rattle.spec_image.proofs.Common.{layout_is}
 use Rattle.volume.specs.declared.error.VolumeError.TheVariants.{BadLog, Device}
-use Rattle.volume.specs.declared.map.DiskMap.{DiskMap as CoreMap}
-use Rattle.volume.specs.Common.{known_of, IsHeld, SettledRefuses, Refuses, IsAtRest, RestsAt, StandsLike}
+use Rattle.volume.specs.declared.volume.LoadedMap.{LoadedMap}
+use Rattle.volume.specs.Common.{known_of, MatchesMap, SettledRefuses, Refuses, IsAtRest, RestsAt, StandsLike}
 use Rattle.volume.specs.Common.{StandsLikeBefore}
-use Rattle.volume.proofs.common.Handing.{found_on, named_on}
+use Rattle.volume.proofs.common.PassedErrors.{found_on, named_on}
 use Rattle.volume.proofs.common.Packs.{homes_layout}
 use Rattle.volume.proofs.VolumeStart.Starts.{ok_on, ok_always, crash_recovered, synced_recovered, crash_read}
 use Rattle.volume.proofs.VolumeStart.Starts.{synced_read, rest_known, rest_files, stood_before, closed_refuses}
@@ -44,7 +44,7 @@ returns-in-Ok-clause-rest g c h =
     let recovered : IsRecovered s.size s.contents s1.contents = c.in-Ok.ensures.recovered
     (c.read_map.ensures.disk.same.was_honest h) in
     let none : NoneOpen s1 = c.in-Ok.ensures.settled (c.read_map.ensures.disk.same.was_honest h) in
-    ok_on (λ read. (m : DiskMap) × IsHeld s1.size (known_of read) m s1.contents × (m.layout ≡ layout_number read.layout))
+    ok_on (λ read. (m : DiskMap) × MatchesMap s1.size (known_of read) m s1.contents × (m.layout ≡ layout_number read.layout))
     (λ read. IsAtRest s2 (known_of read)) c.read_map.result
     (λ read held. rest_known s s1 s2 (known_of read) held.0 c.recover.ensures.same.size
     c.read_map.ensures.disk.same.size
@@ -55,7 +55,7 @@ returns-in-Ok-clause-layout g c h =
     let s1 = g.D.Disk.state c.recover.new.disk in
     let s2 = g.D.Disk.state c.read_map.new.disk in
     let reads = c.read_map.ensures.disk.reads h in
-    ok_on (λ read. (m : DiskMap) × IsHeld s1.size (known_of read) m s1.contents × (m.layout ≡ layout_number read.layout))
+    ok_on (λ read. (m : DiskMap) × MatchesMap s1.size (known_of read) m s1.contents × (m.layout ≡ layout_number read.layout))
     (λ read. layout_number read.layout ≡ (pack_of s2).layout) c.read_map.result
     (λ read held. sym held.2 ∙ sym (layout_is s1.size s1.contents _ held.1.stands.mapped.home)
     ∙ sym (homes_layout s1 s2 c.read_map.ensures.disk.same.size (λ n low. reads.still.contents n)))
@@ -94,7 +94,7 @@ returns-in-Ok-clause-stood g c h =
     let recovered : IsRecovered s.size s.contents s1.contents = c.in-Ok.ensures.recovered
     (c.read_map.ensures.disk.same.was_honest h) in
     let none : NoneOpen s1 = c.in-Ok.ensures.settled (c.read_map.ensures.disk.same.was_honest h) in
-    ok_on (λ read. (m : DiskMap) × IsHeld s1.size (known_of read) m s1.contents × (m.layout ≡ layout_number read.layout))
+    ok_on (λ read. (m : DiskMap) × MatchesMap s1.size (known_of read) m s1.contents × (m.layout ≡ layout_number read.layout))
     (λ read. (files : Files File)
     × StandsOn (pack_of s2) s.contents files × RestsAt s2 files) c.read_map.result
     (λ read held. stood_before s s1 s2 (known_of read) held.0 c.recover.ensures.same.size
@@ -151,14 +151,14 @@ returns-in-Err-Device-clause-crash g c h = crash_recovered (g.D.Disk.state c.arg
 pub returns-in-Err-BadLog-clause-synced : goal.returns-in-Err-BadLog-clause-synced
 returns-in-Err-BadLog-clause-synced g c h =
     synced_recovered g.D.Disk.state c.args.disk.now c.recover.new.disk (IsErrOf c.recover.result LogDevice)
-    (IsErrOf {T = CoreMap} (Err BadLog) Device)
+    (IsErrOf {T = LoadedMap} (Err BadLog) Device)
     (λ (is : c.recover.result ≡ Err LogDevice). absurd (let bad = c.in-Err-BadLog.is in
     let which = c.in-Err-BadLog.field-0-is in cc)) (c.recover.ensures.synced h)
 
 pub returns-in-Err-Device-clause-synced : goal.returns-in-Err-Device-clause-synced
 returns-in-Err-Device-clause-synced g c h =
     synced_recovered g.D.Disk.state c.args.disk.now c.recover.new.disk (IsErrOf c.recover.result LogDevice)
-    (IsErrOf {T = CoreMap} (Err Device) Device) (λ is. refl)
+    (IsErrOf {T = LoadedMap} (Err Device) Device) (λ is. refl)
     (c.recover.ensures.synced h)
 
 pub returns-in-Err-BadLog-clause-refused : goal.returns-in-Err-BadLog-clause-refused

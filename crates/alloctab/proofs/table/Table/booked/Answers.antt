@@ -1,6 +1,6 @@
 use Rattle.std.proofs.Common.{subst}
 use Rattle.alloctab.specs.Common.{IsTable}
-use Rattle.alloctab.proofs.KeptLaws.{sound}
+use Rattle.alloctab.proofs.MemoryLaws.{sound}
 use Rattle.alloctab.proofs.table.Table.booked.Goals as goal
 
 pub returns-clause-sound : goal.returns-clause-sound

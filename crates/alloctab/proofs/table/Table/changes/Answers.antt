@@ -6,7 +6,7 @@ use Rattle.changeset.specs.Common.{IsPutIn}
 use Rattle.alloctab.specs.Common.{TableState, IsTable, bit, changed_blocks, word_bit, SpellsTable, IsChangedBlock}
 use Rattle.alloctab.proofs.ChangeLaws.{table_changes, table_changes_are, put_changes, others_changes, targets_changes}
 use Rattle.alloctab.proofs.ChangeLaws.{few_changes, in_range_changes, spells_changes}
-use Rattle.alloctab.proofs.KeptLaws.{sound as kept_sound, bits_are}
+use Rattle.alloctab.proofs.MemoryLaws.{sound as kept_sound, bits_are}
 use Rattle.alloctab.proofs.table.Table.changes.Goals as goal
 
 puts_are : (c : goal.After-fill) → c.put_changed.new.set ≡ table_changes c.args.self.now c.args.set.now

@@ -2,7 +2,7 @@ use Rattle.std.proofs.Common.{◌+◌, ◌/◌, [], ◌∷◌, ◌∙◌, ap, su
 use Rattle.std.proofs.lemmas.List.{get_or_read}
 use Rattle.spec_image.specs.Common.{times}
 use Rattle.alloctab.specs.Common.{TableState, IsTable, bit, bit-freed}
-use Rattle.alloctab.proofs.KeptLaws.{kept_bit, with_bit_is, sound}
+use Rattle.alloctab.proofs.MemoryLaws.{kept_bit, with_bit_is, sound}
 use Rattle.alloctab.proofs.table.Table.clear.Goals as goal
 
 pub invariant_of-self : goal.invariant_of-self

@@ -1,5 +1,5 @@
 use Rattle.std.proofs.Common.{◌+◌, true, true≢false, rules, arith}
-use Rattle.alloctab.proofs.KeptLaws.{kept_count}
+use Rattle.alloctab.proofs.MemoryLaws.{kept_count}
 use Rattle.alloctab.proofs.table.Table.hold.Goals as goal
 
 pub invariant_of-self : goal.invariant_of-self

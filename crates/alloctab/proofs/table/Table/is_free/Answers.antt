@@ -1,6 +1,6 @@
 use Rattle.std.proofs.Common.{subst}
 use Rattle.alloctab.specs.Common.{IsTable}
-use Rattle.alloctab.proofs.KeptLaws.{sound}
+use Rattle.alloctab.proofs.MemoryLaws.{sound}
 use Rattle.alloctab.proofs.table.Table.is_free.Goals as goal
 
 pub returns-then-not-is_set-clause-sound : goal.returns-then-not-is_set-clause-sound

@@ -1,7 +1,7 @@
 use Rattle.std.proofs.Common.{◌≡◌, ℕ, ◌*◌, List, length, replicate, sym, ◌∙◌, ap, subst, arith, rules}
 use Rattle.std.proofs.lemmas.List.{with_items_is}
-use Rattle.alloctab.specs.Common.{digit_at, word_bit, flags, IsClearFrom, IsKept, IsTableOf}
-use Rattle.alloctab.proofs.KeptLaws.{sound, kept_loaded, table_read, zeros}
+use Rattle.alloctab.specs.Common.{digit_at, word_bit, flags, IsClearFrom, IsTableInMemory, IsTableOf}
+use Rattle.alloctab.proofs.MemoryLaws.{sound, kept_loaded, table_read, zeros}
 use Rattle.alloctab.proofs.table.Table.load.Goals as goal
 
 pub invariant_of-result : goal.invariant_of-result
@@ -13,7 +13,7 @@ invariant_of-result g c =
     let whole : length words ≡ c.in_ok-set.set.len = search rules in
     let none = c.in_ok-read_table.ensures.past (λ m from. ap (λ (l : List ℕ). word_bit l m) zero ∙ zeros long m) in
     let clear : IsClearFrom c.blocks-size.result words = λ m from. none m (omega arith) in
-    subst (λ (l : List ℕ). IsKept c.blocks-size.result l c.in_ok-held.held.items c.in_ok-counts.counts.items
+    subst (λ (l : List ℕ). IsTableInMemory c.blocks-size.result l c.in_ok-held.held.items c.in_ok-counts.counts.items
     c.in_ok-changed.changed.items 0) (sym (with_items_is c.in_ok-set.set words whole))
     (kept_loaded c.blocks-size.result words c.in_ok-held.held.items c.in_ok-counts.counts.items
     c.in_ok-changed.changed.items long (search rules) (search rules) (search rules) clear (search rules) (search rules)

@@ -1,7 +1,7 @@
 use Rattle.std.proofs.Common.{ℕ, ◌+◌, ◌*◌, ◌/◌, ◌<◌, Option, Some, None, IfNone, refl, sym, ◌∙◌, subst, arith}
 use Rattle.alloctab.specs.Common.{TableState, IsTable, IsFree}
 use Rattle.alloctab.proofs.LowestLaws.{lowest_of}
-use Rattle.alloctab.proofs.KeptLaws.{sound, rest_is, found_inside, found_free, none_earlier, none_found}
+use Rattle.alloctab.proofs.MemoryLaws.{sound, rest_is, found_inside, found_free, none_earlier, none_found}
 use Rattle.alloctab.proofs.table.Table.lowest_free.Goals as goal
 
 pub returns-in_err-n-clause-none : goal.returns-in_err-n-clause-none

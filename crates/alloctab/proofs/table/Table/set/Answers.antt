@@ -1,6 +1,6 @@
 use Rattle.std.proofs.Common.{◌/◌, ◌∙◌, ap, subst, true, true≢false, rules, arith}
 use Rattle.alloctab.specs.Common.{TableState, IsTable, bit, bit-taken}
-use Rattle.alloctab.proofs.KeptLaws.{kept_bit, with_bit_is, sound}
+use Rattle.alloctab.proofs.MemoryLaws.{kept_bit, with_bit_is, sound}
 use Rattle.alloctab.proofs.table.Table.set.Goals as goal
 
 pub invariant_of-self : goal.invariant_of-self

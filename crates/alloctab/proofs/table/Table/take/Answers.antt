@@ -1,7 +1,7 @@
 use Rattle.std.proofs.Common.{◌+◌, ◌∙◌, ap, subst, arith}
 use Rattle.alloctab.specs.Common.{TableState, IsFree}
 use Rattle.alloctab.proofs.SpaceLaws.{space_used}
-use Rattle.alloctab.proofs.KeptLaws.{kept_raised, taken_not_free}
+use Rattle.alloctab.proofs.MemoryLaws.{kept_raised, taken_not_free}
 use Rattle.alloctab.proofs.table.Table.take.Goals as goal
 
 pub invariant_of-self : goal.invariant_of-self

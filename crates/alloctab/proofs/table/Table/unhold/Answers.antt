@@ -1,7 +1,7 @@
 use Rattle.std.proofs.Common.{ℕ, ◌-◌, List, ltb, ltb-true, ltb-false, ◌∙◌, ap, rules, arith}
 use Rattle.alloctab.specs.Common.{word_bit}
 use Rattle.alloctab.proofs.FlagLaws.{no_digit}
-use Rattle.alloctab.proofs.KeptLaws.{kept_count}
+use Rattle.alloctab.proofs.MemoryLaws.{kept_count}
 use Rattle.alloctab.proofs.table.Table.unhold.Goals as goal
 
 pub invariant_of-self : goal.invariant_of-self

@@ -1,7 +1,7 @@
 use Rattle.std.proofs.Common.{⊎_elim, subst, rules}
 use Rattle.std.proofs.lemmas.Bool.{cases_lt}
 use Rattle.alloctab.specs.Common.{IsTable}
-use Rattle.alloctab.proofs.KeptLaws.{sound, right_past}
+use Rattle.alloctab.proofs.MemoryLaws.{sound, right_past}
 use Rattle.alloctab.proofs.table.Table.wrong_block.Goals as goal
 
 pub returns-clause-right : goal.returns-clause-right

@@ -1,16 +1,16 @@
 use Rattle.std.proofs.Common.{◌≡◌, subst, sym, None, nat_eq}
 use Rattle.std.specs.Map.{lookup}
-use Rattle.blockcache.specs.Cache.{Kept, AreHeld}
-use Rattle.blockcache.proofs.Held.{held_without, gone}
+use Rattle.blockcache.specs.Cache.{CachedBlocks, AreCached}
+use Rattle.blockcache.proofs.CachedContents.{held_without, gone}
 use Rattle.blockcache.proofs.cache.Cached.forget.Goals as goal
 
 pub invariant_of-self-clause-coherent : goal.invariant_of-self-clause-coherent
 invariant_of-self-clause-coherent g c =
-    λ h. subst (λ (kept : Kept). AreHeld kept.entries (g.D.Disk.state c.args.self.now.inner).contents)
+    λ h. subst (λ (kept : CachedBlocks). AreCached kept.entries (g.D.Disk.state c.args.self.now.inner).contents)
     (sym c.pop-block.ensures.entries)
     (held_without c.args.self.now.cache (g.D.Disk.state c.args.self.now.inner).contents c.args.n
     (c.args.self.now.coherent h))
 
 pub returns-clause-none : goal.returns-clause-none
-returns-clause-none g c = subst (λ (kept : Kept). lookup (nat_eq c.args.n) kept.entries ≡ None)
+returns-clause-none g c = subst (λ (kept : CachedBlocks). lookup (nat_eq c.args.n) kept.entries ≡ None)
     (sym c.pop-block.ensures.entries) (gone c.args.n c.args.self.now.cache.entries c.len-kept.ensures.valid.0)

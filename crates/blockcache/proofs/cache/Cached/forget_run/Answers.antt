@@ -2,8 +2,8 @@ use Rattle.std.proofs.Common.{◌≡◌, ◌∙◌, ◌+◌, ◌-◌, ap, None, 
 use Rattle.std.proofs.lemmas.Bool.{cases_eq}
 use Rattle.std.specs.Map.{lookup}
 use Rattle.lru.proofs.CallerLemmas.{Contains-remove_entry}
-use Rattle.blockcache.specs.Cache.{Kept, without, without_run}
-use Rattle.blockcache.proofs.Held.{none_without, run_more}
+use Rattle.blockcache.specs.Cache.{CachedBlocks, without, without_run}
+use Rattle.blockcache.proofs.CachedContents.{none_without, run_more}
 use Rattle.blockcache.proofs.cache.Cached.forget_run.Goals as goal
 
 pub loop-number-init : goal.loop-number-init
@@ -26,12 +26,12 @@ loop-number-preserved g c =
       none = λ n from below. ⊎_elim
           (λ here. subst (λ k. lookup (nat_eq k) c.forget.new.self.cache.entries ≡ None) (sym here)
           c.forget.ensures.none)
-          (λ other. subst (λ (kept : Kept). lookup (nat_eq n) kept.entries ≡ None) (sym gone)
+          (λ other. subst (λ (kept : CachedBlocks). lookup (nat_eq n) kept.entries ≡ None) (sym gone)
           (none_without n number before
           (c.loop-number.invariant.none n from (omega (arith, below, other)))))
           (cases_eq n number);
       no_others = λ e is. c.loop-number.invariant.no_others e (Contains-remove_entry (nat_eq number) before e
-          (subst (λ (kept : Kept). Contains kept.entries e) gone is));
+          (subst (λ (kept : CachedBlocks). Contains kept.entries e) gone is));
       forgotten =
           let here : number ≡ c.args.first + (number - c.args.first) = omega arith in
           let more : number - c.args.first + 1 ≡ number + 1 - c.args.first = omega arith in

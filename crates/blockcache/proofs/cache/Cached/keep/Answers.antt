@@ -1,4 +1,4 @@
-use Rattle.blockcache.proofs.Held.{held_kept, put_or_not}
+use Rattle.blockcache.proofs.CachedContents.{held_kept, put_or_not}
 use Rattle.blockcache.proofs.cache.Cached.keep.Goals as goal
 
 pub invariant_of-self-clause-coherent : goal.invariant_of-self-clause-coherent

@@ -1,11 +1,11 @@
 use Rattle.std.proofs.Common.{◌∙◌, subst, sym}
-use Rattle.blockcache.specs.Cache.{Kept, AreHeld}
-use Rattle.blockcache.proofs.Held.{held_used, used_missed}
+use Rattle.blockcache.specs.Cache.{CachedBlocks, AreCached}
+use Rattle.blockcache.proofs.CachedContents.{held_used, used_missed}
 use Rattle.blockcache.proofs.cache.Cached.recall.Goals as goal
 
 pub invariant_of-self-clause-coherent : goal.invariant_of-self-clause-coherent
 invariant_of-self-clause-coherent g c =
-    λ h. subst (λ (kept : Kept). AreHeld kept.entries (g.D.Disk.state c.args.self.now.inner).contents)
+    λ h. subst (λ (kept : CachedBlocks). AreCached kept.entries (g.D.Disk.state c.args.self.now.inner).contents)
     (sym c.get.follows.holds-at-none)
     (held_used c.args.self.now.cache (g.D.Disk.state c.args.self.now.inner).contents c.args.n
     (c.args.self.now.coherent h))

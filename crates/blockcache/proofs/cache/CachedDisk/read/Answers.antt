@@ -1,6 +1,6 @@
 use Rattle.std.proofs.Common.{Ok, subst, sym}
 use Rattle.blockdisk.specs.Common.{IsRead}
-use Rattle.blockcache.proofs.Held.{held_found}
+use Rattle.blockcache.proofs.CachedContents.{held_found}
 use Rattle.blockcache.proofs.Recalled.{recalled}
 use Rattle.blockcache.proofs.cache.CachedDisk.read.Goals as goal
 

@@ -1,4 +1,4 @@
-use Rattle.blockcache.proofs.Held.{held_beside}
+use Rattle.blockcache.proofs.CachedContents.{held_beside}
 use Rattle.blockcache.proofs.cache.CachedDisk.write.Goals as goal
 
 pub invariant_of-self-clause-coherent : goal.invariant_of-self-clause-coherent

@@ -1,7 +1,7 @@
 use Rattle.std.proofs.Common.{◌<◌, [], length, subst, arith}
 use Rattle.std.proofs.lemmas.List.{get_or_read}
 use Rattle.blockdisk.specs.Common.{IsWrite, IsInRun, write_of_one}
-use Rattle.blockcache.proofs.Held.{held_outside}
+use Rattle.blockcache.proofs.CachedContents.{held_outside}
 use Rattle.blockcache.proofs.cache.CachedDisk.write_run.Goals as goal
 
 pub returns-then-blocks-eq1-clause-writes : goal.returns-then-blocks-eq1-clause-writes

@@ -1,5 +1,5 @@
 use Rattle.std.proofs.Common.{take}
-use Rattle.directory.proofs.Listing.{AreAt}
+use Rattle.directory.proofs.SortedEntries.{AreAt}
 use Rattle.directory.proofs.chain.Chain.list_sorted.Given as goal
 
 abbrev pub invariant-loop-place : goal.invariant-loop-place

@@ -5,9 +5,9 @@ use Rattle.directory.proofs.chain.Chain.replace.Goals as goal
 
 pub invariant_of-self : goal.invariant_of-self
 invariant_of-self g c = (
-  subst (λ es. IsChain g.E.Entry.order g.E.Entry.IsEntry
-      (viewed g.E.Entry.view (record { blocks = c.self.inside.blocks.items; entries = es }))) (sym c.set.ensures)
-      (replaced_sound g.met.E.Entry.total g.E.Entry.IsEntry g.E.Entry.view
+  subst (λ es. IsChain g.E.ChainEntry.order g.E.ChainEntry.IsEntry
+      (viewed g.E.ChainEntry.view (record { blocks = c.self.inside.blocks.items; entries = es }))) (sym c.set.ensures)
+      (replaced_sound g.met.E.ChainEntry.total g.E.ChainEntry.IsEntry g.E.ChainEntry.view
       (record { blocks = c.self.inside.blocks.items; entries = c.self.inside.entries }) c.args.self.now
       c.args.i c.args.entry
       c.self.view_is c.self.invariant.0 c.requires.within c.requires.alone c.words-words.ensures.good),
@@ -16,10 +16,10 @@ invariant_of-self g c = (
 
 pub returns-clause-put : goal.returns-clause-put
 returns-clause-put g c =
-    subst (λ es. PutsChain g.E.Entry.words_of (viewed g.E.Entry.view c.args.self.now)
-    (viewed g.E.Entry.view (record { blocks = c.self.inside.blocks.items; entries = es })) c.args.set.now
+    subst (λ es. PutsChain g.E.ChainEntry.words_of (viewed g.E.ChainEntry.view c.args.self.now)
+    (viewed g.E.ChainEntry.view (record { blocks = c.self.inside.blocks.items; entries = es })) c.args.set.now
     c.put_block.new.set) (sym c.set.ensures)
-    (replaced_put g.met.E.Entry.total g.E.Entry.IsEntry g.E.Entry.view g.E.Entry.words_of
+    (replaced_put g.met.E.ChainEntry.total g.E.ChainEntry.IsEntry g.E.ChainEntry.view g.E.ChainEntry.words_of
     (record { blocks = c.self.inside.blocks.items; entries = c.self.inside.entries }) c.args.self.now
     c.args.i c.args.entry
     c.deref.result.now c.as_slice.result.now c.args.set.now c.put_block.new.set

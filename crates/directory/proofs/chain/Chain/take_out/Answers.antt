@@ -5,7 +5,7 @@ use Rattle.directory.proofs.chain.Chain.take_out.Goals as goal
 
 pub invariant_of-self : goal.invariant_of-self
 invariant_of-self g c = (
-  removed_sound g.met.E.Entry.total g.E.Entry.IsEntry g.E.Entry.view
+  removed_sound g.met.E.ChainEntry.total g.E.ChainEntry.IsEntry g.E.ChainEntry.view
       (record { blocks = c.self.inside.blocks.items; entries = c.self.inside.entries }) c.args.self.now
       c.args.i c.swap_remove.result
       c.pop_empty-freed.new.blocks.items c.pop_empty-freed.result c.swap_remove.new.self c.self.view_is
@@ -16,14 +16,14 @@ invariant_of-self g c = (
 
 pub returns-clause-entries : goal.returns-clause-entries
 returns-clause-entries g c =
-    removed_entries g.met.E.Entry.total g.E.Entry.IsEntry g.E.Entry.view
+    removed_entries g.met.E.ChainEntry.total g.E.ChainEntry.IsEntry g.E.ChainEntry.view
     (record { blocks = c.self.inside.blocks.items; entries = c.self.inside.entries }) c.args.self.now
     c.args.i c.swap_remove.result
     c.swap_remove.new.self c.self.view_is c.requires.within c.swap_remove.ensures.entries
 
 pub returns-clause-put : goal.returns-clause-put
 returns-clause-put g c =
-    removed_put g.met.E.Entry.total g.E.Entry.IsEntry g.E.Entry.view g.E.Entry.words_of
+    removed_put g.met.E.ChainEntry.total g.E.ChainEntry.IsEntry g.E.ChainEntry.view g.E.ChainEntry.words_of
     (record { blocks = c.self.inside.blocks.items; entries = c.self.inside.entries }) c.args.self.now
     c.args.i c.swap_remove.result
     c.pop_empty-freed.new.blocks.items c.deref.result.now c.pop_empty-freed.result c.swap_remove.new.self

@@ -8,7 +8,7 @@ use Rattle.imagefile.proofs.FileLaws.{same_on, keeps_on, window-at}
 use Rattle.imagefile.proofs.Record.{window-list}
 use Rattle.imagefile.proofs.host.HostFileDurable.read_at.Goals as goal
 
--- one more part of a buffer is read, behind those that were read before
+-- one more part of a buffer is read, after those that were read before
 module _ (buffer part : List ℕ) (done count : ℕ) (some : done ≤ length buffer) (few : count ≤ length buffer - done)
     (long : length part ≡ length buffer - done) where
   abbrev filled : List ℕ

@@ -22,7 +22,7 @@ returns-then-moment-last_date-clause-answered g c =
     old → (new : Service) × Serves (g.D.Disk.state m.disk) m.map m.failed m.jobs new
     × Answers (pack_of (g.D.Disk.state m.disk)) old (Calls c.args.job c.args.call.now c.args.moment) DateRange new)
     c.self.view_is
-    (λ h old serves. called_late (pack_of d) d v.core v.failed c.self.inside.jobs c.args.job c.args.call.now
+    (λ h old serves. called_late (pack_of d) d v.map v.failed c.self.inside.jobs c.args.job c.args.call.now
     c.args.moment alive (late_in (pack_of d).layout c.last_date.result c.args.moment.date
     (subst (λ (n : ℕ). c.last_date.result + 1 ≡ date_limit n) (c.layout-layout.ensures.disk h alive)
     c.last_date.ensures) c.if-moment-last_date.true)
@@ -34,10 +34,10 @@ returns-clause-answered g c =
     let v = c.self.inside.volume in
     let w = c.serve.new.volume in
     subst (λ m. (g.D.Disk.state w.disk).honest → (old : Service) → Serves (g.D.Disk.state m.disk) m.map m.failed m.jobs
-    old → (new : Service) × Serves (g.D.Disk.state w.disk) w.core w.failed c.serve.new.jobs new
+    old → (new : Service) × Serves (g.D.Disk.state w.disk) w.map w.failed c.serve.new.jobs new
     × Answers (pack_of (g.D.Disk.state m.disk)) old (Calls c.args.job c.args.call.now c.args.moment) c.serve.result new)
     c.self.view_is
-    (λ h old serves. c.serve.ensures.serving.answered h old (subst (λ b. Serves d v.core b c.self.inside.jobs old)
+    (λ h old serves. c.serve.ensures.serving.answered h old (subst (λ b. Serves d v.map b c.self.inside.jobs old)
     (sym c.has_failed.ensures.value ∙ c.if-has_failed.false) serves))
 
 pub returns-then-has_failed-clause-crash : goal.returns-then-has_failed-clause-crash
@@ -60,33 +60,33 @@ returns-clause-crash g c =
     (Calls c.args.job c.args.call.now c.args.moment) c.serve.result)) c.self.view_is
     (λ h s serves.
     call_event g.D.Disk.state g.met.D.Disk.only_now c.self.inside.volume.disk c.serve.new.volume.disk
-    c.self.inside.volume.core c.self.inside.jobs c.args.job c.args.call.now c.args.moment
+    c.self.inside.volume.map c.self.inside.jobs c.args.job c.args.call.now c.args.moment
     c.serve.ensures.serving.crash h s serves.1 c.serve.result c.serve.ensures.serving.idle
     (c.serve.ensures.serving.blamed h))
 
 pub returns-clause-memory : goal.returns-clause-memory
 returns-clause-memory g c none =
-    all_same c.serve.new.volume.disk c.self.inside.volume.disk c.serve.new.volume.core c.self.inside.volume.core
+    all_same c.serve.new.volume.disk c.self.inside.volume.disk c.serve.new.volume.map c.self.inside.volume.map
     c.serve.new.volume.failed c.self.inside.volume.failed (sym c.has_failed.ensures.value ∙ c.if-has_failed.false)
     c.serve.new.jobs c.self.inside.jobs c.serve.new.volume.layout c.self.inside.volume.layout c.serve.ensures.layout
     (c.serve.ensures.serving.memory none) ∙ c.self.view_is
 
 pub returns-clause-decided : goal.returns-clause-decided
 returns-clause-decided g c decided =
-    all_same c.serve.new.volume.disk c.self.inside.volume.disk c.serve.new.volume.core c.self.inside.volume.core
+    all_same c.serve.new.volume.disk c.self.inside.volume.disk c.serve.new.volume.map c.self.inside.volume.map
     c.serve.new.volume.failed c.self.inside.volume.failed (sym c.has_failed.ensures.value ∙ c.if-has_failed.false)
     c.serve.new.jobs c.self.inside.jobs c.serve.new.volume.layout c.self.inside.volume.layout c.serve.ensures.layout
     (c.serve.ensures.serving.decided decided) ∙ c.self.view_is
 
 pub returns-clause-still : goal.returns-clause-still
 returns-clause-still g c =
-    let after = λ (new : Service). Serves (g.D.Disk.state c.serve.new.volume.disk) c.serve.new.volume.core
+    let after = λ (new : Service). Serves (g.D.Disk.state c.serve.new.volume.disk) c.serve.new.volume.map
     c.serve.new.volume.failed c.serve.new.jobs new in
     subst (λ m. (g.D.Disk.state c.serve.new.volume.disk).honest → (channel address : ℕ)
     → c.args.call.now ≡ In channel address → c.args.moment.date ≤ last_date (layout_number m.layout)
     → (s : State)
     → Serves (g.D.Disk.state m.disk) m.map m.failed m.jobs (Serving s)
-    → (own : machine.Job) → job_at s c.args.job ≡ Some own → (c.serve.result ≡ NoMemory → ⊥)
+    → (own : machine.SpecJob) → job_at s c.args.job ≡ Some own → (c.serve.result ≡ NoMemory → ⊥)
     → (c.serve.result ≡ Device → ⊥) → IsStill after (pack_of (g.D.Disk.state m.disk)) s c.args.job c.args.moment
     c.serve.result own channel address) c.self.view_is
     (λ h channel address asked timely s serves own there room works.
@@ -100,7 +100,7 @@ returns-clause-still g c =
 
 pub returns-clause-apart : goal.returns-clause-apart
 returns-clause-apart g c =
-    let after = λ (new : Service). Serves (g.D.Disk.state c.serve.new.volume.disk) c.serve.new.volume.core
+    let after = λ (new : Service). Serves (g.D.Disk.state c.serve.new.volume.disk) c.serve.new.volume.map
     c.serve.new.volume.failed c.serve.new.jobs new in
     subst (λ m. (g.D.Disk.state c.serve.new.volume.disk).honest
     → (s : State) → Serves (g.D.Disk.state m.disk) m.map m.failed m.jobs (Serving s)
@@ -121,12 +121,12 @@ returns-then-moment-last_date-clause-apart g c =
     let m = c.self.inside in
     let d = g.D.Disk.state m.volume.disk in
     let alive = sym c.has_failed.ensures.value ∙ c.if-has_failed.false in
-    let led = called_late (pack_of d) d m.volume.core m.volume.failed m.jobs c.args.job c.args.call.now c.args.moment
+    let led = called_late (pack_of d) d m.volume.map m.volume.failed m.jobs c.args.job c.args.call.now c.args.moment
     alive (late_in (pack_of d).layout c.last_date.result c.args.moment.date
     (subst (λ (n : ℕ). c.last_date.result + 1 ≡ date_limit n) (c.layout-layout.ensures.disk h alive)
     c.last_date.ensures) c.if-moment-last_date.true)
     (c.self.invariant alive).0 (c.self.invariant alive).2 (Serving s) serves in
-    apart (Serves d m.volume.core m.volume.failed m.jobs) (pack_of d) s c.args.job c.args.moment DateRange
+    apart (Serves d m.volume.map m.volume.failed m.jobs) (pack_of d) s c.args.job c.args.moment DateRange
     c.args.call.now led.0 led.1 led.2)
 
 pub returns-clause-refused : goal.returns-clause-refused
@@ -136,7 +136,7 @@ returns-clause-refused g c =
 
 pub returns-clause-kept : goal.returns-clause-kept
 returns-clause-kept g c = subst (λ m. KeepsCore c.args.call.now
-    → c.serve.new.volume.core ≡ m.map) c.self.view_is c.serve.ensures.serving.kept
+    → c.serve.new.volume.map ≡ m.map) c.self.view_is c.serve.ensures.serving.kept
 
 pub serve-requires-clause-timely : goal.serve-requires-clause-timely
 serve-requires-clause-timely g c h =

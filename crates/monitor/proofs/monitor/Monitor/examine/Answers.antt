@@ -9,7 +9,7 @@ use Rattle.monitor.proofs.monitor.Monitor.examine.Goals as goal
 pub returns-clause-answered : goal.returns-clause-answered
 returns-clause-answered g c =
     let d = g.D.Disk.state c.self.inside.volume.disk in
-    let map = c.self.inside.volume.core in
+    let map = c.self.inside.volume.map in
     subst (λ m. (old : Service) → Serves (g.D.Disk.state m.disk) m.map m.failed m.jobs old
     → (new : Service) × Serves (g.D.Disk.state m.disk) m.map m.failed m.jobs new
     × Answers (pack_of (g.D.Disk.state m.disk)) old (Examine c.args.job c.args.address) c.examine.result new)

@@ -11,7 +11,7 @@ use Rattle.monitor.proofs.monitor.Monitor.examine_all.Goals as goal
 pub returns-clause-answered : goal.returns-clause-answered
 returns-clause-answered g c =
     let d = g.D.Disk.state c.self.inside.volume.disk in
-    let map = c.self.inside.volume.core in
+    let map = c.self.inside.volume.map in
     let alive = sym c.has_failed.ensures.value ∙ c.if-has_failed.false in
     let was = c.self.invariant alive in
     subst (λ m. IfSome c.examine_all.result (λ words. (i : ℕ) → i < c.args.count → (old : Service)

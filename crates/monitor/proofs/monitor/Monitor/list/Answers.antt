@@ -5,8 +5,8 @@ use Rattle.spec_machine.specs.declared.call.Reply.TheVariants.{Refused}
 use Rattle.spec_image.specs.Common.{without_serials}
 use Rattle.spec_machine.specs.Common.{Service, Lists}
 use Rattle.monitor.specs.Common.{Serves, jobs_of}
-use Rattle.monitor.proofs.common.Answering.{in_state, slot_of, contrary}
-use Rattle.monitor.proofs.Events.Listing.{absent, forbidden, given, unlisted}
+use Rattle.monitor.proofs.common.EventAnswers.{in_state, slot_of, contrary}
+use Rattle.monitor.proofs.Events.Lists.{absent, forbidden, given, unlisted}
 use Rattle.monitor.proofs.monitor.Monitor.list.Goals as goal
 
 pub returns-in-Err-clause-listed : goal.returns-in-Err-clause-listed
@@ -15,7 +15,7 @@ returns-in-Err-clause-listed g c =
     → Serves (g.D.Disk.state m.disk) m.map m.failed m.jobs service
     → (answer : Result (List Entry) Reply) × (answer ≡ Err (Refused c.number.result))
     × Lists service c.args.job c.args.ppn answer service) c.self.view_is
-    (λ h. in_state (g.D.Disk.state c.self.inside.volume.disk) c.self.inside.volume.core c.self.inside.volume.failed
+    (λ h. in_state (g.D.Disk.state c.self.inside.volume.disk) c.self.inside.volume.map c.self.inside.volume.failed
     c.self.inside.jobs
     (λ service. (answer : Result (List Entry) Reply) × (answer ≡ Err (Refused c.number.result))
     × Lists service c.args.job c.args.ppn answer service)
@@ -39,7 +39,7 @@ returns-then-not-dir_right-clause-listed g c =
     → Serves (g.D.Disk.state m.disk) m.map m.failed m.jobs service
     → (answer : Result (List Entry) Reply) × (answer ≡ Err (Refused c.number-then-not-dir_right.result))
     × Lists service c.args.job c.args.ppn answer service) c.self.view_is
-    (λ h. in_state (g.D.Disk.state c.self.inside.volume.disk) c.self.inside.volume.core c.self.inside.volume.failed
+    (λ h. in_state (g.D.Disk.state c.self.inside.volume.disk) c.self.inside.volume.map c.self.inside.volume.failed
     c.self.inside.jobs
     (λ service. (answer : Result (List Entry) Reply) × (answer ≡ Err (Refused c.number-then-not-dir_right.result))
     × Lists service c.args.job c.args.ppn answer service)
@@ -64,7 +64,7 @@ returns-in-Ok-list-clause-listed g c =
     → Serves (g.D.Disk.state m.disk) m.map m.failed m.jobs service
     → (answer : Result (List Entry) Reply) × (answer ≡ Ok c.in-Ok-list.lines.items)
     × Lists service c.args.job c.args.ppn answer service) c.self.view_is
-    (λ h. in_state (g.D.Disk.state c.self.inside.volume.disk) c.self.inside.volume.core c.self.inside.volume.failed
+    (λ h. in_state (g.D.Disk.state c.self.inside.volume.disk) c.self.inside.volume.map c.self.inside.volume.failed
     c.self.inside.jobs
     (λ service. (answer : Result (List Entry) Reply) × (answer ≡ Ok c.in-Ok-list.lines.items)
     × Lists service c.args.job c.args.ppn answer service)
@@ -91,7 +91,7 @@ returns-in-Err-list-clause-listed g c =
     → Serves (g.D.Disk.state m.disk) m.map m.failed m.jobs service
     → (answer : Result (List Entry) Reply) × (answer ≡ Err c.reply_of.result)
     × Lists service c.args.job c.args.ppn answer service) c.self.view_is
-    (λ h. in_state (g.D.Disk.state c.self.inside.volume.disk) c.self.inside.volume.core c.self.inside.volume.failed
+    (λ h. in_state (g.D.Disk.state c.self.inside.volume.disk) c.self.inside.volume.map c.self.inside.volume.failed
     c.self.inside.jobs
     (λ service. (answer : Result (List Entry) Reply) × (answer ≡ Err c.reply_of.result)
     × Lists service c.args.job c.args.ppn answer service)

@@ -2,7 +2,7 @@ use Rattle.std.proofs.Common.{◌≡◌, ◌∙◌, subst}
 use Rattle.spec_machine.specs.Common.{State, Serving}
 use Rattle.spec_image.specs.Common.{keys, without_serials}
 use Rattle.monitor.specs.Common.{Serves}
-use Rattle.monitor.proofs.Events.Listing.{owners_without}
+use Rattle.monitor.proofs.Events.Lists.{owners_without}
 use Rattle.monitor.proofs.monitor.Monitor.owners.Goals as goal
 
 pub returns-in-Ok-clause-value : goal.returns-in-Ok-clause-value

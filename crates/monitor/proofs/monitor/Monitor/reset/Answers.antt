@@ -6,10 +6,10 @@ use Rattle.spec_machine.specs.declared.call.Event.TheVariants.{Call as Calls}
 use Rattle.spec_machine.specs.declared.call.Reply.TheVariants.{Done, NoJob, DateRange}
 use Rattle.spec_machine.proofs.Common.{slot-set_other}
 use Rattle.monitor.specs.Common.{Serves, reset_job}
-use Rattle.monitor.proofs.common.Answering.{late}
+use Rattle.monitor.proofs.common.EventAnswers.{late}
 use Rattle.monitor.proofs.common.Dates.{late_in, timely_in}
 use Rattle.monitor.proofs.common.Dropped.{leaves_none}
-use Rattle.monitor.proofs.OtherCalls.Resetting.{reset_row, nobody_row, reset_leads}
+use Rattle.monitor.proofs.OtherCalls.Resets.{reset_row, nobody_row, reset_leads}
 use Rattle.monitor.proofs.monitor.Monitor.reset.Goals as goal
 
 pub returns-then-moment-last_date-clause-answered : goal.returns-then-moment-last_date-clause-answered
@@ -21,8 +21,8 @@ returns-then-moment-last_date-clause-answered g c =
     subst (λ m. (state m.disk).honest → (old : Service) → Serves (state m.disk) m.map m.failed m.jobs old
     → (new : Service) × Serves (state m.disk) m.map m.failed m.jobs new
     × Answers (pack_of (state m.disk)) old (Calls c.args.job Reset c.args.moment) DateRange new) c.self.view_is
-    (λ h. reset_leads state v.disk v.disk v.core v.core v.failed v.failed jobs jobs c.args.job c.args.moment alive
-    (refl, refl) (c.self.invariant alive).0 (c.self.invariant alive).2 (leaves_none v.core)
+    (λ h. reset_leads state v.disk v.disk v.map v.map v.failed v.failed jobs jobs c.args.job c.args.moment alive
+    (refl, refl) (c.self.invariant alive).0 (c.self.invariant alive).2 (leaves_none v.map)
     (pack_of (state v.disk)) DateRange
     (λ serial files w. late (pack_of (state v.disk)) jobs c.args.job Reset c.args.moment serial files w
     (late_in (pack_of (state v.disk)).layout c.last_date.result c.args.moment.date
@@ -39,8 +39,8 @@ returns-then-moment-last_date-clause-in_layout g c =
     → (new : Service) × Serves (state m.disk) m.map m.failed m.jobs new
     × Answers (pack_in (layout_number m.layout) (state m.disk).size) old
     (Calls c.args.job Reset c.args.moment) DateRange new) c.self.view_is
-    (reset_leads state v.disk v.disk v.core v.core v.failed v.failed jobs jobs c.args.job c.args.moment alive
-    (refl, refl) (c.self.invariant alive).0 (c.self.invariant alive).2 (leaves_none v.core)
+    (reset_leads state v.disk v.disk v.map v.map v.failed v.failed jobs jobs c.args.job c.args.moment alive
+    (refl, refl) (c.self.invariant alive).0 (c.self.invariant alive).2 (leaves_none v.map)
     (pack_in (layout_number v.layout) (state v.disk).size) DateRange
     (λ serial files w. late (pack_in (layout_number v.layout) (state v.disk).size) jobs c.args.job Reset c.args.moment
     serial files w (late_in (layout_number v.layout) c.last_date.result c.args.moment.date
@@ -56,9 +56,9 @@ returns-then-not-reset-clause-answered g c =
     let state = g.D.Disk.state in
     let none = c.reset.ensures.none c.if-not-reset.true in
     subst (λ m. (state m.disk).honest → (old : Service) → Serves (state m.disk) m.map m.failed m.jobs old
-    → (t : Service) × Serves (state new.disk) new.core new.failed c.reset.new.jobs t
+    → (t : Service) × Serves (state new.disk) new.map new.failed c.reset.new.jobs t
     × Answers (pack_of (state m.disk)) old (Calls c.args.job Reset c.args.moment) NoJob t) c.self.view_is
-    (λ h. reset_leads state v.disk new.disk v.core new.core v.failed new.failed jobs c.reset.new.jobs c.args.job
+    (λ h. reset_leads state v.disk new.disk v.map new.map v.failed new.failed jobs c.reset.new.jobs c.args.job
     c.args.moment alive c.reset.ensures.untouched c.reset.ensures.keyed c.reset.ensures.reading c.reset.ensures.leaves
     (pack_of (state v.disk)) NoJob
     (nobody_row (pack_of (state v.disk)) jobs c.reset.new.jobs c.args.job c.args.moment
@@ -75,10 +75,10 @@ returns-then-not-reset-clause-in_layout g c =
     let state = g.D.Disk.state in
     let none = c.reset.ensures.none c.if-not-reset.true in
     subst (λ m. (old : Service) → Serves (state m.disk) m.map m.failed m.jobs old
-    → (t : Service) × Serves (state new.disk) new.core new.failed c.reset.new.jobs t
+    → (t : Service) × Serves (state new.disk) new.map new.failed c.reset.new.jobs t
     × Answers (pack_in (layout_number m.layout) (state m.disk).size) old
     (Calls c.args.job Reset c.args.moment) NoJob t) c.self.view_is
-    (reset_leads state v.disk new.disk v.core new.core v.failed new.failed jobs c.reset.new.jobs c.args.job
+    (reset_leads state v.disk new.disk v.map new.map v.failed new.failed jobs c.reset.new.jobs c.args.job
     c.args.moment alive c.reset.ensures.untouched c.reset.ensures.keyed c.reset.ensures.reading c.reset.ensures.leaves
     (pack_in (layout_number v.layout) (state v.disk).size) NoJob
     (nobody_row (pack_in (layout_number v.layout) (state v.disk).size) jobs c.reset.new.jobs c.args.job c.args.moment
@@ -94,9 +94,9 @@ returns-clause-answered g c =
     let alive = sym c.has_failed.ensures.value ∙ c.if-has_failed.false in
     let state = g.D.Disk.state in
     subst (λ m. (state m.disk).honest → (old : Service) → Serves (state m.disk) m.map m.failed m.jobs old
-    → (t : Service) × Serves (state new.disk) new.core new.failed c.reset.new.jobs t
+    → (t : Service) × Serves (state new.disk) new.map new.failed c.reset.new.jobs t
     × Answers (pack_of (state m.disk)) old (Calls c.args.job Reset c.args.moment) Done t) c.self.view_is
-    (λ h. reset_leads state v.disk new.disk v.core new.core v.failed new.failed jobs c.reset.new.jobs c.args.job
+    (λ h. reset_leads state v.disk new.disk v.map new.map v.failed new.failed jobs c.reset.new.jobs c.args.job
     c.args.moment alive c.reset.ensures.untouched c.reset.ensures.keyed c.reset.ensures.reading c.reset.ensures.leaves
     (pack_of (state v.disk)) Done
     (reset_row (pack_of (state v.disk)) jobs c.reset.new.jobs c.args.job c.args.moment
@@ -112,10 +112,10 @@ returns-clause-in_layout g c =
     let alive = sym c.has_failed.ensures.value ∙ c.if-has_failed.false in
     let state = g.D.Disk.state in
     subst (λ m. (old : Service) → Serves (state m.disk) m.map m.failed m.jobs old
-    → (t : Service) × Serves (state new.disk) new.core new.failed c.reset.new.jobs t
+    → (t : Service) × Serves (state new.disk) new.map new.failed c.reset.new.jobs t
     × Answers (pack_in (layout_number m.layout) (state m.disk).size) old
     (Calls c.args.job Reset c.args.moment) Done t) c.self.view_is
-    (reset_leads state v.disk new.disk v.core new.core v.failed new.failed jobs c.reset.new.jobs c.args.job
+    (reset_leads state v.disk new.disk v.map new.map v.failed new.failed jobs c.reset.new.jobs c.args.job
     c.args.moment alive c.reset.ensures.untouched c.reset.ensures.keyed c.reset.ensures.reading c.reset.ensures.leaves
     (pack_in (layout_number v.layout) (state v.disk).size) Done
     (reset_row (pack_in (layout_number v.layout) (state v.disk).size) jobs c.reset.new.jobs c.args.job c.args.moment

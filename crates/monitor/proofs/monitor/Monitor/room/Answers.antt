@@ -4,7 +4,7 @@ use Rattle.std.proofs.lemmas.Int.{to_z-of_z, ints}
 use Rattle.std.specs.Int.Signed.{mag}
 use Rattle.spec_image.specs.Common.{pack_of, without_serials, space_start}
 use Rattle.spec_machine.specs.Common.{State, room}
-use Rattle.volume.proofs.common.Answering.{rest_holds}
+use Rattle.volume.proofs.common.Answers.{rest_holds}
 use Rattle.monitor.specs.Common.{IsState}
 use Rattle.monitor.proofs.common.Rooms.{booked_is}
 use Rattle.monitor.proofs.monitor.Monitor.room.Goals as goal
@@ -19,7 +19,7 @@ returns g c =
     ≡ room (pack_of (g.D.Disk.state m.disk)) s) c.self.view_is
     (λ h s state.
     let d = g.D.Disk.state c.self.inside.volume.disk in
-    let map = c.self.inside.volume.core in
+    let map = c.self.inside.volume.map in
     let sound = c.has_failed-failed.ensures.sound in
     let all = booked_is d map c.self.inside.jobs s state.1 sound.whole
     (rest_holds d map c.self.inside.volume.failed sound h state.0 (without_serials s.files) state.1.files) in

@@ -3,20 +3,20 @@ use Rattle.std.proofs.lemmas.Result.{err_from_is_err_and}
 use Rattle.spec_image.specs.Common.{layout_number, pack_of, Stands}
 use Rattle.spec_image.proofs.Common.{stands_in_any}
 use Rattle.monitor.proofs.Events.Started.{started, start_keyed, start_reading}
-use Rattle.monitor.proofs.common.Placing.{placed_none}
+use Rattle.monitor.proofs.common.PlacedVersions.{placed_none}
 use Rattle.monitor.proofs.monitor.Monitor.start.Goals as goal
 
 pub invariant_of-result : goal.invariant_of-result
 invariant_of-result g c serves = (
-  start_keyed c.in_ok-volume.volume.core.pending c.in-Ok.jobs c.in_ok-volume.ensures.unwritten c.in-Ok.ensures,
-  placed_none c.in_ok-volume.volume.core c.in_ok-volume.ensures.unwritten,
-  start_reading c.in_ok-volume.volume.core.live c.in-Ok.jobs c.in_ok-volume.ensures.unread c.in-Ok.ensures,
+  start_keyed c.in_ok-volume.volume.map.pending c.in-Ok.jobs c.in_ok-volume.ensures.unwritten c.in-Ok.ensures,
+  placed_none c.in_ok-volume.volume.map c.in_ok-volume.ensures.unwritten,
+  start_reading c.in_ok-volume.volume.map.live c.in-Ok.jobs c.in_ok-volume.ensures.unread c.in-Ok.ensures,
 )
 
 pub returns-in-Ok-clause-started : goal.returns-in-Ok-clause-started
 returns-in-Ok-clause-started g c files stands s start h = (
   c.in_ok-volume.ensures.serves,
-  started (g.D.Disk.state c.in_ok-volume.volume.disk) c.in_ok-volume.volume.core c.in-Ok.jobs s files
+  started (g.D.Disk.state c.in_ok-volume.volume.disk) c.in_ok-volume.volume.map c.in-Ok.jobs s files
       (c.in_ok-volume.ensures.files files stands h) c.in_ok-volume.ensures.unread c.in_ok-volume.ensures.unwritten
       c.in-Ok.ensures start,
 )

@@ -1,7 +1,7 @@
 use Rattle.std.proofs.Common.{ap, ◌∙◌, sym, Some, List, subst}
 use Rattle.retrieval.specs.Common.{IsAtOffset}
 use Rattle.retrieval.specs.declared.run.Run.{Run as RunValue}
-use Rattle.retrieval.proofs.KeptRuns.{block_in}
+use Rattle.retrieval.proofs.RunListLaws.{block_in}
 use Rattle.retrieval.proofs.block_list.BlockList.get.Goals as goal
 
 pub returns : goal.returns

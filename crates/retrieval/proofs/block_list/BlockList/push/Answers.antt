@@ -1,7 +1,7 @@
 use Rattle.std.proofs.Common.{◌∙◌, ap}
 use Rattle.std.proofs.lemmas.Result.{on_ok_weaker}
 use Rattle.retrieval.specs.Common.{pairs_of, behind}
-use Rattle.retrieval.proofs.KeptRuns.{pushed}
+use Rattle.retrieval.proofs.RunListLaws.{pushed}
 use Rattle.retrieval.proofs.RunEnds.{kept_more}
 use Rattle.retrieval.proofs.block_list.BlockList.push.Goals as goal
 

@@ -2,7 +2,7 @@ use Rattle.std.proofs.Common.{◌≡◌, ◌+◌, ◌-◌, ◌<◌, ◌≤◌, �
 use Rattle.std.specs.Prelude.{slice_index}
 use Rattle.retrieval.specs.Common.{IsAtOffset, blocks_of_runs}
 use Rattle.retrieval.specs.declared.run.Run.{Run as RunValue}
-use Rattle.retrieval.proofs.KeptRuns.{index_behind, rest_below, offset_of, none_behind}
+use Rattle.retrieval.proofs.RunListLaws.{index_behind, rest_below, offset_of, none_behind}
 use Rattle.retrieval.proofs.block_list.BlockList.run_at.Goals as goal
 
 pub returns-clause-within : goal.returns-clause-within

@@ -1,5 +1,5 @@
 use Rattle.std.proofs.Common.{Err, ap}
-use Rattle.salvage.proofs.Settling.{copy_lost, copy_recovered, none_pending}
+use Rattle.salvage.proofs.SettledCopies.{copy_lost, copy_recovered, none_pending}
 use Rattle.salvage.proofs.copied.Copied.of.Goals.{in-Ok, in-Err-BadLog}
 use Rattle.salvage.proofs.copied.Copied.of.Goals as goal
 

@@ -1,6 +1,6 @@
 use Rattle.std.proofs.Common.{◌<◌, ◌+◌, [], ◌∷◌, ℕ, length, take, refl, sym, subst, ◌∙◌, arith}
 use Rattle.spec_image.specs.Common.{times}
-use Rattle.volume.proofs.common.Marking.{all_at}
+use Rattle.volume.proofs.common.MarkedBlocks.{all_at}
 use Rattle.salvage.proofs.CountLaws.{adds_none, adds_on, adds_same, times_more, times_all}
 use Rattle.salvage.proofs.counts.Counts.count_data.Goals as goal
 

@@ -1,6 +1,6 @@
 use Rattle.std.proofs.Common.{◌+◌, ◌∷◌, [], ℕ, sym, ap, ◌∙◌, arith}
 use Rattle.spec_image.specs.Common.{times}
-use Rattle.volume.proofs.common.Marking.{times_parts}
+use Rattle.volume.proofs.common.MarkedBlocks.{times_parts}
 use Rattle.salvage.specs.Common.{blocks_of}
 use Rattle.salvage.proofs.CountLaws.{adds_on}
 use Rattle.salvage.proofs.counts.Counts.count_file.Goals as goal

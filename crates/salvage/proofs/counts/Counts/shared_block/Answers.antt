@@ -1,6 +1,6 @@
 use Rattle.std.proofs.Common.{◌≡◌, ◌<◌, ℕ, slice_index, length, sym, subst, ◌∙◌, arith}
 use Rattle.spec_image.specs.Common.{InSpace, times}
-use Rattle.volume.proofs.common.Marking.{all_weaker, times_parts}
+use Rattle.volume.proofs.common.MarkedBlocks.{all_weaker, times_parts}
 use Rattle.salvage.specs.Common.{blocks_of}
 use Rattle.salvage.proofs.CountLaws.{alone_parts, none_on, some_on}
 use Rattle.salvage.proofs.counts.Counts.shared_block.Goals as goal

@@ -6,7 +6,7 @@ use borrow.Rule.Slice.PartMut.{put_mid}
 use Rattle.usercore.proofs.WriteLaws.{count_on, join_on}
 use Rattle.usercore.proofs.user_core.Core.gather.Goals as goal
 
--- one more part of a slice is filled, behind those that were filled before
+-- one more part of a slice is filled, after those that were filled before
 module _ (words part : List ℕ) (done count : ℕ) (within : done + count ≤ length words) (long : length part
     ≡ count) where
   taken : take (done + count) (put_mid done (done + count - done) words part) ≡ take done words ++ part

@@ -1,0 +1,90 @@
+-- Facts about a file that hold by other names of its parts.
+use Rattle.std.proofs.Common.{◌≡◌, ℕ, Bool, false, List, Option, Result, Ok, Err, codes, inl, inr, refl, subst, sym}
+use Rattle.std.proofs.Common.{◌⊎◌}
+use Rattle.spec_language.specs.Common.{Plan, is_broken, owner_text, refusal}
+use Rattle.spec_language.specs.declared.encoding.Encoding.{Encoding}
+use Rattle.spec_image.specs.declared.entry.Entry.{Entry}
+use Rattle.commands.specs.Common.{Imported, Machine, HasEntries}
+use Rattle.commands.specs.declared.answer.Tally.{Tally}
+use Rattle.commands.specs.declared.error.SessionError.{SessionError}
+use Rattle.commands.specs.declared.error.SessionError.TheVariants.{NoMemory}
+use Rattle.std.specs.declared.io.Error.{Error}
+use Rattle.collection.specs.Common.{AreEntriesDone, IsTakenOut, AreDoneWith, GoesOn, IsRefusedLine, folder_of}
+use Rattle.collection.specs.Common.{FileFacts}
+use Rattle.collection.specs.declared.task.ImportTask.{ImportTask}
+use Rattle.spec_machine.specs.declared.call.Reply.TheVariants.{Refused}
+use Rattle.collection.specs.declared.task.ExportTask.{ExportTask}
+use Rattle.words36.specs.declared.moment.Moment.{Moment}
+use Rattle.spec_machine.specs.declared.call.Reply.{Reply}
+
+pub imported_as : {S : Type 0} (machine : S → Machine) (sink full : Option (List ℕ)) (old new : S) (encoding : Encoding)
+    (label other bytes more : List ℕ) (plan : Option (List ℕ) → Plan) (result : Result Tally SessionError)
+    → label ≡ other → bytes ≡ more → Imported sink full machine old new encoding label bytes plan result
+    → Imported sink full machine old new encoding other more plan result
+imported_as machine sink full old new encoding label other bytes more plan result e f p =
+    subst (λ l. Imported sink full machine old new encoding l more plan result) e
+    (subst (λ b. Imported sink full machine old new encoding label b plan result) f p)
+
+pub taken_at : {S : Type 0} (facts : FileFacts) (machine : S → Machine) (asked : Option Encoding) (path other : List ℕ)
+    (owner : ℕ) (entry : Entry) (sink full : Option (List ℕ)) (old new : S) (result : Result Tally SessionError)
+    → path ≡ other → IsTakenOut facts machine asked path owner entry sink full old new result
+    → IsTakenOut facts machine asked other owner entry sink full old new result
+taken_at facts machine asked path other owner entry sink full old new result e p =
+    subst (λ l. IsTakenOut facts machine asked l owner entry sink full old new result) e p
+
+pub refused_as : (path other answer text : List ℕ) (broke broken : Bool) (sink full : Option (List ℕ))
+    (result : Result Tally SessionError) → path ≡ other → answer ≡ text → broke ≡ broken
+    → IsRefusedLine path answer broke sink full result → IsRefusedLine other text broken sink full result
+refused_as path other answer text broke broken sink full result e f h p =
+    subst (λ l. IsRefusedLine l text broken sink full result) e
+    (subst (λ l. IsRefusedLine path l broken sink full result) f
+    (subst (λ b. IsRefusedLine path answer b sink full result) h p))
+
+-- no folder was made for a directory
+pub no_folder : {S : Type 0} (facts : FileFacts) (machine : S → Machine) (task : ExportTask) (owner : ℕ)
+    (entries : List Entry) (folder : List ℕ) (sink full : Option (List ℕ)) (now : S) (error : Error)
+    (result : Result Tally SessionError) → folder ≡ folder_of task.folder.now owner → task.lists ≡ false
+    → facts.folder folder (Err error) → IsRefusedLine folder (codes "?Can't make folder") false sink full result
+    → AreEntriesDone facts machine task owner entries sink full now now result
+no_folder facts machine task owner entries folder sink full now error result e lists asked line = inr (
+  lists,
+  error,
+  subst (λ l. facts.folder l (Err error)) e asked,
+  refl,
+  subst (λ l. IsRefusedLine l (codes "?Can't make folder") false sink full result) e line,
+)
+
+pub entries_as : {V S : Type 0} (items : V → List Entry) (machine : S → Machine) (old new : S) (at : Moment) (owner : ℕ)
+    (v : V) → HasEntries {V = V} items machine old new at owner (Ok v)
+    → HasEntries {V = List Entry} (λ es. es) machine old new at owner (Ok (items v))
+entries_as items machine old new at owner v p = record { acts = p.acts; goes = p.goes; answer = p.answer }
+
+pub no_entries : {V S : Type 0} (items : V → List Entry) (machine : S → Machine) (old new : S) (at : Moment) (owner : ℕ)
+    (reply : Reply) → HasEntries {V = V} items machine old new at owner (Err reply)
+    → HasEntries {V = List Entry} (λ es. es) machine old new at owner (Err reply)
+no_entries items machine old new at owner reply p = record { acts = p.acts; goes = p.goes; answer = p.answer }
+
+-- a directory that was made, or exists
+pub let_in : {S : Type 0} (facts : FileFacts) (machine : S → Machine) (task : ImportTask) (paths : List (List ℕ))
+    (sink full : Option (List ℕ)) (old new : S) (result : Result Tally SessionError) (made : Result (Unit {0}) Reply)
+    → (made ≡ Ok tt) ⊎ (made ≡ Err (Refused 4)) → AreDoneWith facts machine task paths sink full old new result
+    → GoesOn facts machine task paths sink full old new result made
+let_in facts machine task paths sink full old new result made (inl e) done =
+    subst (GoesOn facts machine task paths sink full old new result) (sym e) done
+let_in facts machine task paths sink full old new result made (inr e) done =
+    subst (GoesOn facts machine task paths sink full old new result) (sym e) (inl (refl, done))
+
+-- a directory that wasn't made and doesn't exist; its line may find no memory
+pub shut_out : {S : Type 0} (facts : FileFacts) (machine : S → Machine) (task : ImportTask) (paths : List (List ℕ))
+    (sink full : Option (List ℕ)) (now : S) (result : Result Tally SessionError) (made : Result (Unit {0}) Reply)
+    (reply : Reply) → made ≡ Err reply → (reply ≡ Refused 4 → ⊥)
+    → IsRefusedLine (owner_text task.owner) (refusal reply) (is_broken reply) sink full result
+    ⊎ ((full ≡ sink) × (result ≡ Err NoMemory)) → GoesOn facts machine task paths sink full now now result made
+shut_out facts machine task paths sink full now result made reply e other (inl line) =
+    subst (GoesOn facts machine task paths sink full now now result) (sym e) (inr (other, refl, inl line))
+shut_out facts machine task paths sink full now result made reply e other (inr (unwritten, memory)) =
+    subst (GoesOn facts machine task paths sink full now now result) (sym e) (inr (
+      other,
+      refl,
+      inr (record { same = refl; unwritten = unwritten; memory = memory }),
+    ))

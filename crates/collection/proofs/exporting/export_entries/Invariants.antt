@@ -1,9 +1,0 @@
-use Rattle.commands.specs.Common.{machine_of}
-use Rattle.collection.specs.Common.{IsEntryDone}
-use Rattle.collection.proofs.EachLaws.{Done}
-use Rattle.collection.proofs.exporting.export_entries.Given as goal
-
-abbrev pub invariant-loop-entry : goal.invariant-loop-entry
-invariant-loop-entry g l = Done (IsEntryDone (g.H.HostFiles.files l.fn.host) (λ m. machine_of (g.D.Disk.state m.disk) m.map m.failed m.jobs) l.fn.directory.task.now
-    l.fn.directory.owner)
-    l.fn.entries (g.W.Write.contents l.fn.writer) l.fn.monitor l.entry-index l.tally (g.W.Write.contents l.writer) l.monitor

@@ -1,0 +1,70 @@
+-- The names of files of the host on a volume, and of files of a volume on the host.
+use Rattle.std.specs.Prelude.{◌≡◌, ◌⊎◌, ◌/◌, ◌%◌, ◌+◌, ◌==◌, ℕ, zero, suc, Bool, true, nat_lt, if◌then◌else◌, List}
+use Rattle.std.specs.Prelude.{[], ◌∷◌, ◌++◌, ◌||◌, map, flat_map, Option, Some, None, codes, option_map}
+use Rattle.std.specs.Path.{path_file_name, path_file_stem, path_extension}
+use Rattle.words36.specs.Common.{characters}
+use Rattle.words36.specs.declared.names.FileName.{FileName}
+use Rattle.spec_language.specs.Common.{upper, is_letter, extension_text, owner_text, trimmed}
+use Rattle.commands.specs.Common.{IsFileName}
+
+-- The name that a file of the host gets.
+
+-- the first letters and digits of a text, in upper case, and at most `most` of them
+abbrev pub plain : ℕ → List ℕ → List ℕ
+plain zero text = []
+plain (suc most) [] = []
+plain (suc most) (b ∷ bs) = if is_letter (upper b) then upper b ∷ plain most bs else plain (suc most) bs
+
+abbrev pub dotted : List ℕ → List ℕ
+dotted [] = []
+dotted (c ∷ cs) = 46 ∷ c ∷ cs
+
+-- six of its stem, and three of its extension, if it has one
+abbrev pub shortened : List ℕ → Option (List ℕ) → List ℕ
+shortened stem None = plain 6 stem
+shortened stem (Some extension) = plain 6 stem ++ dotted (plain 3 extension)
+
+-- its own in upper case
+abbrev pub IsOwnText : List ℕ → Option (List ℕ) → Type 0
+IsOwnText path text = text ≡ option_map (map upper) (path_file_name path)
+
+-- a shorter one
+abbrev pub IsShortText : List ℕ → Option (List ℕ) → Type 0
+IsShortText path text = text ≡ option_map (λ stem. shortened stem (path_extension path)) (path_file_stem path)
+
+-- Its own, if that is a name; or a shorter one, if that is allowed and its own isn't a name.
+abbrev pub IsNameFor : Bool → List ℕ → List ℕ → FileName → Type 0
+IsNameFor shortens path text file = IsFileName (map upper text) file.name file.ext
+    × (IsOwnText path (Some text)
+    ⊎ ((shortens ≡ true) × IsShortText path (Some text)
+    × ((own : List ℕ) (named : FileName) → IsOwnText path (Some own)
+    → IsFileName (map upper own) named.name named.ext → ⊥)))
+
+-- A path as it is shown in a line: without control characters.
+abbrev pub shown_byte : ℕ → ℕ
+shown_byte b = if nat_lt b 32 || b == 127 then 63 else b
+
+abbrev pub shown : List ℕ → List ℕ
+shown path = map shown_byte path
+
+-- The path of a file of a volume on the host: FOLDER/10,20/FOO.TXT. In a name, a character that isn't a letter or a
+-- digit is shown as % and its code in two hexadecimal digits.
+
+abbrev pub hexadecimal : ℕ → ℕ
+hexadecimal n = if nat_lt n 10 then n + 48 else n + 55
+
+abbrev pub escaped : ℕ → List ℕ
+escaped c = if is_letter c then c ∷ [] else 37 ∷ hexadecimal (c / 16) ∷ hexadecimal (c % 16) ∷ []
+
+abbrev pub extended : List ℕ → List ℕ
+extended [] = []
+extended (c ∷ cs) = 46 ∷ flat_map escaped (c ∷ cs)
+
+abbrev pub host_name : FileName → List ℕ
+host_name file = flat_map escaped (trimmed (characters file.name)) ++ extended (trimmed (extension_text file.ext))
+
+abbrev pub folder_of : List ℕ → ℕ → List ℕ
+folder_of folder owner = folder ++ codes "/" ++ owner_text owner
+
+abbrev pub path_of : List ℕ → ℕ → FileName → List ℕ
+path_of folder owner file = folder_of folder owner ++ codes "/" ++ host_name file

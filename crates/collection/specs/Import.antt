@@ -1,0 +1,116 @@
+-- Files of the host that are put, one after the other.
+use Rattle.std.specs.Prelude.{◌≡◌, ◌⊎◌, ℕ, true, false, List, Option, Some, None, Result, Ok, Err, codes}
+use Rattle.std.specs.declared.io.Error.{Error}
+use Rattle.words36.specs.declared.moment.Moment.{Moment}
+use Rattle.words36.specs.declared.names.FileName.{FileName}
+use Rattle.spec_language.specs.Common.{login_events, is_character, own_file, Plan, make_dir_events, each, Are}
+use Rattle.spec_language.specs.Common.{is_broken}
+use Rattle.spec_language.specs.Common.{owner_text, refusal}
+use Rattle.spec_machine.specs.declared.call.Reply.{Reply}
+use Rattle.spec_machine.specs.declared.call.Reply.TheVariants.{Refused}
+use Rattle.spec_language.specs.declared.encoding.Encoding.{Encoding}
+use Rattle.spec_language.specs.declared.encoding.Encoding.TheVariants.{Characters, Octets}
+use Rattle.commands.specs.Common.{FollowsPlan, followed, keeps_as, Imported, Machine, most_bytes}
+use Rattle.commands.specs.declared.answer.Tally.{Tally}
+use Rattle.commands.specs.declared.error.SessionError.{SessionError}
+use Rattle.commands.specs.declared.existing.Existing.TheVariants.{Refuse}
+use Rattle.collection.specs.Clock.{at_first}
+use Rattle.collection.specs.Each.{EachDone, none_counted}
+use Rattle.collection.specs.HostFacts.{FileFacts}
+use Rattle.collection.specs.Lines.{IsRefusedLine, IsUnnamed, label_of}
+use Rattle.collection.specs.HostNames.{IsNameFor}
+use Rattle.collection.specs.declared.source.Source.{Source}
+use Rattle.collection.specs.declared.task.ImportTask.{ImportTask}
+
+-- the encoding of the bytes: the given one, or else characters if all of them are characters, and otherwise octets
+abbrev pub IsEncodingFor : Option Encoding → List ℕ → Encoding → Type 0
+IsEncodingFor (Some asked) bytes encoding = encoding ≡ asked
+IsEncodingFor None bytes Characters = Are is_character bytes
+IsEncodingFor None bytes Octets = Are is_character bytes → ⊥
+IsEncodingFor None bytes encoding = ⊥
+
+-- the most bytes that a file may have
+abbrev pub most_read : Option Encoding → ℕ
+most_read (Some asked) = most_bytes asked
+most_read None = most_bytes Characters
+
+-- the moment that the file gets: that of its last change, or the given one
+abbrev pub IsMomentFor : ImportTask → Source → Moment → Type 0
+IsMomentFor task source at =
+    ((task.dated ≡ true) × (source.changed ≡ Some at)) ⊎ ((task.dated ≡ false) × (at ≡ task.moment))
+
+-- No call was made for a file, as its line states; it counts as refused.
+abbrev pub IsTurnedDown : {S : Type 0} → List ℕ → Option (List ℕ) → Option (List ℕ) → S → S → List ℕ
+    → Result Tally SessionError → Type 0
+IsTurnedDown path sink full old new answer result = (new ≡ old) × IsRefusedLine path answer false sink full result
+
+-- A file that was read was put by this name, which a text spells, if no file had it.
+pub record IsImported {S : Type 0} (machine : S → Machine) (task : ImportTask) (path text : List ℕ) (name : FileName)
+    (source : Source) (sink full : Option (List ℕ)) (old new : S) (result : Result Tally SessionError) : Type 0 where
+  pub at : Moment
+  pub moment : IsMomentFor task source at
+  pub encoding : Encoding
+  pub says : IsEncodingFor task.encoding source.bytes.items encoding
+  pub imported : Imported sink full machine old new encoding (label_of path text) source.bytes.items
+      (keeps_as Refuse at task.owner encoding (own_file name)) result
+
+-- What became of a file that was read: it was put, or its last change was at a time that no file can have.
+abbrev pub IsSourcePut : {S : Type 0} → (S → Machine) → ImportTask → List ℕ → List ℕ → FileName → Source
+    → Option (List ℕ) → Option (List ℕ) → S → S → Result Tally SessionError → Type 0
+IsSourcePut machine task path text name source sink full old new result =
+    IsImported machine task path text name source sink full old new result
+    ⊎ ((task.dated ≡ true) × (source.changed ≡ None) × IsTurnedDown path sink full old new (codes "?Date out of range") result)
+    ⊎ IsUnnamed sink full old new result
+
+-- What the host returned for a file that gets this name, which a text spells, and what became of it.
+abbrev pub IsReadAndPut : {S : Type 0} → FileFacts → (S → Machine) → ImportTask → List ℕ → List ℕ → FileName
+    → Option (List ℕ) → Option (List ℕ) → S → S → Result Tally SessionError → Type 0
+IsReadAndPut facts machine task path text name sink full old new result =
+    ((source : Source) × facts.read path (most_read task.encoding) (Ok source)
+    × IsSourcePut machine task path text name source sink full old new result)
+    ⊎ ((error : Error) × facts.read path (most_read task.encoding) (Err error)
+    × IsTurnedDown path sink full old new (codes "?Can't read") result)
+
+-- What became of one file: it gets a name and is read, or there is no name that it can have.
+abbrev pub IsDoneWith : {S : Type 0} → FileFacts → (S → Machine) → ImportTask → List ℕ → Option (List ℕ)
+    → Option (List ℕ) → S → S → Result Tally SessionError → Type 0
+IsDoneWith facts machine task path sink full old new result =
+    ((text : List ℕ) × (name : FileName) × IsNameFor task.shortens path text name
+    × IsReadAndPut facts machine task path text name sink full old new result)
+    ⊎ (((text : List ℕ) (name : FileName) → IsNameFor task.shortens path text name → ⊥)
+    × IsTurnedDown path sink full old new (codes "?Bad name") result)
+    ⊎ IsUnnamed sink full old new result
+
+-- What became of all of them, in their order. A fault of the writer and a lack of memory end the run.
+abbrev pub AreDoneWith : {S : Type 0} → FileFacts → (S → Machine) → ImportTask → List (List ℕ) → Option (List ℕ)
+    → Option (List ℕ) → S → S → Result Tally SessionError → Type 0
+AreDoneWith facts machine task paths sink full old new result =
+    EachDone (IsDoneWith facts machine task) paths none_counted sink full old new result
+
+-- The owner's job made its directory, first of all, and this is the result.
+pub record HasMade {S : Type 0} (machine : S → Machine) (old new : S) (owner : ℕ) (made : Result (Unit {0}) Reply)
+    : Type 0 where
+  pub at : Moment
+  pub first : at_first at
+  pub led : (next : Plan) → FollowsPlan machine old new (each at (login_events owner) (each at (make_dir_events at owner 0) next))
+      (followed at made (λ unit. next))
+
+-- The directory was made, or exists; or it does neither, and a line states this: whose it is, and why.
+abbrev pub GoesOn : {S : Type 0} → FileFacts → (S → Machine) → ImportTask → List (List ℕ) → Option (List ℕ)
+    → Option (List ℕ) → S → S → Result Tally SessionError → Result (Unit {0}) Reply → Type 0
+GoesOn facts machine task paths sink full old new result (Ok unit) =
+    AreDoneWith facts machine task paths sink full old new result
+GoesOn facts machine task paths sink full old new result (Err reply) =
+    ((reply ≡ Refused 4) × AreDoneWith facts machine task paths sink full old new result)
+    ⊎ ((reply ≡ Refused 4 → ⊥) × (new ≡ old)
+    × (IsRefusedLine (owner_text task.owner) (refusal reply) (is_broken reply) sink full result
+    ⊎ IsUnnamed sink full old new result))
+
+-- What became of a directory and of the files that were put into it.
+pub record IsImportRun {S : Type 0} (facts : FileFacts) (machine : S → Machine) (task : ImportTask)
+    (paths : List (List ℕ)) (sink full : Option (List ℕ)) (old new : S) (result : Result Tally SessionError)
+    : Type 0 where
+  pub mid : S
+  pub made : Result (Unit {0}) Reply
+  pub makes : HasMade machine old mid task.owner made
+  pub done : GoesOn facts machine task paths sink full mid new result made

@@ -1,0 +1,188 @@
+-- The files that a survey of a disk found, which become files of the host, and its faults, which have a line each.
+use Rattle.std.specs.Prelude.{◌≡◌, ◌⊎◌, ℕ, true, false, List, Option, Some, None, Result, Ok, Err, IfOk, IsSomeAnd}
+use Rattle.std.specs.Prelude.{Bool, IsErrOf, MatchResult, not, ◌==◌, [], ◌∷◌, ◌++◌, codes, if◌then◌else◌, length}
+use Rattle.std.specs.Fmt.{decimal}
+use Rattle.std.specs.List.{AllByRecursion}
+use Rattle.std.specs.declared.alloc.AllocError.{AllocError}
+use Rattle.std.specs.declared.io.Error.{Error}
+use Rattle.blockdisk.specs.Common.{DiskState, IsWholeBlock, SameDisk, one_more}
+use Rattle.changeset.specs.Common.{OnlyReads}
+use Rattle.spec_image.specs.Common.{HasBody}
+use Rattle.retrieval.specs.Common.{mode_number}
+use Rattle.commands.specs.Common.{IsExport}
+use Rattle.commands.specs.declared.answer.Tally.{Tally}
+use Rattle.commands.specs.declared.error.SessionError.{SessionError}
+use Rattle.commands.specs.declared.error.SessionError.TheVariants.{NoMemory}
+use Rattle.commands.specs.declared.export_file.Exported.{Exported}
+use Rattle.salvage.specs.declared.finding.Cost.{Cost}
+use Rattle.salvage.specs.declared.finding.Finding.{Finding}
+use Rattle.salvage.specs.declared.error.SalvageError.{SalvageError}
+use Rattle.salvage.specs.declared.saved.SavedFile.{SavedFile}
+use Rattle.volume.specs.declared.error.VolumeError.{VolumeError}
+use Rattle.volume.specs.declared.error.VolumeError.TheVariants.{NotVolume, BadHome, BadLog, BadDirectory}
+use Rattle.volume.specs.declared.error.VolumeError.TheVariants.{BadRetrieval, BlockTwice, TableWrong, Device, Failed}
+use Rattle.volume.specs.declared.error.VolumeError.TheVariants.{BadData}
+use Rattle.collection.specs.Each.{EachDone, added, none_counted}
+use Rattle.collection.specs.Export.{IsListed, IsStored}
+use Rattle.collection.specs.HostFacts.{FileFacts}
+use Rattle.collection.specs.Lines.{IsRefusedLine, IsUnnamed}
+use Rattle.collection.specs.HostNames.{folder_of, path_of}
+use Rattle.collection.specs.declared.task.ExportTask.{ExportTask}
+use Rattle.salvage.specs.declared.finding.Cost.TheVariants as cost
+use Rattle.salvage.specs.declared.error.SalvageError.TheVariants as salvage
+use Rattle.volume.specs.declared.error.VolumeError.TheVariants as volume
+
+-- the words that were read, as a list
+abbrev pub words_read : {V E : Type 0} → (V → List ℕ) → Result (Option V) E → Result (Option (List ℕ)) E
+words_read items (Ok (Some words)) = Ok (Some (items words))
+words_read items (Ok None) = Ok None
+words_read items (Err error) = Err error
+
+-- These are the words of a file on the disk, none if a block of it is damaged. Nothing was written.
+pub record IsReadFrom {D : Type 0} (state : D → DiskState) (file : SavedFile) (old new : D)
+    (read : Result (Option (List ℕ)) SalvageError) : Type 0 where
+  pub words : (state new).honest → AllByRecursion (IsWholeBlock (state old).contents) file.stored.version.blocks
+      → IfOk read (λ found. IsSomeAnd found (λ words. HasBody (state old).contents file.stored.version.blocks words
+      × (length words ≡ file.stored.version.words)))
+  pub reads : (state new).honest → OnlyReads (state old) (state new)
+  pub same : SameDisk (state old) (state new)
+  pub failed : IsErrOf read salvage.Device → (state new).failures ≡ one_more (state old).failures
+  pub served : (IsErrOf read salvage.Device → ⊥) → (state new).failures ≡ (state old).failures
+
+-- What became of a file that was read: a file of the host with the bytes that spell its words, last changed when it was
+-- written; or it was refused.
+abbrev pub IsReadStored : FileFacts → ExportTask → List ℕ → SavedFile → Result (Option (List ℕ)) SalvageError
+    → Option (List ℕ) → Option (List ℕ) → Result Tally SessionError → Type 0
+IsReadStored facts task path file (Ok (Some words)) sink full result =
+    (exported : Result Exported AllocError)
+    × IfOk exported (IsExport task.encoding (mode_number file.stored.prime.mode) words)
+    × IsStored facts path (Some file.stored.prime.moment) exported sink full result
+IsReadStored facts task path file (Ok None) sink full result =
+    IsRefusedLine path (codes "?Damaged") false sink full result
+IsReadStored facts task path file (Err salvage.Device) sink full result =
+    IsRefusedLine path (codes "?Device fault") true sink full result
+IsReadStored facts task path file (Err salvage.NoMemory) sink full result = (full ≡ sink) × (result ≡ Err NoMemory)
+IsReadStored facts task path file (Err salvage.NotVolume) sink full result = ⊥
+
+-- A file was read, and stored at a path.
+pub record IsSavedAt {D : Type 0} (facts : FileFacts) (state : D → DiskState) (task : ExportTask) (path : List ℕ)
+    (file : SavedFile) (sink full : Option (List ℕ)) (old new : D) (result : Result Tally SessionError) : Type 0 where
+  pub read : Result (Option (List ℕ)) SalvageError
+  pub is : IsReadFrom state file old new read
+  pub stored : IsReadStored facts task path file read sink full result
+
+-- The folder for all directories or the one of its own directory couldn't be made, so that a file wasn't read.
+pub record HasNoFolder {D : Type 0} (facts : FileFacts) (folder : List ℕ) (sink full : Option (List ℕ)) (old new : D)
+    (result : Result Tally SessionError) : Type 0 where
+  pub error : Error
+  pub refused : facts.folder folder (Err error)
+  pub same : new ≡ old
+  pub written : IsRefusedLine folder (codes "?Can't make folder") false sink full result
+
+-- Nothing is done for a file of another directory.
+pub record IsPassedOver {D : Type 0} (sink full : Option (List ℕ)) (old new : D) (result : Result Tally SessionError)
+    : Type 0 where
+  pub same : new ≡ old
+  pub unwritten : full ≡ sink
+  pub counted : result ≡ Ok none_counted
+
+-- What became of a file of a directory that is wanted.
+abbrev pub IsWantedDone : {D : Type 0} → FileFacts → (D → DiskState) → ExportTask → SavedFile → Option (List ℕ)
+    → Option (List ℕ) → D → D → Result Tally SessionError → Type 0
+IsWantedDone facts state task file sink full old new result =
+    ((task.lists ≡ false) × facts.folder (folder_of task.folder.now file.stored.prime.ppn) (Ok tt)
+    × IsSavedAt facts state task (path_of task.folder.now file.stored.prime.ppn file.stored.prime.file) file sink full
+    old new result)
+    ⊎ ((task.lists ≡ false)
+    × HasNoFolder facts (folder_of task.folder.now file.stored.prime.ppn) sink full old new result)
+    ⊎ ((task.lists ≡ true) × IsListed (path_of task.folder.now file.stored.prime.ppn file.stored.prime.file) sink full
+    old new result)
+    ⊎ IsUnnamed sink full old new result
+
+-- a file of this directory is wanted
+abbrev pub IsWanted : Option ℕ → ℕ → Type 0
+IsWanted None ppn = Unit {0}
+IsWanted (Some owner) ppn = owner ≡ ppn
+
+-- What became of one file.
+abbrev pub IsFileDone : {D : Type 0} → FileFacts → (D → DiskState) → ExportTask → SavedFile → Option (List ℕ)
+    → Option (List ℕ) → D → D → Result Tally SessionError → Type 0
+IsFileDone facts state task file sink full old new result =
+    (IsWanted task.owner file.stored.prime.ppn × IsWantedDone facts state task file sink full old new result)
+    ⊎ ((IsWanted task.owner file.stored.prime.ppn → ⊥) × IsPassedOver sink full old new result)
+
+-- What became of these files: unless paths are only listed, the folder for all directories is made first.
+abbrev pub AreFilesSaved : {D : Type 0} → FileFacts → (D → DiskState) → ExportTask → List SavedFile → Option (List ℕ)
+    → Option (List ℕ) → D → D → Result Tally SessionError → Type 0
+AreFilesSaved facts state task files sink full old new result =
+    (((task.lists ≡ true) ⊎ facts.folder task.folder.now (Ok tt))
+    × EachDone (IsFileDone facts state task) files none_counted sink full old new result)
+    ⊎ ((task.lists ≡ false) × HasNoFolder facts task.folder.now sink full old new result)
+
+-- Faults.
+
+-- the text of a fault, which is that of a start that it stops
+abbrev pub fault_text : VolumeError → List ℕ
+fault_text NotVolume = codes "?Not a volume"
+fault_text BadHome = codes "?Bad home blocks"
+fault_text BadLog = codes "?Bad log"
+fault_text (BadDirectory block) = codes "?Bad directory block " ++ decimal block
+fault_text (BadRetrieval block) = codes "?Bad retrieval block " ++ decimal block
+fault_text (BlockTwice block) = codes "?Block " ++ decimal block ++ codes " reached twice"
+fault_text (TableWrong block) = codes "?Bad table block " ++ decimal block
+fault_text (BadData block) = codes "?Bad data block " ++ decimal block
+fault_text volume.NoMemory = codes "?No memory"
+fault_text Device = codes "?Device fault"
+fault_text Failed = codes "?Device fault"
+
+-- the path that what is lost would have had
+abbrev pub path_of_cost : List ℕ → Cost → List ℕ
+path_of_cost folder (cost.File ppn name) = path_of folder ppn name
+path_of_cost folder (cost.Unnamed ppn name) = path_of folder ppn name
+path_of_cost folder (cost.Directory ppn) = folder_of folder ppn
+path_of_cost folder cost.Directories = folder
+path_of_cost folder cost.Nothing = folder
+
+-- what is lost is of a directory that is wanted, or of none
+abbrev pub IsWantedCost : Option ℕ → Cost → Type 0
+IsWantedCost owner (cost.File ppn name) = IsWanted owner ppn
+IsWantedCost owner (cost.Unnamed ppn name) = IsWanted owner ppn
+IsWantedCost owner (cost.Directory ppn) = IsWanted owner ppn
+IsWantedCost owner cost.Directories = Unit {0}
+IsWantedCost owner cost.Nothing = Unit {0}
+
+-- the device failed, which counts for more than other faults
+abbrev pub is_device : VolumeError → Bool
+is_device Device = true
+is_device fault = false
+
+-- The line of a fault was written, if it is wanted.
+abbrev pub IsFindingDone : ExportTask → Finding → Option (List ℕ) → Option (List ℕ) → Unit {0} → Unit {0}
+    → Result Tally SessionError → Type 0
+IsFindingDone task finding sink full old new result =
+    (IsWantedCost task.owner finding.costs × IsRefusedLine (path_of_cost task.folder.now finding.costs)
+    (fault_text finding.fault) (is_device finding.fault) sink full result)
+    ⊎ ((IsWantedCost task.owner finding.costs → ⊥) × IsPassedOver sink full old new result)
+    ⊎ IsUnnamed sink full old new result
+
+-- the finding of a fault that costs no file, if there is such a fault
+abbrev pub fault_if : Bool → VolumeError → List Finding
+fault_if stands fault = if stands then record { fault = fault; costs = cost.Nothing } ∷ [] else []
+
+-- the first findings: for a log that isn't valid though the gate is open, and for blocks that couldn't be read
+abbrev pub head_findings : Bool → ℕ → List Finding
+head_findings lost unread = fault_if lost BadLog ++ fault_if (not (unread == 0)) Device
+
+-- The whole run: the findings of the copy, the files, and the faults. What ends the run ends it at once.
+abbrev pub IsSalvageRun : {D : Type 0} → FileFacts → (D → DiskState) → ExportTask → List Finding → List SavedFile
+    → List Finding → Option (List ℕ) → Option (List ℕ) → D → D → Result Tally SessionError → Type 0
+IsSalvageRun facts state task head files findings sink full old new result =
+    (first : Result Tally SessionError) × (told : Option (List ℕ))
+    × EachDone (IsFindingDone task) head none_counted sink told tt tt first
+    × MatchResult first (λ counted. (saved : Result Tally SessionError) × (stored : Option (List ℕ))
+    × AreFilesSaved facts state task files told stored old new saved
+    × MatchResult saved (λ more. (last : Result Tally SessionError)
+    × EachDone (IsFindingDone task) findings none_counted stored full tt tt last
+    × MatchResult last (λ most. result ≡ Ok (added (added counted more) most)) (λ error. result ≡ Err error))
+    (λ error. (full ≡ stored) × (result ≡ Err error)))
+    (λ error. (full ≡ told) × (new ≡ old) × (result ≡ Err error))

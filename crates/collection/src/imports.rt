@@ -1,0 +1,262 @@
+//! The import of files of the host into a directory.
+ghost use Rattle.std.specs.Prelude.{◌≡◌, ◌⊎◌, ◌<◌, ℕ, List, length, get_or, map, true, IfSome, IfNone, Ok, Err, None};
+ghost use Rattle.spec_machine.specs.declared.call.Reply.TheVariants.{Refused};
+ghost use Rattle.spec_language.specs.Common.{is_broken, owner_text, refusal};
+ghost use Rattle.commands.specs.declared.error.SessionError.TheVariants.{NoMemory};
+ghost use Rattle.collection.specs.Common.{IsRefusedLine, Goes, AreDoneWith, IsDoneWith, IsEncodingFor, IsImportRun};
+ghost use Rattle.collection.specs.Common.{IsMomentFor, IsSourcePut, most_read};
+ghost use Rattle.monitor.specs.Common.{MonitorState};
+ghost use Rattle.commands.specs.Common.{machine_of};
+
+use crate::clock::first_moment;
+use crate::host_names::{Named, name_for};
+use crate::lines::{added, label, turn_down};
+use crate::paths::owner_text;
+use crate::report::{report, tell_collision};
+use crate::{HostFiles, ImportTask, Source};
+use blockdisk::Disk;
+use commands::{
+    Encoding, Import, Misfit, Monitor, Reason, SessionError, Tally, encoding_of, import, is_broken,
+    make_directory, most_bytes, refusal,
+};
+use spec_machine::Reply;
+use std::alloc::Global;
+use std::io::Write;
+use words36::{Moment, Ppn};
+
+/// Code 4: the directory exists.
+const ALREADY_EXISTS: u32 = 4;
+
+/// Returns the most bytes that a file may have; one more than these is read.
+fn most_read(asked: Option<Encoding>) -> usize
+    ensures { result ≡ most_read asked }
+{
+    most_bytes(asked.unwrap_or(Encoding::Characters))
+}
+
+/// Returns the encoding of a file's bytes: the given one, or the one that they show.
+fn encoding_for(asked: Option<Encoding>, bytes: &[u8]) -> Encoding
+    ensures { IsEncodingFor asked bytes.now result }
+{
+    match asked {
+        Some(encoding) => encoding,
+        None => encoding_of(bytes),
+    }
+}
+
+/// Returns the moment that a file gets: that of its last change, or the given one.
+fn moment_for(task: &ImportTask<'_>, source: &Source) -> Option<Moment>
+    ensures some { IfSome result (IsMomentFor task.now source.now) }
+    ensures none { IfNone result ((task.now.dated ≡ true) × (source.now.changed ≡ None)) }
+{
+    if task.dated {
+        source.changed
+    } else {
+        Some(task.moment)
+    }
+}
+
+/// Tells people why the bytes of a file can't be put, if they can't.
+fn tell_misfit<E: Write>(errors: &mut E, path: &str, put: &Result<Tally, SessionError>) {
+    let Ok(
+        Tally {
+            reason: Some(Reason::Input(misfit)),
+            ..
+        },
+    ) = put
+    else {
+        return;
+    };
+    match misfit {
+        Misfit::Byte(byte, place) => {
+            let what = format_args!("byte {byte} at {place} isn't text (1 to 127)");
+            report(errors, path, &what);
+        }
+        Misfit::Length(count) => {
+            let what = format_args!("{count} bytes, which is no multiple of eight");
+            report(errors, path, &what);
+        }
+        Misfit::Word(place) => {
+            let what = format_args!("word {place} has bits above its 36");
+            report(errors, path, &what);
+        }
+        Misfit::Excess(most) => {
+            let what = format_args!("more than {most} bytes, which no file can hold");
+            report(errors, path, &what);
+        }
+    }
+}
+
+/// Puts a file that was read, if no file has its name, and writes its line.
+fn put_source<W: Write, E: Write, D: Disk>(
+    alloc: Global,
+    task: &ImportTask<'_>,
+    named: &Named<'_>,
+    source: &Source,
+    monitor: &mut Monitor<D>,
+    writer: &mut W,
+    errors: &mut E,
+) -> Result<Tally, SessionError>
+    ensures { IsSourcePut (λ (m : MonitorState D). machine_of (D.state m.disk) m.map m.failed m.jobs) task.now
+        named.now.path.now named.now.text.items named.now.name source.now (W.contents writer.old)
+        (W.contents writer.new) monitor.old monitor.new result }
+{
+    let Some(moment) = moment_for(task, source) else {
+        return turn_down(alloc, writer, named.path, "?Date out of range", false);
+    };
+    let Ok(label) = label(alloc, named.path, &named.text) else {
+        return Err(SessionError::NoMemory);
+    };
+    let file = Import {
+        owner: task.owner,
+        name: named.name,
+        encoding: encoding_for(task.encoding, &source.bytes),
+        moment,
+        label: &label,
+        bytes: &source.bytes,
+    };
+    let put = import(alloc, writer, monitor, &file);
+    tell_misfit(errors, named.path, &put);
+    put
+}
+
+/// Reads a file of the host and puts it, if no file has its name, and writes its line.
+fn import_one<H: HostFiles, W: Write, E: Write, D: Disk>(
+    host: &H,
+    alloc: Global,
+    task: &ImportTask<'_>,
+    path: &str,
+    monitor: &mut Monitor<D>,
+    writer: &mut W,
+    errors: &mut E,
+) -> Result<Tally, SessionError>
+    ensures { IsDoneWith (H.files host.now) (λ (m : MonitorState D). machine_of (D.state m.disk) m.map m.failed m.jobs)
+        task.now path.now (W.contents writer.old) (W.contents writer.new) monitor.old monitor.new result }
+{
+    let Ok(found) = name_for(alloc, path, task.shortens) else {
+        return Err(SessionError::NoMemory);
+    };
+    let Some(named) = found else {
+        return turn_down(alloc, writer, path, "?Bad name", false);
+    };
+    match host.read(alloc, path, most_read(task.encoding)) {
+        Ok(source) => put_source(alloc, task, &named, &source, monitor, writer, errors),
+        Err(error) => {
+            report(errors, path, &error);
+            turn_down(alloc, writer, path, "?Can't read", false)
+        }
+    }
+}
+
+/// Tells people which of the files before a refused one has the same name, if one has.
+fn tell_same_name<E: Write>(alloc: Global, task: &ImportTask<'_>, place: usize, errors: &mut E) {
+    let (before, rest) = task.paths.as_slice().split_at(place.min(task.paths.len()));
+    let Some(path) = rest.first() else {
+        return;
+    };
+    let Ok(Some(named)) = name_for(alloc, path, task.shortens) else {
+        return;
+    };
+    for other in before {
+        if let Ok(Some(earlier)) = name_for(alloc, other, task.shortens)
+            && earlier.name == named.name
+        {
+            tell_collision(errors, path, other);
+            return;
+        }
+    }
+}
+
+/// Returns the path at a place of a task, counted from 0.
+fn path_at<'a>(task: &ImportTask<'a>, place: usize) -> &'a str
+    requires { place < length task.now.paths.items }
+    ensures { (d : List ℕ) → result.now ≡ get_or (map (λ p. p.now) task.now.paths.items) place d }
+{
+    task.paths[place]
+}
+
+/// Puts files of the host into a directory that exists.
+fn import_all<H: HostFiles, W: Write, E: Write, D: Disk>(
+    host: &H,
+    alloc: Global,
+    task: &ImportTask<'_>,
+    monitor: &mut Monitor<D>,
+    writer: &mut W,
+    errors: &mut E,
+) -> Result<Tally, SessionError>
+    ensures { AreDoneWith (H.files host.now) (λ (m : MonitorState D). machine_of (D.state m.disk) m.map m.failed m.jobs)
+        task.now (map (λ p. p.now) task.now.paths.items) (W.contents writer.old) (W.contents writer.new) monitor.old
+        monitor.new result }
+{
+    let mut tally = Tally::none();
+    for place in 0..task.paths.len() {
+        let path = path_at(task, place);
+        let one = import_one(host, alloc, task, path, monitor, writer, errors)?;
+        if one.refused {
+            tell_same_name(alloc, task, place, errors);
+        }
+        tally = added(tally, one);
+    }
+    Ok(tally)
+}
+
+/// Returns why a directory doesn't exist, if it was neither made nor there before.
+fn refusal_of(made: Result<(), Reply>) -> Option<Reply>
+    ensures some { IfSome result (λ reply. (made ≡ Err reply) × (reply ≡ Refused 4 → ⊥)) }
+    ensures none { IfNone result ((made ≡ Ok tt) ⊎ (made ≡ Err (Refused 4))) }
+{
+    match made {
+        Ok(()) => None,
+        Err(Reply::Refused(ALREADY_EXISTS)) => None,
+        Err(reply) => Some(reply),
+    }
+}
+
+/// Writes why a directory can't be made.
+fn refuse_owner<W: Write>(
+    alloc: Global,
+    writer: &mut W,
+    owner: Ppn,
+    reply: Reply,
+) -> Result<Tally, SessionError>
+    ensures { IsRefusedLine (owner_text owner) (refusal reply) (is_broken reply) (W.contents writer.old)
+        (W.contents writer.new) result ⊎ ((W.contents writer.new ≡ W.contents writer.old) × (result ≡ Err NoMemory)) }
+{
+    match owner_text(alloc, owner) {
+        Ok(text) => {
+            let (said, broke) = (refusal(&reply), is_broken(&reply));
+            turn_down(alloc, writer, text.as_str(), said, broke)
+        }
+        Err(_) => Err(SessionError::NoMemory),
+    }
+}
+
+/// Puts files of the host into a directory, each one if no file has its name, by job 1, which logs in as the owner.
+/// Makes the directory first, if it doesn't exist. A line is written for each file. A refused file doesn't stop the
+/// others.
+///
+/// # Errors
+///
+/// `Write` if the writer failed, `NoMemory` if there is no memory for the words or the line of a file: those before it
+/// were put.
+pub fn import_files<H: HostFiles, W: Write, E: Write, D: Disk>(
+    host: &H,
+    alloc: Global,
+    task: &ImportTask<'_>,
+    monitor: &mut Monitor<D>,
+    writer: &mut W,
+    errors: &mut E,
+) -> Result<Tally, SessionError>
+    ensures done { IsImportRun (H.files host.now)
+        (λ (m : MonitorState D). machine_of (D.state m.disk) m.map m.failed m.jobs) task.now
+        (map (λ p. p.now) task.now.paths.items) (W.contents writer.old) (W.contents writer.new) monitor.old
+        monitor.new result }
+    ensures goes { Goes (λ (m : MonitorState D). machine_of (D.state m.disk) m.map m.failed m.jobs) monitor.old
+        monitor.new }
+{
+    let made = make_directory(alloc, monitor, first_moment(), task.owner);
+    match refusal_of(made) {
+        None => import_all(host, alloc, task, monitor, writer, errors),
+        Some(reply) => refuse_owner(alloc, writer, task.owner, reply),
+    }
+}

@@ -1,0 +1,352 @@
+//! The rescue of the files that a survey of a damaged disk found, to new files of the host.
+ghost use Rattle.std.specs.Prelude.{◌≡◌, ◌↔◌, IfOk, IsErrOf, IsTrue, length, string_bytes};
+ghost use Rattle.std.specs.List.{AllByRecursion};
+ghost use Rattle.blockdisk.specs.Common.{memory_state};
+ghost use Rattle.salvage.specs.Common.{FitsDisk};
+ghost use Rattle.collection.specs.Common.{EachDone, none_counted, AreFilesSaved, IsFileDone, IsFindingDone};
+ghost use Rattle.collection.specs.Common.{IsReadStored, IsSalvageRun, IsSavedAt, IsWanted, IsWantedCost};
+ghost use Rattle.collection.specs.Common.{IsWantedDone, fault_text, head_findings, is_device, path_of_cost};
+ghost use Rattle.collection.specs.Common.{words_read};
+ghost use Rattle.salvage.specs.declared.error.SalvageError.TheVariants.{NotVolume};
+ghost use Rattle.salvage.specs.declared.finding.Cost.TheVariants as cost;
+
+use crate::exports::store;
+use crate::lines::{added, say_path, turn_down};
+use crate::paths::{folder_of, path_of};
+use crate::report::report;
+use crate::{ExportTask, HostFiles};
+use blockdisk::Disk;
+use commands::{SessionError, Tally, export_words};
+use salvage::{Copied, Cost, Finding, SalvageError, SavedFile, Survey, read_words};
+use std::alloc::{AllocError, Global};
+use std::io::Write;
+use volume::VolumeError;
+use words36::{Ppn, Word};
+
+/// A file that will become one of the host, at a path.
+#[derive(Clone, Copy)]
+struct Saving<'a> {
+    task: &'a ExportTask<'a>,
+    path: &'a str,
+    file: &'a SavedFile,
+}
+
+/// Makes a file of the host from what was read, and writes its line.
+fn store_read<H: HostFiles, W: Write, E: Write>(
+    host: &H,
+    alloc: Global,
+    saving: &Saving<'_>,
+    read: Result<Option<Vec<Word>>, SalvageError>,
+    writer: &mut W,
+    errors: &mut E,
+) -> Result<Tally, SessionError>
+    requires { IsErrOf read NotVolume → ⊥ }
+    ensures { IsReadStored (H.files host.now) saving.now.task.now saving.now.path.now saving.now.file.now
+        (words_read (λ v. v.items) read) (W.contents writer.old) (W.contents writer.new) result }
+{
+    let Saving { task, path, file } = *saving;
+    match read {
+        Ok(Some(words)) => {
+            let prime = &file.stored.prime;
+            let mode = prime.mode.number() as u32;
+            let exported = export_words(alloc, task.encoding, mode, &words);
+            store(
+                host,
+                alloc,
+                path,
+                Some(prime.moment),
+                exported,
+                writer,
+                errors,
+            )
+        }
+        Ok(None) => turn_down(alloc, writer, path, "?Damaged", false),
+        Err(SalvageError::Device) => turn_down(alloc, writer, path, "?Device fault", true),
+        Err(SalvageError::NoMemory) => Err(SessionError::NoMemory),
+        Err(SalvageError::NotVolume) => unreachable!(), // the size was checked before
+    }
+}
+
+/// Reads a file and makes one of the host from it.
+fn save<H: HostFiles, W: Write, E: Write, D: Disk>(
+    host: &H,
+    alloc: Global,
+    saving: &Saving<'_>,
+    disk: &mut D,
+    writer: &mut W,
+    errors: &mut E,
+) -> Result<Tally, SessionError>
+    requires { FitsDisk (D.state disk.old).size saving.now.file.now }
+    ensures { IsSavedAt (H.files host.now) D.state saving.now.task.now saving.now.path.now saving.now.file.now
+        (W.contents writer.old) (W.contents writer.new) disk.old disk.new result }
+{
+    let read = read_words(alloc, disk, saving.file);
+    store_read(host, alloc, saving, read, writer, errors)
+}
+
+/// Makes the folder of a file, and then a file of the host from it, or only lists its path.
+fn save_wanted<H: HostFiles, W: Write, E: Write, D: Disk>(
+    host: &H,
+    alloc: Global,
+    task: &ExportTask<'_>,
+    file: &SavedFile,
+    disk: &mut D,
+    writer: &mut W,
+    errors: &mut E,
+) -> Result<Tally, SessionError>
+    requires { FitsDisk (D.state disk.old).size file.now }
+    ensures { IsWantedDone (H.files host.now) D.state task.now file.now (W.contents writer.old) (W.contents writer.new)
+        disk.old disk.new result }
+{
+    let prime = &file.stored.prime;
+    let Ok(folder) = folder_of(alloc, task.folder, prime.ppn) else {
+        return Err(SessionError::NoMemory);
+    };
+    let Ok(path) = path_of(alloc, task.folder, prime.ppn, prime.file) else {
+        return Err(SessionError::NoMemory);
+    };
+    let (folder, path) = (folder.as_str(), path.as_str());
+    if task.lists {
+        return say_path(alloc, writer, path);
+    }
+    if let Err(error) = host.make_folder(folder) {
+        report(errors, folder, &error);
+        return turn_down(alloc, writer, folder, "?Can't make folder", false);
+    }
+    save(
+        host,
+        alloc,
+        &Saving { task, path, file },
+        disk,
+        writer,
+        errors,
+    )
+}
+
+/// Returns whether the files of this owner are wanted.
+fn is_wanted(wanted: Option<Ppn>, owner: Ppn) -> bool
+    ensures { IsTrue result ↔ IsWanted wanted owner }
+{
+    match wanted {
+        Some(wanted) => wanted == owner,
+        None => true,
+    }
+}
+
+/// Saves a file, if it is of a directory that is wanted.
+fn save_one<H: HostFiles, W: Write, E: Write, D: Disk>(
+    host: &H,
+    alloc: Global,
+    task: &ExportTask<'_>,
+    file: &SavedFile,
+    disk: &mut D,
+    writer: &mut W,
+    errors: &mut E,
+) -> Result<Tally, SessionError>
+    requires { FitsDisk (D.state disk.old).size file.now }
+    ensures { IsFileDone (H.files host.now) D.state task.now file.now (W.contents writer.old) (W.contents writer.new)
+        disk.old disk.new result }
+{
+    if is_wanted(task.owner, file.stored.prime.ppn) {
+        save_wanted(host, alloc, task, file, disk, writer, errors)
+    } else {
+        Ok(Tally::none())
+    }
+}
+
+/// Saves these files, or only lists their paths.
+fn save_each<H: HostFiles, W: Write, E: Write, D: Disk>(
+    host: &H,
+    alloc: Global,
+    task: &ExportTask<'_>,
+    files: &[SavedFile],
+    disk: &mut D,
+    writer: &mut W,
+    errors: &mut E,
+) -> Result<Tally, SessionError>
+    requires { AllByRecursion (FitsDisk (D.state disk.old).size) files.now }
+    ensures { EachDone (IsFileDone (H.files host.now) D.state task.now) files.now none_counted (W.contents writer.old)
+        (W.contents writer.new) disk.old disk.new result }
+{
+    let mut tally = Tally::none();
+    for file in files {
+        let one = save_one(host, alloc, task, file, disk, writer, errors)?;
+        tally = added(tally, one);
+    }
+    Ok(tally)
+}
+
+/// Makes the folder for all directories, unless paths are only listed, and saves these files.
+fn save_files<H: HostFiles, W: Write, E: Write, D: Disk>(
+    host: &H,
+    alloc: Global,
+    task: &ExportTask<'_>,
+    files: &[SavedFile],
+    disk: &mut D,
+    writer: &mut W,
+    errors: &mut E,
+) -> Result<Tally, SessionError>
+    requires { AllByRecursion (FitsDisk (D.state disk.old).size) files.now }
+    ensures { AreFilesSaved (H.files host.now) D.state task.now files.now (W.contents writer.old)
+        (W.contents writer.new) disk.old disk.new result }
+{
+    if !task.lists
+        && let Err(error) = host.make_folder(task.folder)
+    {
+        report(errors, task.folder, &error);
+        return turn_down(alloc, writer, task.folder, "?Can't make folder", false);
+    }
+    save_each(host, alloc, task, files, disk, writer, errors)
+}
+
+/// Returns the text of a fault, which is that of a start that it stops.
+fn fault_text(alloc: Global, fault: VolumeError) -> Result<String, AllocError>
+    ensures { IfOk result (λ text. string_bytes text ≡ fault_text fault) }
+{
+    match fault {
+        VolumeError::NotVolume => format!(in alloc; "?Not a volume"),
+        VolumeError::BadHome => format!(in alloc; "?Bad home blocks"),
+        VolumeError::BadLog => format!(in alloc; "?Bad log"),
+        VolumeError::BadDirectory(block) => format!(in alloc; "?Bad directory block {block}"),
+        VolumeError::BadRetrieval(block) => format!(in alloc; "?Bad retrieval block {block}"),
+        VolumeError::BlockTwice(block) => format!(in alloc; "?Block {block} reached twice"),
+        VolumeError::TableWrong(block) => format!(in alloc; "?Bad table block {block}"),
+        VolumeError::BadData(block) => format!(in alloc; "?Bad data block {block}"),
+        VolumeError::NoMemory => format!(in alloc; "?No memory"),
+        VolumeError::Device | VolumeError::Failed => format!(in alloc; "?Device fault"),
+    }
+}
+
+/// Returns the path that what a fault costs would have had.
+fn path_of_cost(alloc: Global, folder: &str, costs: Cost) -> Result<String, AllocError>
+    ensures { IfOk result (λ path. string_bytes path ≡ path_of_cost folder.now costs) }
+{
+    match costs {
+        Cost::File(owner, name) | Cost::Unnamed(owner, name) => {
+            path_of(alloc, folder, owner, name)
+        }
+        Cost::Directory(owner) => folder_of(alloc, folder, owner),
+        Cost::Directories | Cost::Nothing => format!(in alloc; "{folder}"),
+    }
+}
+
+/// Returns whether what a fault costs is of a directory that is wanted, or of none.
+fn is_wanted_cost(wanted: Option<Ppn>, costs: Cost) -> bool
+    ensures { IsTrue result ↔ IsWantedCost wanted costs }
+{
+    match costs {
+        Cost::File(owner, _) | Cost::Unnamed(owner, _) | Cost::Directory(owner) => {
+            is_wanted(wanted, owner)
+        }
+        Cost::Directories | Cost::Nothing => true,
+    }
+}
+
+/// Returns whether the device failed, which counts for more than other faults.
+fn is_device(fault: VolumeError) -> bool
+    ensures { result ≡ is_device fault }
+{
+    match fault {
+        VolumeError::Device => true,
+        _ => false,
+    }
+}
+
+/// Returns the finding of a fault that costs no file.
+fn costing_nothing(fault: VolumeError) -> Finding
+    ensures { result ≡ record { fault = fault; costs = cost.Nothing } }
+{
+    Finding {
+        fault,
+        costs: Cost::Nothing,
+    }
+}
+
+/// Writes the line of a fault, if it is wanted.
+fn tell_finding<W: Write>(
+    alloc: Global,
+    task: &ExportTask<'_>,
+    finding: Finding,
+    writer: &mut W,
+) -> Result<Tally, SessionError>
+    ensures { IsFindingDone task.now finding (W.contents writer.old) (W.contents writer.new) tt tt result }
+{
+    if !is_wanted_cost(task.owner, finding.costs) {
+        return Ok(Tally::none());
+    }
+    let Ok(path) = path_of_cost(alloc, task.folder, finding.costs) else {
+        return Err(SessionError::NoMemory);
+    };
+    let Ok(text) = fault_text(alloc, finding.fault) else {
+        return Err(SessionError::NoMemory);
+    };
+    let broke = is_device(finding.fault);
+    turn_down(alloc, writer, path.as_str(), text.as_str(), broke)
+}
+
+/// Writes the lines of these faults.
+fn tell_findings<W: Write>(
+    alloc: Global,
+    task: &ExportTask<'_>,
+    findings: &[Finding],
+    writer: &mut W,
+) -> Result<Tally, SessionError>
+    ensures { EachDone (IsFindingDone task.now) findings.now none_counted (W.contents writer.old) (W.contents writer.new) tt
+        tt result }
+{
+    let mut tally = Tally::none();
+    for finding in findings {
+        let one = tell_finding(alloc, task, *finding, writer)?;
+        tally = added(tally, one);
+    }
+    Ok(tally)
+}
+
+/// Writes the first lines: for a log that isn't valid though the gate is open, and for blocks that couldn't be read.
+fn tell_copy<W: Write>(
+    alloc: Global,
+    task: &ExportTask<'_>,
+    copied: &Copied,
+    writer: &mut W,
+) -> Result<Tally, SessionError>
+    ensures { EachDone (IsFindingDone task.now) (head_findings copied.now.has_bad_log copied.now.unread) none_counted
+        (W.contents writer.old) (W.contents writer.new) tt tt result }
+{
+    let faults = [
+        costing_nothing(VolumeError::BadLog),
+        costing_nothing(VolumeError::Device),
+    ];
+    let faults = &faults[..];
+    let first = if copied.has_bad_log { 0 } else { 1 };
+    let end = if copied.unread > 0 { 2 } else { 1 };
+    tell_findings(alloc, task, &faults[first..end], writer)
+}
+
+/// Makes a file of the host from each file that a survey of this copy found, at a path where there is none:
+/// FOLDER/10,20/FOO.TXT. A line is written for each file of a directory that is wanted, and for each fault with the
+/// path that what it costs would have had; none of these stops the others. A task that only lists reads no file and
+/// makes none: it writes the paths. Nothing is written to the copy.
+///
+/// # Errors
+///
+/// `Write` if the writer failed, `NoMemory` if there is no memory for a file or a line: what came before was done.
+pub fn save_survey<H: HostFiles, W: Write, E: Write>(
+    host: &H,
+    alloc: Global,
+    task: &ExportTask<'_>,
+    found: &Survey,
+    copied: &mut Copied,
+    writer: &mut W,
+    errors: &mut E,
+) -> Result<Tally, SessionError>
+    requires { AllByRecursion (FitsDisk (length copied.old.disk.blocks)) found.now.files.items }
+    ensures { IsSalvageRun (H.files host.now) memory_state task.now
+        (head_findings copied.old.has_bad_log copied.old.unread) found.now.files.items found.now.findings.items
+        (W.contents writer.old) (W.contents writer.new) copied.old.disk copied.new.disk result }
+{
+    let first = tell_copy(alloc, task, copied, writer)?;
+    let files = found.files.as_slice();
+    let saved = save_files(host, alloc, task, files, &mut copied.disk, writer, errors)?;
+    let told = tell_findings(alloc, task, found.findings.as_slice(), writer)?;
+    Ok(added(added(first, saved), told))
+}

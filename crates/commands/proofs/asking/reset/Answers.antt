@@ -1,6 +1,0 @@
-use Rattle.commands.proofs.LedLaws.{led_reset}
-use Rattle.commands.proofs.asking.reset.Goals as goal
-
-pub returns : goal.returns
-returns g c said = led_reset g.S.FileService.machine g.met.S.FileService.stands _ _ c.args.moment c.event.result
-    said c.event.ensures

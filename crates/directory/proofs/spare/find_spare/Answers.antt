@@ -1,7 +1,0 @@
-use Rattle.std.proofs.Common.{refl}
-use Rattle.directory.proofs.Growing.{not_full}
-use Rattle.directory.proofs.spare.find_spare.Goals as goal
-
-pub returns-then-not-is_full : goal.returns-then-not-is_full
-returns-then-not-is_full g c full =
-    let (k, low, high) = c.if-not-is_full.ensures.no refl in absurd (not_full c.args.n k low high full)

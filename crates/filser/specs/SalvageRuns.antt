@@ -1,0 +1,95 @@
+-- What became of an image whose whole files were to be written to files of the host.
+use Rattle.std.specs.Prelude.{◌≡◌, ◌⊎◌, ◌≤◌, ℕ, Bool, List, Option, Result}
+use Rattle.blockdisk.specs.Common.{DiskState, Still, one_more, Memory, held, memory_state}
+use Rattle.imagefile.specs.Common.{begun_image, Unseen}
+use Rattle.imagefile.specs.declared.form.Form.{Form}
+use Rattle.spec_image.specs.Common.{File, Files, SpecHome, IsHome, IsVolumeSize, Stands}
+use Rattle.volume.specs.declared.error.VolumeError.{VolumeError}
+use Rattle.commands.specs.declared.answer.Tally.{Tally}
+use Rattle.commands.specs.declared.error.SessionError.{SessionError}
+use Rattle.salvage.specs.Common.{IsCopyOf, failed_by, AreAllSaved, IsSurveyed}
+use Rattle.salvage.specs.declared.error.SalvageError.{SalvageError}
+use Rattle.salvage.specs.declared.error.SalvageError.TheVariants.{NotVolume, Device, NoMemory}
+use Rattle.salvage.specs.declared.finding.Finding.{Finding}
+use Rattle.salvage.specs.declared.saved.SavedFile.{SavedFile}
+use Rattle.collection.specs.Common.{FileFacts, IsSalvageRun, head_findings}
+use Rattle.collection.specs.declared.task.ExportTask.{ExportTask}
+use Rattle.filser.specs.Denials.{IsExplained}
+use Rattle.filser.specs.Hosts.{HostFacts, IsOpened}
+use Rattle.filser.specs.Images.{IsDenied, IsWhole}
+use Rattle.filser.specs.Lines.{IsLine}
+use Rattle.filser.specs.Refusals.{start_code, start_text}
+use Rattle.filser.specs.ServedDisks.{IsEnding}
+use Rattle.filser.specs.Views.{Views}
+use Rattle.filser.specs.declared.disks.Disks.{Disks}
+use Rattle.filser.specs.declared.disks.Disks.TheVariants.{Unserved}
+use Rattle.filser.specs.declared.fault.ImageFault.{ImageFault}
+use Rattle.filser.specs.declared.status.Status.{Status}
+use Rattle.volume.specs.declared.error.VolumeError.TheVariants as volume
+
+-- why there is no survey, as a start's error
+abbrev pub start_error : SalvageError → VolumeError
+start_error NotVolume = volume.NotVolume
+start_error Device = volume.Device
+start_error NoMemory = volume.NoMemory
+
+-- A copy was surveyed, and what was found was written to files of the host and printed as lines.
+pub record AreFound (facts : FileFacts) (task : ExportTask) (sink full : Option (List ℕ)) (copy : Memory) (unread : ℕ)
+    (lost : Bool) (files : List SavedFile) (status : Status) : Type 0 where
+  pub layout : ℕ
+  pub findings : List Finding
+  pub middle : Memory
+  pub last : Memory
+  pub result : Result Tally SessionError
+  -- the layout of the home copy, or layout 2 if neither copy is valid
+  pub layout_is : (home : SpecHome) → IsHome (memory_state copy).size (held copy.blocks) home → layout ≡ home.layout
+  pub no_layout : ((home : SpecHome) → IsHome (memory_state copy).size (held copy.blocks) home → ⊥) → layout ≡ 2
+  pub surveyed : IsSurveyed (memory_state copy).size layout (held copy.blocks) files findings
+  pub saved : IsSalvageRun facts memory_state task (head_findings lost unread) files findings sink full middle last result
+  pub ends : IsEnding status result
+
+-- No survey was made of a copy, as is printed: memory ran out, or the copy failed.
+pub record IsUnsurveyed (copy : Memory) (sink full : Option (List ℕ)) (status : Status) : Type 0 where
+  pub error : SalvageError
+  pub cause : (error ≡ NoMemory) ⊎ ((error ≡ Device) × (last : Memory) × (last.failures ≡ one_more copy.failures))
+  pub said : IsLine sink full status (start_code (start_error error)) (start_text (start_error error))
+
+-- The disk was copied, and this became of the copy. Each block that couldn't be read is a failure of the disk.
+pub record IsCopied (facts : FileFacts) (task : ExportTask) (sink full : Option (List ℕ)) (begun end : DiskState)
+    (status : Status) : Type 0 where
+  pub copy : Memory
+  pub unread : ℕ
+  pub lost : Bool
+  pub copied : end.honest → IsCopyOf begun copy unread lost
+  pub few : unread ≤ begun.size
+  pub failures : end.failures ≡ failed_by unread begun.failures
+  pub ran : ((files : List SavedFile) × AreFound facts task sink full copy unread lost files status
+      -- if all was read, and the disk stood for files, all of these were found
+      × (end.honest → unread ≡ 0 → (stored : Files File) → Stands begun.size begun.contents stored
+      → AreAllSaved (held copy.blocks) files stored))
+      ⊎ IsUnsurveyed copy sink full status
+
+-- The disk wasn't copied, as is printed: it doesn't have a volume's size, and nothing was read; or memory ran out.
+pub record IsUncopied (begun end : DiskState) (sink full : Option (List ℕ)) (status : Status) : Type 0 where
+  pub error : SalvageError
+  pub cause : ((error ≡ NotVolume) × (IsVolumeSize begun.size → ⊥) × (end.failures ≡ begun.failures))
+      ⊎ (error ≡ NoMemory)
+  pub unread : ℕ
+  pub few : unread ≤ begun.size
+  pub failures : end.failures ≡ failed_by unread begun.failures
+  pub said : IsLine sink full status (start_code (start_error error)) (start_text (start_error error))
+
+-- The disk was copied, or it wasn't. Nothing was written.
+pub record IsSalvagedFrom (facts : FileFacts) (task : ExportTask) (sink full : Option (List ℕ)) (begun end : DiskState)
+    (status : Status) : Type 0 where
+  pub still : end.honest → Still begun end
+  pub done : IsCopied facts task sink full begun end status ⊎ IsUncopied begun end sink full status
+
+-- What became of the image: its file was opened, and its disk salvaged only by calls of it since; or it wasn't, for a
+-- reason that holds.
+abbrev pub IsOnSalvaged : {H L M F D I : Type 0} → HostFacts H → Views M F D I → List ℕ → Form → ExportTask → Unseen
+    → Option (List ℕ) → Option (List ℕ) → Disks L F D I → Status → Type 0
+IsOnSalvaged {D = D} facts views path form task u sink full disks status =
+    ((disk : D) × (disks ≡ Unserved disk) × IsOpened facts path u × IsWhole form u (views.disk disk)
+    × IsSalvagedFrom facts.files task sink full (begun_image form (views.disk disk).size u) (views.disk disk) status)
+    ⊎ ((fault : ImageFault) × IsDenied facts views path form u fault disks × IsExplained sink full status fault)

@@ -1,0 +1,114 @@
+//! `salvage`: what is whole on an image, written to files of the host.
+ghost use Rattle.std.specs.Prelude.{◌≡◌, ◌≢◌, ◌⊎◌, List, length};
+ghost use Rattle.blockdisk.specs.Common.{SameDisk, held};
+ghost use Rattle.imagefile.specs.Common.{assumed_in};
+ghost use Rattle.spec_image.specs.Common.{File as StoredFile, Files, IsVolumeSize, SettledStands};
+ghost use Rattle.salvage.specs.Common.{AreAllSaved};
+ghost use Rattle.salvage.specs.declared.saved.SavedFile.{SavedFile};
+ghost use Rattle.filser.specs.Common.{AreFound, IsOnSalvaged, IsSalvagedFrom, IsUnsurveyed, start_error};
+ghost use Rattle.filser.specs.declared.status.Status.TheVariants.{BadArguments};
+
+use crate::fault::tell_fault;
+use crate::host::Shelf;
+use crate::image::{NamedImage, failure_of, open_disk};
+use crate::program::refuse_image;
+use crate::reasons::tell_ending;
+use crate::serve_image::{ending, say};
+use crate::{
+    Access, Disks, ExportTask, Host, ImageDisks, OpeningLeave, Refusal, Run, Seen, Status,
+};
+use blockdisk::Disk;
+use collection::save_survey;
+use salvage::{Copied, SalvageError, survey_disk};
+use std::alloc::Global;
+use std::io::Write;
+use volume::VolumeError;
+
+/// Returns why there is no survey, as a start's error.
+fn start_error(error: SalvageError) -> VolumeError
+    ensures { result ≡ start_error error }
+{
+    match error {
+        SalvageError::NotVolume => VolumeError::NotVolume,
+        SalvageError::Device => VolumeError::Device,
+        SalvageError::NoMemory => VolumeError::NoMemory,
+    }
+}
+
+/// Writes what is whole in a copy of a disk to files of the host, and reports why the run ended.
+fn salvage_copy<H: Host, W: Write, E: Write>(
+    host: &H,
+    alloc: Global,
+    copied: &mut Copied,
+    task: &ExportTask<'_>,
+    writer: &mut W,
+    errors: &mut E,
+) -> Status
+    requires { IsVolumeSize (length copied.old.disk.blocks) }
+    ensures serving { result ≢ BadArguments }
+    ensures ran { ((files : List SavedFile) × AreFound (H.facts host.now).files task.now (W.contents writer.old)
+        (W.contents writer.new) copied.old.disk copied.old.unread copied.old.has_bad_log files result
+        × ((stored : Files StoredFile) → SettledStands (length copied.old.disk.blocks)
+        (held copied.old.disk.blocks) stored → AreAllSaved (held copied.old.disk.blocks) files stored))
+        ⊎ IsUnsurveyed copied.old.disk (W.contents writer.old) (W.contents writer.new) result }
+{
+    match survey_disk(alloc, &mut copied.disk) {
+        Ok(found) => {
+            let shelf = Shelf::of(host);
+            let saved = save_survey(&shelf, alloc, task, &found, copied, writer, errors);
+            let status = ending(saved);
+            tell_ending(errors, status, &saved);
+            status
+        }
+        Err(error) => say(writer, Refusal::Start(start_error(error))),
+    }
+}
+
+/// Writes what is whole on a disk to files of the host.
+fn salvage_from<H: Host, D: Disk, W: Write, E: Write>(
+    host: &H,
+    alloc: Global,
+    disk: &mut D,
+    task: &ExportTask<'_>,
+    writer: &mut W,
+    errors: &mut E,
+) -> Status
+    ensures serving { result ≢ BadArguments }
+    ensures ran { IsSalvagedFrom (H.facts host.now).files task.now (W.contents writer.old) (W.contents writer.new)
+        (D.state disk.old) (D.state disk.new) result }
+    ensures same { SameDisk (D.state disk.old) (D.state disk.new) }
+{
+    match Copied::of(alloc, disk) {
+        Ok(mut copied) => salvage_copy(host, alloc, &mut copied, task, writer, errors),
+        Err(error) => say(writer, Refusal::Start(start_error(error))),
+    }
+}
+
+/// Writes what is whole on an image to files of the host, if these don't exist, and prints a line for each and for each
+/// fault. As for a task, nothing is assumed of the host.
+pub(crate) fn salvage_image<H: Host, W: Write, E: Write>(
+    host: &H,
+    alloc: Global,
+    image: &NamedImage<'_>,
+    leave: OpeningLeave,
+    task: &ExportTask<'_>,
+    writer: &mut W,
+    errors: &mut E,
+) -> (Status, ImageDisks)
+    ensures serving { result.0 ≢ BadArguments }
+    ensures ran { IsOnSalvaged (H.facts host.now) (⟦<Run as Seen>⟧.views) image.now.path.now image.now.form task.now
+        (assumed_in leave.supposed) (W.contents writer.old) (W.contents writer.new) result.1 result.0 }
+{
+    let (path, form) = (image.path, image.form);
+    match open_disk(host, path, form, Access::Read, leave) {
+        Ok(disk) => {
+            let mut disk = disk;
+            let status = salvage_from(host, alloc, &mut disk, task, writer, errors);
+            if let Some(fault) = &failure_of(disk.file()) {
+                tell_fault(errors, path, fault);
+            }
+            (status, Disks::Unserved(disk))
+        }
+        Err((fault, disks)) => (refuse_image(fault, path, writer, errors), disks),
+    }
+}

@@ -1,7 +1,0 @@
-use Rattle.std.proofs.Common.{refl, rules}
-use Rattle.retrieval.proofs.Staying.{front_zeros}
-use Rattle.retrieval.proofs.kept.front_of.Goals as goal
-
-pub returns-clause-zeros : goal.returns-clause-zeros
-returns-clause-zeros c = front_zeros c.args.block.now c.copy_from_slice.new.self _ c.args.count c.min-count.result
-    (search rules) (search rules) c.copy_from_slice.ensures.after refl

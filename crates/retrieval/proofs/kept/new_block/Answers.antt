@@ -1,9 +1,0 @@
-use Rattle.std.proofs.Common.{rules, refl}
-use Rattle.retrieval.proofs.NewBlocks.{new_of}
-use Rattle.retrieval.proofs.kept.new_block.Goals as goal
-
-pub returns : goal.returns
-returns c =
-    new_of c.args.at c.args.words.now c.args.kept.now.place c.args.kept.now.words c.args.i c.words_kept-block.result
-    _ c.put_over.result (search rules) c.if-i-at.false c.requires.fits c.words_kept-block.ensures refl
-    c.put_over.ensures

@@ -1,0 +1,237 @@
+-- One more file or directory was read, or reported.
+use Rattle.std.proofs.Common.{◌≡◌, inl, inr, ⊎_elim, ℕ, true, false, cond, List, [], ◌∷◌, ◌++◌, Some, None, refl, sym}
+use Rattle.std.proofs.Common.{ap, subst, ◌∙◌, nat_cmp, Ordering, Result, OnOk}
+use Rattle.std.proofs.lemmas.List.Elements.{Contains-push}
+use Rattle.std.specs.Cmp.{IsTotalOrder, nat_cmp_total}
+use Rattle.std.specs.FinMap.Entries.{find}
+use Rattle.std.specs.List.{AllByRecursion}
+use Rattle.std.specs.Ordering.{eq_by_cmp}
+use Rattle.words36.specs.declared.names.FileName.{FileName}
+use Rattle.blockdisk.specs.Common.{Contents}
+use Rattle.spec_image.specs.Common.{Node, items, SpecMasterEntry, SpecFileEntry, file_words, InSpace, Place, name_cmp}
+use Rattle.spec_image.specs.Common.{place_of, LeadsAlong, IsFileNamed}
+use Rattle.spec_image.proofs.Common.{some_none, find_first, found_holds, name_total, name_exact, none_front}
+use Rattle.volume.specs.declared.error.VolumeError.{VolumeError}
+use Rattle.volume.proofs.common.Lookups.{all_both, all_each, all_push}
+use Rattle.salvage.specs.Common.{IsFaultAt, IsFinding, IsIn, IsNamedIn, IsNoFault, IsReadTo, IsToldDirectory}
+use Rattle.salvage.specs.Common.{IsToldFile, MayRefuse, IsNamedRead, IsRead, place_in}
+use Rattle.salvage.specs.declared.saved.SavedFile.{SavedFile}
+use Rattle.salvage.specs.declared.finding.Finding.{Finding}
+use Rattle.salvage.proofs.CarriedFacts.{on_ok, on_ok_both}
+use Rattle.salvage.proofs.Refusals.{fault_stands}
+use Rattle.salvage.proofs.SavedFiles.{Grows, same_place, apart_push, one_file_more, one_finding_more, lost_here}
+use Rattle.salvage.specs.declared.finding.Cost.TheVariants as cost
+
+-- Keys.
+
+pub none_back : {K V : Type 0} (R : K → K → Ordering) (es fs : List (K × V)) (k : K) → find R k (es ++ fs) ≡ None
+    → find R k fs ≡ None
+none_back R [] fs k h = h
+none_back {V = V} R (e ∷ es) fs k h =
+    elim (eq_by_cmp R k e.0) as (λ b. cond b (Some e.1) (find R k (es ++ fs)) ≡ None → find R k fs ≡ None)
+    [ true ↦ λ n. absurd (some_none n) | false ↦ λ n. none_back R es fs k n ] h
+
+-- the last key of a list is found
+last_found : {K V : Type 0} {R : K → K → Ordering} (o : IsTotalOrder R) (es : List (K × V)) (e : K × V)
+    → find R e.0 (es ++ e ∷ []) ≡ None → ⊥
+last_found {R = R} o es e none = some_none (sym (find_first o e []) ∙ none_back R es (e ∷ []) e.0 none)
+
+module _ (files : List SavedFile) (findings : List Finding) (files' : List SavedFile) (findings' : List Finding)
+    (more : Grows files findings files' findings') where
+  told_carried : (ppn : ℕ) (e : SpecFileEntry) → IsToldFile files findings ppn e → IsToldFile files' findings' ppn e
+  told_carried ppn e told = ⊎_elim (λ is. inl (more.among (place_of ppn e.0) e.1 is))
+      (λ lost. inr (more.lost (cost.File ppn e.0) lost)) told
+
+  directory_carried : (contents : Contents) (e : SpecMasterEntry) → IsToldDirectory contents files findings e
+      → IsToldDirectory contents files' findings' e
+  directory_carried contents e told nodes last walk name prime found = ⊎_elim
+      (λ is. inl (told_carried e.0 (name, prime) is)) (λ lost. inr (more.lost (cost.Directory e.0) lost))
+      (told nodes last walk name prime found)
+
+-- A file.
+
+module _ (size layout : ℕ) (contents : Contents) (directories : List SpecMasterEntry) (ppn : ℕ) (names : List SpecFileEntry)
+    (files : List SavedFile) (findings : List Finding)
+    (r : IsReadTo size layout contents directories ppn names files findings) (e : SpecFileEntry) where
+  in_more : (g : SavedFile) → IsIn directories ppn names g → IsIn directories ppn (names ++ e ∷ []) g
+  in_more g is = ⊎_elim (λ has. inl has) (λ here. inr (
+    here.0,
+    λ none. here.1 (none_front name_cmp names (e ∷ []) g.stored.prime.file none),
+  )) is
+
+  in_wider : AllByRecursion (IsIn directories ppn (names ++ e ∷ [])) files
+  in_wider = all_each (IsIn directories ppn names) (IsIn directories ppn (names ++ e ∷ [])) files in_more r.places
+
+  -- it was read
+  pub file_added : (f : SavedFile) → find nat_cmp ppn directories ≡ None → find name_cmp e.0 names ≡ None
+      → IsNamedRead size layout contents f → f.at ≡ e.1 → f.stored.prime.ppn ≡ ppn → f.stored.prime.file ≡ e.0
+      → IsReadTo size layout contents directories ppn (names ++ e ∷ []) (files ++ f ∷ []) findings
+  file_added f new_directory new_name read at own_ppn own_name = record {
+    read = all_push (IsNamedRead size layout contents) files f r.read read;
+    places = all_push (IsIn directories ppn (names ++ e ∷ [])) files f in_wider (inr (
+      own_ppn,
+      λ none. last_found name_total names e (ap (λ (k : FileName). find name_cmp k (names ++ e ∷ [])) (sym own_name)
+          ∙ none),
+    ));
+    apart = apart_push files f r.apart (all_both (IsNamedRead size layout contents) (IsIn directories ppn names)
+        (λ g. g.at ≡ f.at → ⊥) files differ r.read r.places);
+    stand = r.stand;
+    told = all_each (IsToldDirectory contents files findings) (IsToldDirectory contents (files ++ f ∷ []) findings)
+        directories (directory_carried files findings (files ++ f ∷ []) findings (one_file_more files findings f)
+        contents) r.told;
+    told_names = all_push (IsToldFile (files ++ f ∷ []) findings ppn) names e
+        (all_each (IsToldFile files findings ppn) (IsToldFile (files ++ f ∷ []) findings ppn) names
+        (told_carried files findings (files ++ f ∷ []) findings (one_file_more files findings f) ppn) r.told_names)
+        (inl (record {
+          file = f;
+          among = Contains-push files f;
+          at_is = at;
+          place_is = λ i. place_of (own_ppn i) (own_name i);
+        }));
+  }
+    where
+      differ : (g : SavedFile) → IsNamedRead size layout contents g → IsIn directories ppn names g → g.at ≡ f.at → ⊥
+      differ g other is same =
+          let place : place_in g ≡ place_in f = same_place size layout contents g f other.read read.read same in
+          let ppns : g.stored.prime.ppn ≡ ppn = ap (λ (p : Place). p.ppn) place ∙ own_ppn in
+          let names_are : g.stored.prime.file ≡ e.0 = ap (λ (p : Place). p.name) place ∙ own_name in
+          ⊎_elim (λ has. has (ap (λ (k : ℕ). find nat_cmp k directories) ppns ∙ new_directory))
+          (λ here. here.1 (ap (λ (k : FileName). find name_cmp k names) names_are ∙ new_name)) is
+
+  -- or what is wrong with it was reported
+  pub file_told : (fault : VolumeError) → IsFaultAt size layout contents fault (cost.File ppn e.0)
+      → IsReadTo size layout contents directories ppn (names ++ e ∷ []) files
+      (findings ++ record { fault = fault; costs = cost.File ppn e.0 } ∷ [])
+  file_told fault stands =
+      let finding : Finding = record { fault = fault; costs = cost.File ppn e.0 } in
+      let more = one_finding_more files findings finding in
+      record {
+        read = r.read;
+        places = in_wider;
+        apart = r.apart;
+        stand = all_push (IsFinding size layout contents) findings finding r.stand stands;
+        told = all_each (IsToldDirectory contents files findings)
+            (IsToldDirectory contents files (findings ++ finding ∷ [])) directories
+            (directory_carried files findings files (findings ++ finding ∷ []) more contents) r.told;
+        told_names = all_push (IsToldFile files (findings ++ finding ∷ []) ppn) names e
+            (all_each (IsToldFile files findings ppn) (IsToldFile files (findings ++ finding ∷ []) ppn) names
+            (told_carried files findings files (findings ++ finding ∷ []) more ppn) r.told_names)
+            (inr (lost_here findings fault (cost.File ppn e.0)));
+      }
+
+-- A file, with what pushing it returns.
+
+pub file_added_on : {T E : Type 0} (size layout : ℕ) (contents : Contents) (directories : List SpecMasterEntry) (ppn : ℕ)
+    (names : List SpecFileEntry) (files files' : List SavedFile) (findings : List Finding) (e : SpecFileEntry) (f : SavedFile)
+    (result : Result T E) → IsReadTo size layout contents directories ppn names files findings
+    → find nat_cmp ppn directories ≡ None → find name_cmp e.0 names ≡ None
+    → IsNamedIn size layout contents ppn e → InSpace size e.1 → IsRead size layout contents f → f.at ≡ e.1
+    → f.stored.prime.ppn ≡ ppn → f.stored.prime.file ≡ e.0 → OnOk result (files' ≡ files ++ f ∷ [])
+    → OnOk result (IsReadTo size layout contents directories ppn (names ++ e ∷ []) files' findings)
+file_added_on size layout contents directories ppn names files files' findings e f result r new_directory new_name named
+    inside read at own_ppn own_name saved = on_ok result
+    (λ pushed. subst
+    (λ (fs : List SavedFile). IsReadTo size layout contents directories ppn (names ++ e ∷ []) fs findings) (sym pushed)
+    (file_added size layout contents directories ppn names files findings r e f new_directory new_name
+    (record {
+      read = read;
+      inside = subst (InSpace size) (sym at) inside;
+      named = subst (λ (p : Place). IsFileNamed size contents layout p f.at)
+          (λ i. place_of (sym own_ppn i) (sym own_name i))
+          (subst (λ (n : ℕ). IsFileNamed size contents layout (place_of ppn e.0) n) (sym at) named);
+    }) at own_ppn own_name)) saved
+
+pub file_told_on : {T E : Type 0} (size layout : ℕ) (contents : Contents) (directories : List SpecMasterEntry) (ppn : ℕ)
+    (names : List SpecFileEntry) (files : List SavedFile) (findings findings' : List Finding) (e : SpecFileEntry)
+    (fault : VolumeError) (result : Result T E) → IsReadTo size layout contents directories ppn names files findings
+    → MayRefuse size layout contents (cost.File ppn e.0) fault
+    → OnOk result (findings' ≡ findings ++ record { fault = fault; costs = cost.File ppn e.0 } ∷ [])
+    → OnOk result (IsNoFault fault → ⊥)
+    → OnOk result (IsReadTo size layout contents directories ppn (names ++ e ∷ []) files findings')
+file_told_on size layout contents directories ppn names files findings findings' e fault result r refused told stands =
+    on_ok_both result
+    (λ pushed is. subst
+    (λ (fs : List Finding). IsReadTo size layout contents directories ppn (names ++ e ∷ []) files fs) (sym pushed)
+    (file_told size layout contents directories ppn names files findings r e fault
+    (fault_stands size layout contents (cost.File ppn e.0) fault refused is))) told stands
+
+-- A directory.
+
+module _ (size layout : ℕ) (contents : Contents) (directories : List SpecMasterEntry) (files : List SavedFile)
+    (findings : List Finding) where
+  -- before its first file
+  pub directory_begun : (ppn other : ℕ) → IsReadTo size layout contents directories other [] files findings
+      → IsReadTo size layout contents directories ppn [] files findings
+  directory_begun ppn other r = record {
+    read = r.read;
+    places = all_each (IsIn directories other []) (IsIn directories ppn []) files
+        (λ g is. ⊎_elim (λ has. inl has) (λ here. absurd (here.1 refl)) is) r.places;
+    apart = r.apart;
+    stand = r.stand;
+    told = r.told;
+    told_names = tt;
+  }
+
+  module _ (e : SpecMasterEntry) where
+    in_one_more : (names : List SpecFileEntry) (g : SavedFile) → IsIn directories e.0 names g
+        → IsIn (directories ++ e ∷ []) 0 [] g
+    in_one_more names g is = ⊎_elim
+        (λ has. inl (λ none. has (none_front nat_cmp directories (e ∷ []) g.stored.prime.ppn none)))
+        (λ here. inl (λ none. last_found nat_cmp_total directories e
+        (ap (λ (k : ℕ). find nat_cmp k (directories ++ e ∷ [])) (sym here.0) ∙ none))) is
+
+    -- after its last file
+    pub directory_read : (names : List SpecFileEntry)
+        → IsReadTo size layout contents directories e.0 names files findings
+        → ((nodes : List (Node SpecFileEntry)) (last : ℕ) → LeadsAlong file_words contents e.1.1 nodes last
+        → (name : FileName) (prime : ℕ) → find name_cmp name (items nodes) ≡ Some prime
+        → find name_cmp name names ≡ Some prime)
+        → IsReadTo size layout contents (directories ++ e ∷ []) 0 [] files findings
+    directory_read names r all = record {
+      read = r.read;
+      places = all_each (IsIn directories e.0 names) (IsIn (directories ++ e ∷ []) 0 []) files (in_one_more names)
+          r.places;
+      apart = r.apart;
+      stand = r.stand;
+      told = all_push (IsToldDirectory contents files findings) directories e r.told
+          (λ nodes last walk name prime found. inl (found_holds name_total name_exact
+          (λ (k : FileName) (n : ℕ). IsToldFile files findings e.0 (k, n)) names name prime r.told_names
+          (all nodes last walk name prime found)));
+      told_names = tt;
+    }
+
+    -- or its chain can't be read
+    pub directory_told : (fault : VolumeError) → IsReadTo size layout contents directories 0 [] files findings
+        → IsFaultAt size layout contents fault (cost.Directory e.0)
+        → IsReadTo size layout contents (directories ++ e ∷ []) 0 [] files
+        (findings ++ record { fault = fault; costs = cost.Directory e.0 } ∷ [])
+    directory_told fault r stands =
+        let finding : Finding = record { fault = fault; costs = cost.Directory e.0 } in
+        let more = one_finding_more files findings finding in
+        let begun = directory_begun e.0 0 r in
+        record {
+          read = r.read;
+          places = all_each (IsIn directories e.0 []) (IsIn (directories ++ e ∷ []) 0 []) files (in_one_more [])
+              begun.places;
+          apart = r.apart;
+          stand = all_push (IsFinding size layout contents) findings finding r.stand stands;
+          told = all_push (IsToldDirectory contents files (findings ++ finding ∷ [])) directories e
+              (all_each (IsToldDirectory contents files findings)
+              (IsToldDirectory contents files (findings ++ finding ∷ [])) directories
+              (directory_carried files findings files (findings ++ finding ∷ []) more contents) r.told)
+              (λ nodes last walk name prime found. inr (lost_here findings fault (cost.Directory e.0)));
+          told_names = tt;
+        }
+
+pub directory_told_on : {T E : Type 0} (size layout : ℕ) (contents : Contents) (directories : List SpecMasterEntry)
+    (files : List SavedFile) (findings findings' : List Finding) (e : SpecMasterEntry) (fault : VolumeError)
+    (result : Result T E) → IsReadTo size layout contents directories 0 [] files findings
+    → MayRefuse size layout contents (cost.Directory e.0) fault
+    → OnOk result (findings' ≡ findings ++ record { fault = fault; costs = cost.Directory e.0 } ∷ [])
+    → OnOk result (IsNoFault fault → ⊥)
+    → OnOk result (IsReadTo size layout contents (directories ++ e ∷ []) 0 [] files findings')
+directory_told_on size layout contents directories files findings findings' e fault result r refused told stands =
+    on_ok_both result
+    (λ pushed is. subst (λ (fs : List Finding). IsReadTo size layout contents (directories ++ e ∷ []) 0 [] files fs)
+    (sym pushed) (directory_told size layout contents directories files findings e fault r
+    (fault_stands size layout contents (cost.Directory e.0) fault refused is))) told stands

@@ -1,0 +1,105 @@
+-- Blocks 0 to 2 stay: no call writes them, and none puts them.
+use Rattle.std.proofs.Common.{◌≡◌, ◌⊎◌, ⊎_elim, inl, ℕ, ◌≤◌, List, refl, ◌∙◌, arith}
+use Rattle.std.specs.List.{AllByRecursion}
+use Rattle.words36.specs.declared.names.FileName.{FileName}
+use Rattle.blockdisk.specs.Common.{Contents, DiskState, MayLeave, Near, Modifies, LeavesOnly, leaves_start, leaves_on}
+use Rattle.blockdisk.specs.Common.{leaves_weaker, modifies_near}
+use Rattle.changeset.specs.Common.{IsGateOrLog, IsPutIn, some_or_none}
+use Rattle.spec_image.specs.declared.put.Put.{Put}
+use Rattle.spec_image.specs.Common.{InSpace, times}
+use Rattle.spec_image.proofs.Common.{fixed_below, each_times}
+use Rattle.alloctab.specs.Common.{bit}
+use Rattle.volume.specs.Common.{HasHomesFrom, KeepsHomes, CurrentMap, CurrentVersion, Before, IsWholeMap, IsMade}
+use Rattle.volume.specs.Common.{IsMovedWithin, IsPublished, IsDirectoryRemoved}
+use Rattle.volume.proofs.common.Puts.{not_put}
+use Rattle.volume.proofs.MakeDir.MadeDirectories.{made_inside}
+use Rattle.volume.proofs.PublishVersion.Puts.{published_apart, published_stays}
+use Rattle.volume.proofs.RenameWithin.Law.{out_of_chain, moved_elsewhere}
+use Rattle.volume.proofs.DeleteDir.Memory.{removed_inside}
+
+-- On the disk.
+
+pub homes_start : (s : DiskState) → ((c : Contents) → s.left_since s.clock c → MayLeave s c)
+    → LeavesOnly s s (HasHomesFrom s)
+homes_start s only_now = leaves_start s (HasHomesFrom s) only_now (λ c left. (c, left, λ n low. refl))
+
+pub homes_on : (s s' s'' : DiskState) → LeavesOnly s s' (HasHomesFrom s) → LeavesOnly s' s'' (HasHomesFrom s')
+    → LeavesOnly s s'' (HasHomesFrom s)
+homes_on s s' s'' first second = leaves_on s s' s'' (HasHomesFrom s) (HasHomesFrom s') first second
+    (λ c from.
+    let was = first.now from.0 from.1 in
+    (was.0, was.1, λ n low. from.2 n low ∙ was.2 n low))
+
+pub homes_near : (In : ℕ → Type 0) (s s' : DiskState) → ((n : ℕ) → n ≤ 2 → In n → ⊥) → LeavesOnly s s' (Near In s)
+    → LeavesOnly s s' (HasHomesFrom s)
+homes_near In s s' out leaves = leaves_weaker s s' (Near In s) (HasHomesFrom s) leaves
+    (λ c near. (near.0, near.1, λ n low. near.2 n (out n low)))
+
+pub homes_modified : (In : ℕ → Type 0) (s s' : DiskState) → ((n : ℕ) → n ≤ 2 → In n → ⊥)
+    → ((c : Contents) → s.left_since s.clock c → MayLeave s c) → Modifies In s s' → LeavesOnly s s' (HasHomesFrom s)
+homes_modified In s s' out only_now modified = homes_near In s s' out (modifies_near In s s' only_now modified)
+
+-- a commit after other writes
+pub homes_written : (In Out : ℕ → Type 0) (s mid s' : DiskState) → ((n : ℕ) → n ≤ 2 → In n → ⊥)
+    → ((n : ℕ) → n ≤ 2 → Out n → ⊥) → ((c : Contents) → s.left_since s.clock c → MayLeave s c) → Modifies In s mid
+    → LeavesOnly mid s' (Near Out mid) → LeavesOnly s s' (HasHomesFrom s)
+homes_written In Out s mid s' out later only_now modified near =
+    homes_on s mid s' (homes_modified In s mid out only_now modified) (homes_near Out mid s' later near)
+
+pub homes_stay : (In : ℕ → Type 0) (s s' : DiskState) → ((n : ℕ) → n ≤ 2 → In n → ⊥) → Modifies In s s'
+    → KeepsHomes s.contents s'.contents
+homes_stay In s s' out modified n low = modified.contents n (out n low)
+
+-- Gate and log come later.
+pub past_homes : (size : ℕ) (puts : List Put) → ((n : ℕ) → n ≤ 2 → IsPutIn puts n → ⊥) → (n : ℕ) → n ≤ 2
+    → IsGateOrLog size n ⊎ IsPutIn puts n → ⊥
+past_homes size puts low n small = ⊎_elim (λ log. let from = log.0 in omega arith) (low n small)
+
+-- So does the free space,
+pub space_past : (size n : ℕ) → n ≤ 2 → InSpace size n → ⊥
+space_past size n low there = let from = there.from in omega arith
+
+pub out_of : (size : ℕ) (blocks : List ℕ) → AllByRecursion (InSpace size) blocks → (n : ℕ) → n ≤ 2
+    → times n blocks ≡ 0
+out_of size blocks inside n low = ⊎_elim
+    (λ there. absurd (space_past size n low (each_times (InSpace size) blocks n inside there)))
+    (λ none. none) (some_or_none (times n blocks))
+
+-- and a clear bit is one of it.
+pub clear_past : (size : ℕ) (k : CurrentMap) → IsWholeMap size k → (n : ℕ) → n ≤ 2 → bit k.table n ≡ 0 → ⊥
+clear_past size k whole n low clear =
+    let one = fixed_below size n (omega arith) in
+    let bits = whole.bits n in
+    omega arith
+
+-- The puts of each call.
+
+pub made_low : (size : ℕ) (k k' : CurrentMap) (ppn protection first : ℕ) (puts : List Put) (whole : IsWholeMap size k)
+    (made : IsMade size k k' ppn protection first puts) → (n : ℕ) → n ≤ 2 → IsPutIn puts n → ⊥
+made_low size k k' ppn protection first puts whole made n low =
+    not_put puts n (λ c. made.put.others c n (inl (omega arith))
+    ∙ made.entered.put.others c n (out_of size k'.master.blocks
+    (made_inside size k k' ppn protection first puts whole made) n low))
+
+pub unmade_low : (size : ℕ) (k k' : CurrentMap) (ppn : ℕ) (puts : List Put) (whole : IsWholeMap size k)
+    (removed : IsDirectoryRemoved size k k' ppn puts) → (n : ℕ) → n ≤ 2 → IsPutIn puts n → ⊥
+unmade_low size k k' ppn puts whole removed n low =
+    not_put puts n (λ c. removed.put.others c n (inl (omega arith))
+    ∙ removed.put_chain.others c n (out_of size k'.master.blocks (removed_inside size k k' ppn puts whole removed)
+    n low))
+
+pub published_low : (size : ℕ) (k k' : CurrentMap) (ppn : ℕ) (name : FileName) (at : ℕ) (v : CurrentVersion) (old : Before)
+    (puts : List Put) (whole : IsWholeMap size k) (is : IsPublished size k k' ppn name at v old puts) → (n : ℕ)
+    → n ≤ 2 → IsPutIn puts n → ⊥
+published_low size k k' ppn name at v old puts whole is n low =
+    not_put puts n (λ c. published_stays size k k' ppn name at v old puts whole is c n (inl (omega arith))
+    (published_apart size k k' ppn name at v old puts whole is n (inl (omega arith))))
+
+pub moved_low : (size : ℕ) (k k' : CurrentMap) (ppn : ℕ) (name to : FileName) (old : ℕ × CurrentVersion) (v : CurrentVersion)
+    (words : List ℕ) (puts : List Put) (whole : IsWholeMap size k)
+    (is : IsMovedWithin size k k' ppn name to old v words puts) → InSpace size old.0 → (n : ℕ) → n ≤ 2
+    → IsPutIn puts n → ⊥
+moved_low size k k' ppn name to old v words puts whole is inside n low =
+    moved_elsewhere size k k' ppn name to old v words puts whole is n
+    (λ same. let from = inside.from in omega arith)
+    (out_of_chain size k k' ppn name to old v words puts whole is n (inl (omega arith)))

@@ -1,4 +1,0 @@
-use Rattle.volume.proofs.map.Volume.can_pin.Goals as goal
-
-pub returns-clause-many : goal.returns-clause-many
-returns-clause-many g c = rw (← c.self.view_is) c.have_few_readers.ensures.many
