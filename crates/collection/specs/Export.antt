@@ -8,7 +8,7 @@ use Rattle.spec_machine.specs.declared.call.Reply.{Reply}
 use Rattle.spec_language.specs.declared.encoding.Encoding.{Encoding}
 use Rattle.spec_language.specs.declared.encoding.Encoding.TheVariants.{Characters, Octets, Words}
 use Rattle.spec_image.specs.declared.entry.Entry.{Entry}
-use Rattle.commands.specs.Common.{AreAsked, HasEntries, HasExported, takes_out, Machine}
+use Rattle.commands.specs.Common.{AreAsked, HasEntries, HasExported, export_plan, Machine}
 use Rattle.commands.specs.declared.answer.Tally.{Tally}
 use Rattle.commands.specs.declared.error.SessionError.{SessionError}
 use Rattle.commands.specs.declared.error.SessionError.TheVariants.{NoMemory}
@@ -62,7 +62,7 @@ pub record IsTakenOut {S : Type 0} (facts : FileFacts) (machine : S → Machine)
   pub first : at_first at
   pub exported : Result Exported AllocError
   pub read : HasExported machine old new asked entry.mode
-      (takes_out at (record { name = entry.name; owner = Some owner })) exported
+      (export_plan at (record { name = entry.name; owner = Some owner })) exported
   pub changed : Option Moment
   pub change : IsChangeOf entry changed
   pub stored : IsStored facts path changed exported sink full result

@@ -10,7 +10,7 @@ use Rattle.spec_machine.specs.declared.call.Reply.{Reply}
 use Rattle.spec_machine.specs.declared.call.Reply.TheVariants.{Refused}
 use Rattle.spec_language.specs.declared.encoding.Encoding.{Encoding}
 use Rattle.spec_language.specs.declared.encoding.Encoding.TheVariants.{Characters, Octets}
-use Rattle.commands.specs.Common.{FollowsPlan, followed, keeps_as, Imported, Machine, most_bytes}
+use Rattle.commands.specs.Common.{FollowsPlan, followed, put_plan_as, Imported, Machine, most_bytes}
 use Rattle.commands.specs.declared.answer.Tally.{Tally}
 use Rattle.commands.specs.declared.error.SessionError.{SessionError}
 use Rattle.commands.specs.declared.existing.Existing.TheVariants.{Refuse}
@@ -52,7 +52,7 @@ pub record IsImported {S : Type 0} (machine : S → Machine) (task : ImportTask)
   pub encoding : Encoding
   pub says : IsEncodingFor task.encoding source.bytes.items encoding
   pub imported : Imported sink full machine old new encoding (label_of path text) source.bytes.items
-      (keeps_as Refuse at task.owner encoding (own_file name)) result
+      (put_plan_as Refuse at task.owner encoding (own_file name)) result
 
 -- What became of a file that was read: it was put, or its last change was at a time that no file can have.
 abbrev pub IsSourcePut : {S : Type 0} → (S → Machine) → ImportTask → List ℕ → List ℕ → FileName → Source

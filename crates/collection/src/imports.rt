@@ -12,7 +12,7 @@ use crate::clock::first_moment;
 use crate::host_names::{Named, name_for};
 use crate::lines::{added, label, turn_down};
 use crate::paths::owner_text;
-use crate::report::{report, tell_collision};
+use crate::report::{report, report_collision};
 use crate::{HostFiles, ImportTask, Source};
 use blockdisk::Disk;
 use commands::{
@@ -57,7 +57,7 @@ fn moment_for(task: &ImportTask<'_>, source: &Source) -> Option<Moment>
 }
 
 /// Tells people why the bytes of a file can't be put, if they can't.
-fn tell_misfit<E: Write>(errors: &mut E, path: &str, put: &Result<Tally, SessionError>) {
+fn report_misfit<E: Write>(errors: &mut E, path: &str, put: &Result<Tally, SessionError>) {
     let Ok(
         Tally {
             reason: Some(Reason::Input(misfit)),
@@ -116,7 +116,7 @@ fn put_source<W: Write, E: Write, D: Disk>(
         bytes: &source.bytes,
     };
     let put = import(alloc, writer, monitor, &file);
-    tell_misfit(errors, named.path, &put);
+    report_misfit(errors, named.path, &put);
     put
 }
 
@@ -149,7 +149,7 @@ fn import_one<H: HostFiles, W: Write, E: Write, D: Disk>(
 }
 
 /// Tells people which of the files before a refused one has the same name, if one has.
-fn tell_same_name<E: Write>(alloc: Global, task: &ImportTask<'_>, place: usize, errors: &mut E) {
+fn report_same_name<E: Write>(alloc: Global, task: &ImportTask<'_>, place: usize, errors: &mut E) {
     let (before, rest) = task.paths.as_slice().split_at(place.min(task.paths.len()));
     let Some(path) = rest.first() else {
         return;
@@ -161,7 +161,7 @@ fn tell_same_name<E: Write>(alloc: Global, task: &ImportTask<'_>, place: usize, 
         if let Ok(Some(earlier)) = name_for(alloc, other, task.shortens)
             && earlier.name == named.name
         {
-            tell_collision(errors, path, other);
+            report_collision(errors, path, other);
             return;
         }
     }
@@ -193,7 +193,7 @@ fn import_all<H: HostFiles, W: Write, E: Write, D: Disk>(
         let path = path_at(task, place);
         let one = import_one(host, alloc, task, path, monitor, writer, errors)?;
         if one.refused {
-            tell_same_name(alloc, task, place, errors);
+            report_same_name(alloc, task, place, errors);
         }
         tally = added(tally, one);
     }

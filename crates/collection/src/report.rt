@@ -25,7 +25,7 @@ pub(crate) fn report<E: Write, T: Display>(errors: &mut E, path: &str, what: &T)
 }
 
 /// Tells people that another file of the host was put under the name of this one.
-pub(crate) fn tell_collision<E: Write>(errors: &mut E, path: &str, other: &str) {
+pub(crate) fn report_collision<E: Write>(errors: &mut E, path: &str, other: &str) {
     report(
         errors,
         path,

@@ -263,7 +263,7 @@ fn costing_nothing(fault: VolumeError) -> Finding
 }
 
 /// Writes the line of a fault, if it is wanted.
-fn tell_finding<W: Write>(
+fn report_finding<W: Write>(
     alloc: Global,
     task: &ExportTask<'_>,
     finding: Finding,
@@ -285,7 +285,7 @@ fn tell_finding<W: Write>(
 }
 
 /// Writes the lines of these faults.
-fn tell_findings<W: Write>(
+fn report_findings<W: Write>(
     alloc: Global,
     task: &ExportTask<'_>,
     findings: &[Finding],
@@ -296,14 +296,14 @@ fn tell_findings<W: Write>(
 {
     let mut tally = Tally::none();
     for finding in findings {
-        let one = tell_finding(alloc, task, *finding, writer)?;
+        let one = report_finding(alloc, task, *finding, writer)?;
         tally = added(tally, one);
     }
     Ok(tally)
 }
 
 /// Writes the first lines: for a log that isn't valid though the gate is open, and for blocks that couldn't be read.
-fn tell_copy<W: Write>(
+fn report_copy<W: Write>(
     alloc: Global,
     task: &ExportTask<'_>,
     copied: &Copied,
@@ -319,7 +319,7 @@ fn tell_copy<W: Write>(
     let faults = &faults[..];
     let first = if copied.has_bad_log { 0 } else { 1 };
     let end = if copied.unread > 0 { 2 } else { 1 };
-    tell_findings(alloc, task, &faults[first..end], writer)
+    report_findings(alloc, task, &faults[first..end], writer)
 }
 
 /// Makes a file of the host from each file that a survey of this copy found, at a path where there is none:
@@ -344,9 +344,9 @@ pub fn save_survey<H: HostFiles, W: Write, E: Write>(
         (head_findings copied.old.has_bad_log copied.old.unread) found.now.files.items found.now.findings.items
         (W.contents writer.old) (W.contents writer.new) copied.old.disk copied.new.disk result }
 {
-    let first = tell_copy(alloc, task, copied, writer)?;
+    let first = report_copy(alloc, task, copied, writer)?;
     let files = found.files.as_slice();
     let saved = save_files(host, alloc, task, files, &mut copied.disk, writer, errors)?;
-    let told = tell_findings(alloc, task, found.findings.as_slice(), writer)?;
+    let told = report_findings(alloc, task, found.findings.as_slice(), writer)?;
     Ok(added(added(first, saved), told))
 }

@@ -13,7 +13,7 @@ use Rattle.spec_machine.specs.declared.call.Reply.TheVariants.{Done, Value, Refu
 use Rattle.spec_machine.specs.declared.call.Reply.TheVariants.{NoJob, NoMemory, Device, Failed, DateRange}
 use Rattle.spec_language.specs.declared.command.Spec.{Spec}
 use Rattle.spec_language.specs.declared.encoding.Encoding.{Encoding}
-use Rattle.commands.specs.Common.{FollowsPlan, followed, absent, if_absent, keeps_as, looks_for, makes_way}
+use Rattle.commands.specs.Common.{FollowsPlan, followed, absent, if_absent, put_plan_as, looks_for, makes_way}
 use Rattle.commands.specs.Common.{AlwaysStands}
 use Rattle.commands.specs.Common.{IsAnswered, Machine}
 use Rattle.commands.specs.declared.existing.Existing.{Existing}
@@ -59,13 +59,13 @@ module _ {S : Type 0} (machine : S → Machine) (stands : AlwaysStands machine) 
 -- The plan of a put, by what happens to a file that has its name.
 
 pub keeps_some : (existing : Existing) (moment : Moment) (owner : ℕ) (encoding : Encoding) (spec : Spec)
-    (words : List ℕ) → keeps_as existing moment owner encoding spec (Some words)
+    (words : List ℕ) → put_plan_as existing moment owner encoding spec (Some words)
     ≡ each moment (login_events owner) (makes_way existing moment spec (each moment (create_events moment encoding spec)
     (filled_then moment encoding words (ends moment ok))))
 keeps_some Replace moment owner encoding spec words = refl
 keeps_some Refuse moment owner encoding spec words = refl
 
 pub keeps_none : (existing : Existing) (moment : Moment) (owner : ℕ) (encoding : Encoding) (spec : Spec)
-    → keeps_as existing moment owner encoding spec None ≡ Say (complains (unfit encoding))
+    → put_plan_as existing moment owner encoding spec None ≡ Say (complains (unfit encoding))
 keeps_none Replace moment owner encoding spec = refl
 keeps_none Refuse moment owner encoding spec = refl

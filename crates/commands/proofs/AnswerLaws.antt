@@ -4,7 +4,7 @@ use Rattle.std.proofs.Common.{Some, None, Result, Ok, Err, IfOk, unwrap_or}
 use Rattle.std.specs.Prelude.{codes}
 use Rattle.words36.specs.declared.moment.Moment.{Moment}
 use Rattle.spec_language.specs.Common.{Spoken, complains, refuses, prints, refusal, is_broken, greeting, line}
-use Rattle.spec_language.specs.Common.{list_text, list_said, Act, Asks, Looks, Plan, Show, Say, RunsPlan, begins}
+use Rattle.spec_language.specs.Common.{list_text, list_said, Act, Asks, Looks, Plan, Show, Say, RunsPlan, line_plan}
 use Rattle.spec_language.specs.Common.{fails, ends, ok, Speaks, core_words}
 use Rattle.spec_image.specs.declared.entry.Entry.{Entry}
 use Rattle.spec_language.specs.declared.style.Style.{Style}
@@ -140,12 +140,12 @@ module _ {V E S : Type 0} (machine : S → Machine) (stands : AlwaysStands machi
 
   -- A line that needs a job, led to its end.
   pub spoke_concluded : (old mid new : S) (me : ℕ) (command : Command) (rest : Plan)
-      → ((acts : List Act) (said : Spoken) → RunsPlan (begins moment me command) acts said
+      → ((acts : List Act) (said : Spoken) → RunsPlan (line_plan moment me command) acts said
       → Speaks moment (Some me) (Some command) acts said (Some me))
-      → FollowsPlan machine old mid (begins moment me command) rest → FinishesPlan bytes result machine mid new rest tally counted
+      → FollowsPlan machine old mid (line_plan moment me command) rest → FinishesPlan bytes result machine mid new rest tally counted
       → CommandDone bytes result machine old new moment (Some me) (Some me) tally counted (Some command)
   spoke_concluded old mid new me command rest speaks led p =
-      let whole = led_on machine old mid new (begins moment me command) rest (Say p.said) led p.led in
+      let whole = led_on machine old mid new (line_plan moment me command) rest (Say p.said) led p.led in
       record {
         acts = whole.acts;
         said = p.said;

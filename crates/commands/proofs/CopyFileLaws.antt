@@ -4,7 +4,7 @@ use Rattle.std.proofs.Common.{◌∙◌, ap, subst, arith}
 use Rattle.words36.specs.declared.moment.Moment.{Moment}
 use Rattle.spec_language.specs.Common.{Plan, each, examines, fails, lookup_events, enter_events, list_events, in_event}
 use Rattle.spec_language.specs.Common.{out_event, call_event}
-use Rattle.spec_language.specs.Common.{copies_runs, copies_blocks, copies_last, copies_body, until_end, blocks_said}
+use Rattle.spec_language.specs.Common.{copy_runs_plan, copy_blocks_plan, copy_last_plan, copy_body_plan, until_end, blocks_said}
 use Rattle.spec_language.specs.Common.{file_words, blocks_at_once}
 use Rattle.spec_language.specs.declared.command.Spec.{Spec}
 use Rattle.spec_machine.specs.declared.call.Call.TheVariants.{Close}
@@ -28,27 +28,27 @@ pub each_both : (moment : Moment) (asked : List Event) (events more : List Event
 each_both moment asked events more next e = each_append moment events more next
     ∙ ap (λ (l : List Event). each moment l (each moment more next)) (sym e)
 
-run_copied : (moment : Moment) (more : ℕ) (next : Plan) → copies_runs moment (suc more) next
-    ≡ each moment (in_event moment ∷ out_event moment ∷ []) (copies_runs moment more next)
-unfolding copies_runs
+run_copied : (moment : Moment) (more : ℕ) (next : Plan) → copy_runs_plan moment (suc more) next
+    ≡ each moment (in_event moment ∷ out_event moment ∷ []) (copy_runs_plan moment more next)
+unfolding copy_runs_plan
 run_copied moment more next = refl
 
-none_copied : (moment : Moment) (next : Plan) → copies_runs moment 0 next ≡ next
-unfolding copies_runs
+none_copied : (moment : Moment) (next : Plan) → copy_runs_plan moment 0 next ≡ next
+unfolding copy_runs_plan
 none_copied moment next = refl
 
 one_before : (more : ℕ) → more ≡ suc more - 1
 one_before more = omega arith
 
 body_copied : (moment : Moment) (blocks size : ℕ) (next : Plan) → 0 < blocks
-    → copies_body moment blocks size next ≡ copies_blocks moment (blocks - 1) (copies_last moment blocks size next)
+    → copy_body_plan moment blocks size next ≡ copy_blocks_plan moment (blocks - 1) (copy_last_plan moment blocks size next)
 body_copied moment zero size next h = absurd (omega arith)
 body_copied moment (suc more) size next h = ap
-    (λ (k : ℕ). copies_blocks moment k (copies_last moment (suc more) size next)) (one_before more)
+    (λ (k : ℕ). copy_blocks_plan moment k (copy_last_plan moment (suc more) size next)) (one_before more)
 
 none_in_body : (moment : Moment) (blocks size : ℕ) (next : Plan) → blocks ≡ 0
-    → copies_body moment blocks size next ≡ next
-none_in_body moment blocks size next e = ap (λ (k : ℕ). copies_body moment k size next) e
+    → copy_body_plan moment blocks size next ≡ next
+none_in_body moment blocks size next e = ap (λ (k : ℕ). copy_body_plan moment k size next) e
 
 module _ {S : Type 0} (machine : S → Machine) where
   -- the events of a plan that begins with these
@@ -69,50 +69,50 @@ module _ {S : Type 0} (machine : S → Machine) where
   module _ (a b c : S) (moment : Moment) (count i : ℕ) (asked : List Event) (is_asked : asked
       ≡ in_event moment ∷ out_event moment ∷ []) (h : i < count)
       (before : (next : Plan)
-      → FollowsPlan machine a b (copies_runs moment count next) (copies_runs moment (count - i) next)) where
-    run_led : (next rest : Plan) → FollowsPlan machine b c (each moment asked (copies_runs moment (count - (i + 1)) next))
-        rest → FollowsPlan machine a c (copies_runs moment count next) rest
+      → FollowsPlan machine a b (copy_runs_plan moment count next) (copy_runs_plan moment (count - i) next)) where
+    run_led : (next rest : Plan) → FollowsPlan machine b c (each moment asked (copy_runs_plan moment (count - (i + 1)) next))
+        rest → FollowsPlan machine a c (copy_runs_plan moment count next) rest
     run_led next rest p =
-        led_on machine a b c (copies_runs moment count next) (copies_runs moment (count - i) next) rest
+        led_on machine a b c (copy_runs_plan moment count next) (copy_runs_plan moment (count - i) next) rest
         (before next)
         (subst (λ (l : Plan). FollowsPlan machine b c l rest)
-        (sym (ap (λ (k : ℕ). copies_runs moment k next) (one_less count i h)
+        (sym (ap (λ (k : ℕ). copy_runs_plan moment k next) (one_less count i h)
         ∙ run_copied moment (count - (i + 1)) next))
-        (led_each b c moment asked (in_event moment ∷ out_event moment ∷ []) (copies_runs moment (count - (i + 1)) next)
+        (led_each b c moment asked (in_event moment ∷ out_event moment ∷ []) (copy_runs_plan moment (count - (i + 1)) next)
         rest is_asked p))
 
     pub runs_more : ((next : Plan) → FollowsPlan machine b c (each moment asked next) next) → (next : Plan)
-        → FollowsPlan machine a c (copies_runs moment count next) (copies_runs moment (count - (i + 1)) next)
-    runs_more p next = run_led next (copies_runs moment (count - (i + 1)) next)
-        (p (copies_runs moment (count - (i + 1)) next))
+        → FollowsPlan machine a c (copy_runs_plan moment count next) (copy_runs_plan moment (count - (i + 1)) next)
+    runs_more p next = run_led next (copy_runs_plan moment (count - (i + 1)) next)
+        (p (copy_runs_plan moment (count - (i + 1)) next))
 
     pub runs_fail : (reply : Reply) → ((next : Plan) → FollowsPlan machine b c (each moment asked next) (fails moment reply))
-        → (next : Plan) → FollowsPlan machine a c (copies_runs moment count next) (fails moment reply)
-    runs_fail reply p next = run_led next (fails moment reply) (p (copies_runs moment (count - (i + 1)) next))
+        → (next : Plan) → FollowsPlan machine a c (copy_runs_plan moment count next) (fails moment reply)
+    runs_fail reply p next = run_led next (fails moment reply) (p (copy_runs_plan moment (count - (i + 1)) next))
 
   pub runs_all : (a b : S) (moment : Moment) (count i : ℕ) → count ≤ i
-      → ((next : Plan) → FollowsPlan machine a b (copies_runs moment count next) (copies_runs moment (count - i) next))
-      → (next : Plan) → FollowsPlan machine a b (copies_runs moment count next) next
-  runs_all a b moment count i h p next = subst (λ (l : Plan). FollowsPlan machine a b (copies_runs moment count next) l)
-      (ap (λ (k : ℕ). copies_runs moment k next) (all_less count i h) ∙ none_copied moment next) (p next)
+      → ((next : Plan) → FollowsPlan machine a b (copy_runs_plan moment count next) (copy_runs_plan moment (count - i) next))
+      → (next : Plan) → FollowsPlan machine a b (copy_runs_plan moment count next) next
+  runs_all a b moment count i h p next = subst (λ (l : Plan). FollowsPlan machine a b (copy_runs_plan moment count next) l)
+      (ap (λ (k : ℕ). copy_runs_plan moment k next) (all_less count i h) ∙ none_copied moment next) (p next)
 
   pub runs_none : AlwaysStands machine → (a : S) (moment : Moment) (count : ℕ) (next : Plan)
-      → FollowsPlan machine a a (copies_runs moment count next) (copies_runs moment (count - 0) next)
+      → FollowsPlan machine a a (copy_runs_plan moment count next) (copy_runs_plan moment (count - 0) next)
   runs_none stands a moment count next = subst
-      (λ (k : ℕ). FollowsPlan machine a a (copies_runs moment count next) (copies_runs moment k next))
-      (sym (none_less count)) (led_still machine stands a (copies_runs moment count next))
+      (λ (k : ℕ). FollowsPlan machine a a (copy_runs_plan moment count next) (copy_runs_plan moment k next))
+      (sym (none_less count)) (led_still machine stands a (copy_runs_plan moment count next))
 
   -- A body.
 
   pub body_none : AlwaysStands machine → (a : S) (moment : Moment) (blocks size : ℕ) (next : Plan) → blocks ≡ 0
-      → FollowsPlan machine a a (copies_body moment blocks size next) next
+      → FollowsPlan machine a a (copy_body_plan moment blocks size next) next
   body_none stands a moment blocks size next e = subst (λ (l : Plan). FollowsPlan machine a a l next)
       (sym (none_in_body moment blocks size next e)) (led_still machine stands a next)
 
   -- whole blocks come first
   pub body_led : (a b : S) (moment : Moment) (blocks size : ℕ) (next rest : Plan) → 0 < blocks
-      → FollowsPlan machine a b (copies_blocks moment (blocks - 1) (copies_last moment blocks size next)) rest
-      → FollowsPlan machine a b (copies_body moment blocks size next) rest
+      → FollowsPlan machine a b (copy_blocks_plan moment (blocks - 1) (copy_last_plan moment blocks size next)) rest
+      → FollowsPlan machine a b (copy_body_plan moment blocks size next) rest
   body_led a b moment blocks size next rest h p = subst (λ (l : Plan). FollowsPlan machine a b l rest)
       (sym (body_copied moment blocks size next h)) p
 
@@ -146,10 +146,10 @@ not_none n h = omega arith
 -- The rest of whole blocks: the runs, and then the blocks that don't fill a run.
 
 abbrev pub singles_behind : Moment → ℕ → Plan → Plan
-singles_behind moment blocks next = each moment (list_events 128) (copies_runs moment (blocks % blocks_at_once) next)
+singles_behind moment blocks next = each moment (list_events 128) (copy_runs_plan moment (blocks % blocks_at_once) next)
 
 abbrev pub runs_behind : Moment → ℕ → Plan → Plan
-runs_behind moment blocks next = copies_runs moment (blocks / blocks_at_once) (singles_behind moment blocks next)
+runs_behind moment blocks next = copy_runs_plan moment (blocks / blocks_at_once) (singles_behind moment blocks next)
 
 -- The plan of a copy: all of it, the rest after its size is known, and the rest after its words are moved.
 
@@ -157,7 +157,7 @@ abbrev pub closed_then : Moment → Plan → Plan
 closed_then moment next = each moment (call_event moment (Close 2 0) ∷ []) next
 
 abbrev pub copied_then : Moment → Plan → ℕ → Plan
-copied_then moment next size = copies_body moment (blocks_said size) size (until_end moment (closed_then moment next))
+copied_then moment next size = copy_body_plan moment (blocks_said size) size (until_end moment (closed_then moment next))
 
 abbrev pub copied_all : Moment → Spec → Spec → Plan → Plan
 copied_all moment to from next = each moment (lookup_events moment from ++ enter_events moment to ++ list_events 128)

@@ -5,7 +5,7 @@ use Rattle.std.specs.Prelude.{IsErrOf}
 use Rattle.std.specs.Io.KnownBytes.{Appends, Consumes, IsAtEnd}
 use Rattle.std.proofs.KnownBytes.{Appends-nil}
 use Rattle.words36.specs.declared.moment.Moment.{Moment}
-use Rattle.spec_language.specs.Common.{AreWords, surveys, volume_line, Act, Plan, Say, Spoken, complains, refuses}
+use Rattle.spec_language.specs.Common.{AreWords, list_plan, volume_line, Act, Plan, Say, Spoken, complains, refuses}
 use Rattle.spec_language.specs.Common.{refusal, is_broken, line}
 use Rattle.spec_machine.specs.Common.{State, room as room_in, Serving}
 use Rattle.spec_language.specs.declared.style.Style.{Style}
@@ -240,10 +240,10 @@ not_asked {V = V} reply failed (inr is) fails =
 pub surveyed : {S : Type 0} (machine : S → Machine) (moment : Moment) (style : Style) (sink full : Option (List ℕ))
     (a b : S)
     (shown owners : List ℕ) (result : Result Tally SessionError) → shown ≡ owners
-    → Errand sink full machine a b (surveys moment style shown) result
-    → Errand sink full machine a b (surveys moment style owners) result
+    → Errand sink full machine a b (list_plan moment style shown) result
+    → Errand sink full machine a b (list_plan moment style owners) result
 surveyed machine moment style sink full a b shown owners result same p =
-    subst (λ (l : List ℕ). Errand sink full machine a b (surveys moment style l) result) same p
+    subst (λ (l : List ℕ). Errand sink full machine a b (list_plan moment style l) result) same p
 
 -- The line about a volume.
 module _ {V E : Type 0} (machine : Machine) (bytes : V → List ℕ) where

@@ -6,8 +6,8 @@ use Rattle.words36.specs.Common.{word_bytes, IsOctet, IsWord}
 use Rattle.words36.specs.declared.moment.Moment.{Moment}
 use Rattle.spec_language.specs.Common.{AreWords, operator, Act, Asks, Looks, Plan, Show, Say, Leads, blocks_said}
 use Rattle.spec_language.specs.Common.{call_event, each, ends, examines, fails, file_words, lookup_events, list_events}
-use Rattle.spec_language.specs.Common.{reads_file}
-use Rattle.spec_language.specs.Common.{types_body, until_end, Spoken, file_said, prints, refuses, core_words}
+use Rattle.spec_language.specs.Common.{read_plan}
+use Rattle.spec_language.specs.Common.{type_body_plan, until_end, Spoken, file_said, prints, refuses, core_words}
 use Rattle.spec_machine.specs.declared.call.Call.TheVariants.{Reset}
 use Rattle.spec_machine.specs.declared.call.Event.{Event}
 use Rattle.spec_machine.specs.declared.call.Event.TheVariants.{Login}
@@ -60,19 +60,19 @@ module _ (words : List ℕ) (order : List Encoding) (first second : Encoding) (i
 module _ {V E X S : Type 0} (machine : S → Machine) (items : V → List ℕ) (a b c : S) (moment : Moment) (spec : Spec)
     (read : Result X Reply) (before after : Typed)
     (p : HasTyped machine a b moment (λ next. each moment (lookup_events moment spec ++ list_events 128)
-    (examines moment (file_words + 3) (λ size. types_body moment (blocks_said size) size
+    (examines moment (file_words + 3) (λ size. type_body_plan moment (blocks_said size) size
     (λ words. until_end moment (next words))))) read before after)
     (closed : (said : Spoken) → FollowsPlan machine b c (ends moment said) (Say said)) where
   pub words_out : (x : X) (result : Result V E) → read ≡ Ok x → AreTyped ListTarget before []
       → ((words : List ℕ) → AreTyped ListTarget after words → IfOk result (λ v. items v ≡ words))
-      → HasWordsRead items (Ok result) machine a c (reads_file moment Words spec)
+      → HasWordsRead items (Ok result) machine a c (read_plan moment Words spec)
   words_out x result e fresh kept =
       let q = subst (λ (r : Result X Reply). HasTyped machine a b moment (λ next. each moment
-      (lookup_events moment spec ++ list_events 128) (examines moment (file_words + 3) (λ size. types_body moment (blocks_said size)
+      (lookup_events moment spec ++ list_events 128) (examines moment (file_words + 3) (λ size. type_body_plan moment (blocks_said size)
       size (λ words. until_end moment (next words))))) r before after) e p in
       record {
         said = file_said Words q.words;
-        led = led_on machine a b c (reads_file moment Words spec) (ends moment (file_said Words q.words))
+        led = led_on machine a b c (read_plan moment Words spec) (ends moment (file_said Words q.words))
             (Say (file_said Words q.words)) (q.led (λ words. ends moment (file_said Words words)))
             (closed (file_said Words q.words));
         says = by result q.words (kept q.words (q.types ListTarget [] fresh));
@@ -84,14 +84,14 @@ module _ {V E X S : Type 0} (machine : S → Machine) (items : V → List ℕ) (
       by (Err error) words same = (words, refl)
 
   pub words_refused : (reply : Reply) → read ≡ Err reply
-      → HasWordsRead {V = V} {E = E} items (Err reply) machine a c (reads_file moment Words spec)
+      → HasWordsRead {V = V} {E = E} items (Err reply) machine a c (read_plan moment Words spec)
   words_refused reply e =
       let q = subst (λ (r : Result X Reply). HasTyped machine a b moment (λ next. each moment
-      (lookup_events moment spec ++ list_events 128) (examines moment (file_words + 3) (λ size. types_body moment (blocks_said size)
+      (lookup_events moment spec ++ list_events 128) (examines moment (file_words + 3) (λ size. type_body_plan moment (blocks_said size)
       size (λ words. until_end moment (next words))))) r before after) e p in
       record {
         said = refuses reply;
-        led = led_on machine a b c (reads_file moment Words spec) (ends moment (refuses reply)) (Say (refuses reply))
+        led = led_on machine a b c (read_plan moment Words spec) (ends moment (refuses reply)) (Say (refuses reply))
             (q.led (λ words. ends moment (file_said Words words))) (closed (refuses reply));
         says = refl;
       }

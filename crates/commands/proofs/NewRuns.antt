@@ -11,7 +11,7 @@ use Rattle.std.proofs.lemmas.List.{get_or-set_other}
 use Rattle.words36.specs.Common.{join}
 use Rattle.words36.specs.declared.moment.Moment.{Moment}
 use Rattle.spec_language.specs.Common.{Comes, HasHalfwordExtension, IsLineRefused, IsPut, made, place_of, put_mode}
-use Rattle.spec_language.specs.Common.{create_events, fills_all, parts_of, Plan, Ask, open_events, call_event, each}
+use Rattle.spec_language.specs.Common.{create_events, fill_all_plan, parts_of, Plan, Ask, open_events, call_event, each}
 use Rattle.spec_language.specs.Common.{ends, fails}
 use Rattle.spec_language.specs.Common.{file_words, name_events, ok, open_words, Spoken, core_words}
 use Rattle.spec_machine.specs.Common.{after_writes, first_free, lies_outside, placed, rings_begin, with_right}
@@ -37,7 +37,7 @@ use Rattle.spec_language.proofs.Common.{with_open, AllDone, answered_files, aske
 use Rattle.spec_language.proofs.Common.{split_done, PutsCharacters, characters_begun, characters_done, ring_channel}
 use Rattle.spec_language.proofs.Common.{words_begun, is_job, ring_base, login_done, quiet_creates}
 use Rattle.spec_machine.proofs.Common.{spared, writes_length, settled_by, IsQuiet, quiet_files, no_last}
-use Rattle.commands.specs.Common.{absent, if_absent, keeps_new, looks_for, IsFree}
+use Rattle.commands.specs.Common.{absent, if_absent, put_plan_new, looks_for, IsFree}
 
 -- Job 1 logs in.
 
@@ -179,7 +179,7 @@ module _ (pack : Pack) (s : State) (j0 : SpecJob) (there : job_at s 1 ≡ Some j
 
 abbrev put_then : Moment → Encoding → Spec → List ℕ → Plan
 put_then moment encoding spec words = each moment (create_events moment encoding spec)
-    (fills_all moment encoding words (each moment (call_event moment (Close 2 0) ∷ []) (ends moment ok)))
+    (fill_all_plan moment encoding words (each moment (call_event moment (Close 2 0) ∷ []) (ends moment ok)))
 
 module _ (pack : Pack) (s : State) (j0 : SpecJob) (there : job_at s 1 ≡ Some j0) (moment : Moment) (me : ℕ)
     (spec : Spec) (few : HasHalfwordExtension spec) (words : List ℕ) (said : Spoken) (new : Service) where
@@ -190,7 +190,7 @@ module _ (pack : Pack) (s : State) (j0 : SpecJob) (there : job_at s 1 ≡ Some j
   closing = each moment (call_event moment (Close 2 0) ∷ []) (ends moment ok)
 
   abbrev fills : Encoding → Plan
-  fills encoding = fills_all moment encoding words closing
+  fills encoding = fill_all_plan moment encoding words closing
 
   put_by : (encoding : Encoding) (j : SpecJob) (t : State) → IsJob me j → slice_index j.core first_free ≡ rings_begin
       → AllDone pack (at s j) (create_events moment encoding spec) t
@@ -301,7 +301,7 @@ module _ (pack : Pack) (s : State) (j0 : SpecJob) (there : job_at s 1 ≡ Some j
 
 pub new_puts_are_exact : (pack : Pack) (moment : Moment) (me : ℕ) (s : State) (encoding : Encoding) (spec : Spec)
     (words : List ℕ) (said : Spoken) (new : Service) → 1 < length s.jobs → HasHalfwordExtension spec
-    → Comes pack (Serving s) (keeps_new moment me encoding spec (Some words)) said new
+    → Comes pack (Serving s) (put_plan_new moment me encoding spec (Some words)) said new
     → (IsPut moment me s encoding spec words said new × IsFree me s spec) ⊎ IsLineRefused s.files said new
 unfolding each
 new_puts_are_exact pack moment me s encoding spec words said new there few come = ⊎_elim inr

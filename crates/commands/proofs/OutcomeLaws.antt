@@ -7,7 +7,7 @@ use Rattle.std.specs.declared.alloc.AllocError.{AllocError}
 use Rattle.words36.specs.Common.{word_bytes, IsWord}
 use Rattle.words36.specs.declared.moment.Moment.{Moment}
 use Rattle.spec_language.specs.Common.{AreShort, HasFiles, IsLineRefused, IsPrinted, HasHalfwordExtension}
-use Rattle.spec_language.specs.Common.{IsRefusedAt, AreWords, gets, keeps, operator, unfit, Act, Say, RunsPlan, ok}
+use Rattle.spec_language.specs.Common.{IsRefusedAt, AreWords, get_plan, put_plan, operator, unfit, Act, Say, RunsPlan, ok}
 use Rattle.spec_language.specs.Common.{Spoken, complains, prints, refuses, Went}
 use Rattle.spec_image.specs.Common.{Files, SpecVersion, Pack}
 use Rattle.spec_machine.specs.Common.{State, Service, Serving}
@@ -16,7 +16,7 @@ use Rattle.spec_language.specs.declared.command.Spec.{Spec}
 use Rattle.spec_language.specs.declared.encoding.Encoding.{Encoding}
 use Rattle.spec_language.specs.declared.encoding.Encoding.TheVariants.{Words}
 use Rattle.spec_language.proofs.Common.{put_refusals, get_refusals, puts_are_exact, gets_are_exact, no_reply}
-use Rattle.commands.specs.Common.{Machine, keeps_new, no_room, Exports, ExportsWords, takes_out, said_behind}
+use Rattle.commands.specs.Common.{Machine, put_plan_new, no_room, Exports, ExportsWords, export_plan, said_behind}
 use Rattle.commands.specs.Common.{IsStored, IsStoredNew, DeliveriesKeepFiles, DeliveriesMakeFiles, ErrandsShowFiles}
 use Rattle.commands.specs.Common.{AreReadOf, ExportsShowFiles, ImportsMakeFiles, IsExportOf, BeginsNoFile, spoken}
 use Rattle.commands.specs.declared.export_file.Exported.{Exported}
@@ -55,7 +55,7 @@ whole encoding read words are (inr none) = absurd (not_both encoding read words 
 delivered : (pack : Pack) (s : State) (moment : Moment) (me : ℕ) (encoding : Encoding) (spec : Spec) (at_end : Type 0)
     (read : List ℕ) (words : Option (List ℕ)) (acts : List Act) (said : Spoken) (last : Service) → 1 < length s.jobs
     → HasHalfwordExtension spec → at_end ⊎ BeginsNoFile encoding read
-    → AreWords encoding read words → RunsPlan (keeps moment me encoding spec words) acts said
+    → AreWords encoding read words → RunsPlan (put_plan moment me encoding spec words) acts said
     → Went pack (Serving s) acts last → IsStored moment me s encoding spec at_end read acts said last
 delivered pack s moment me encoding spec at_end read None acts said last there few ended are led went =
     let c = complained pack s acts (unfit encoding) said last led went in
@@ -75,7 +75,7 @@ delivered pack s moment me encoding spec at_end read (Some words) acts said last
 delivered_new : (pack : Pack) (s : State) (moment : Moment) (me : ℕ) (encoding : Encoding) (spec : Spec)
     (at_end : Type 0) (read : List ℕ) (words : Option (List ℕ)) (acts : List Act) (said : Spoken) (last : Service)
     → 1 < length s.jobs → HasHalfwordExtension spec → at_end ⊎ BeginsNoFile encoding read
-    → AreWords encoding read words → RunsPlan (keeps_new moment me encoding spec words) acts said
+    → AreWords encoding read words → RunsPlan (put_plan_new moment me encoding spec words) acts said
     → Went pack (Serving s) acts last → IsStoredNew moment me s encoding spec at_end read said last
 delivered_new pack s moment me encoding spec at_end read None acts said last there few ended are led went =
     let c = complained pack s acts (unfit encoding) said last led went in
@@ -88,7 +88,7 @@ delivered_new pack s moment me encoding spec at_end read (Some words) acts said 
 -- the same for a file that is got
 got : (pack : Pack) (s : State) (moment : Moment) (me : ℕ) (encoding : Encoding) (spec : Spec) (acts : List Act)
     (said : Spoken) (last : Service) → 1 < length s.jobs → HasHalfwordExtension spec → AreShort s.files
-    → RunsPlan (gets moment me encoding spec) acts said → Went pack (Serving s) acts last
+    → RunsPlan (get_plan moment me encoding spec) acts said → Went pack (Serving s) acts last
     → IsPrinted me s encoding spec said last ⊎ (IsLineRefused s.files said last × IsRefusedAt moment acts said)
 got pack s moment me encoding spec acts said last there few short led went = ⊎_elim inl
     (λ refused. inr (
@@ -118,7 +118,7 @@ module _ (pack : Pack) (s : State) (moment : Moment) (asked : Option Encoding) (
   abbrev IsOut : Exported → Type 0
   IsOut exported = HasFiles s.files last × IsExportOf moment asked mode s spec acts exported
 
-  words_out : (exported : Exported) → ExportsWords asked mode (takes_out moment spec) acts exported → IsOut exported
+  words_out : (exported : Exported) → ExportsWords asked mode (export_plan moment spec) acts exported → IsOut exported
   words_out exported (words, fit, led, is) =
       let said = prints (flat_map word_bytes words) in
       ⊎_elim
@@ -135,14 +135,14 @@ module _ (pack : Pack) (s : State) (moment : Moment) (asked : Option Encoding) (
       (λ refused. absurd (not_refused said said (says_refused s.files said last refused.0) refl refl))
       (got pack s moment operator Words spec acts said last there few short led went)
 
-  refused_out : (reply : Reply) → RunsPlan (takes_out moment spec) acts (refuses reply) → IsOut (Refused reply)
+  refused_out : (reply : Reply) → RunsPlan (export_plan moment spec) acts (refuses reply) → IsOut (Refused reply)
   refused_out reply led = ⊎_elim
       (λ printed. absurd (no_reply Words printed.0.0.file.body reply (sym printed.0.2)))
       (λ refused. (refused.0.1, inr (reply, refl, refused.1)))
       (got pack s moment operator Words spec acts (refuses reply) last there few short led went)
 
   taken_out : (exported : Exported)
-      → Exports {E = AllocError} asked mode (takes_out moment spec) acts (Ok exported) → IsOut exported
+      → Exports {E = AllocError} asked mode (export_plan moment spec) acts (Ok exported) → IsOut exported
   taken_out (File encoding bytes) out = words_out (File encoding bytes) out
   taken_out (Refused reply) out = refused_out reply out
   taken_out NotBytes out = words_out NotBytes out
@@ -186,7 +186,7 @@ module _ {S : Type 0} (machine : S → Machine) where
       let stored : (said : Spoken) × (told ≡ said_behind label said)
       × IsStoredNew moment me s encoding spec (Unit {0}) bytes said end.0 =
       ⊎_elim
-      (λ done. let inner = unlabelled label (keeps_new moment me encoding spec done.1) p.acts told done.3 in (
+      (λ done. let inner = unlabelled label (put_plan_new moment me encoding spec done.1) p.acts told done.3 in (
         inner.0,
         inner.2,
         delivered_new (machine old).pack s moment me encoding spec (Unit {0}) bytes done.1 p.acts

@@ -4,7 +4,7 @@ use Rattle.std.proofs.Common.{drop, length, get_or, min, arith, Bool, true, fals
 use Rattle.std.proofs.lemmas.Bool.Decides.{nat_tests}
 use Rattle.std.proofs.lemmas.List.{drop_more, drop_all, take_all, length-drop}
 use Rattle.words36.specs.declared.moment.Moment.{Moment}
-use Rattle.spec_language.specs.Common.{create_events, fill_events, fills_parts, fills_all, size_events, part_address}
+use Rattle.spec_language.specs.Common.{create_events, fill_events, fill_parts_plan, fill_all_plan, size_events, part_address}
 use Rattle.spec_language.specs.Common.{part_words}
 use Rattle.spec_language.specs.Common.{parts_of, Plan, each, fails, deposit_events, call_event}
 use Rattle.spec_machine.specs.declared.call.Call.TheVariants.{Close}
@@ -90,30 +90,30 @@ no_parts Words n e = omega arith
 no_parts Octets n e = omega arith
 
 part_filled : (moment : Moment) (encoding : Encoding) (more : ℕ) (words : List ℕ) (next : Plan)
-    → fills_parts moment encoding (suc more) words next
+    → fill_parts_plan moment encoding (suc more) words next
     ≡ each moment (fill_events moment encoding (take (part_words encoding) words))
-    (fills_parts moment encoding more (drop (part_words encoding) words) next)
-unfolding fills_parts
+    (fill_parts_plan moment encoding more (drop (part_words encoding) words) next)
+unfolding fill_parts_plan
 part_filled moment encoding more words next = refl
 
 -- the first part, and those after it
 pub first_part : (moment : Moment) (encoding : Encoding) (words part rest : List ℕ) (next : Plan) → 0 < length words
     → part ≡ take (part_words encoding) words → rest ≡ drop (part_words encoding) words
-    → fills_all moment encoding words next ≡ each moment (fill_events moment encoding part)
-    (fills_all moment encoding rest next)
+    → fill_all_plan moment encoding words next ≡ each moment (fill_events moment encoding part)
+    (fill_all_plan moment encoding rest next)
 first_part moment encoding words part rest next h is_part is_rest =
     let behind = drop (part_words encoding) words in
     let count : parts_of encoding (length words) ≡ suc (parts_of encoding (length behind)) =
     some_parts encoding (length words) h
     ∙ ap (λ (n : ℕ). suc (parts_of encoding n)) (sym (length-drop (part_words encoding) words)) in
-    ap (λ (n : ℕ). fills_parts moment encoding n words next) count
+    ap (λ (n : ℕ). fill_parts_plan moment encoding n words next) count
     ∙ part_filled moment encoding (parts_of encoding (length behind)) words next
-    ∙ (λ i. each moment (fill_events moment encoding (sym is_part i)) (fills_all moment encoding (sym is_rest i) next))
+    ∙ (λ i. each moment (fill_events moment encoding (sym is_part i)) (fill_all_plan moment encoding (sym is_rest i) next))
 
 pub no_part : (moment : Moment) (encoding : Encoding) (words : List ℕ) (next : Plan) → length words ≡ 0
-    → fills_all moment encoding words next ≡ next
-unfolding fills_parts
-no_part moment encoding words next none = ap (λ (n : ℕ). fills_parts moment encoding n words next)
+    → fill_all_plan moment encoding words next ≡ next
+unfolding fill_parts_plan
+no_part moment encoding words next none = ap (λ (n : ℕ). fill_parts_plan moment encoding n words next)
     (no_parts encoding (length words) none)
 
 -- the part that is cut off at the end of a part or of all
@@ -144,36 +144,36 @@ rest_shorter encoding words after h e =
 module _ {S : Type 0} (machine : S → Machine) (moment : Moment) (encoding : Encoding) (words : List ℕ) where
   abbrev pub Filled : S → S → List ℕ → Type 0
   Filled a b rest = (next : Plan)
-      → FollowsPlan machine a b (fills_all moment encoding words next) (fills_all moment encoding rest next)
+      → FollowsPlan machine a b (fill_all_plan moment encoding words next) (fill_all_plan moment encoding rest next)
 
   pub filled_none : AlwaysStands machine → (a : S) → Filled a a words
-  filled_none stands a next = led_still machine stands a (fills_all moment encoding words next)
+  filled_none stands a next = led_still machine stands a (fill_all_plan moment encoding words next)
 
   module _ (a b c : S) (rest part after : List ℕ) (h : 0 < length rest)
       (is_part : part ≡ take (part_words encoding) rest) (is_after : after ≡ drop (part_words encoding) rest)
       (p : Filled a b rest) where
     part_then : (next end : Plan)
-        → FollowsPlan machine b c (each moment (fill_events moment encoding part) (fills_all moment encoding after next)) end
-        → FollowsPlan machine a c (fills_all moment encoding words next) end
-    part_then next end q = led_on machine a b c (fills_all moment encoding words next)
-        (fills_all moment encoding rest next) end (p next)
+        → FollowsPlan machine b c (each moment (fill_events moment encoding part) (fill_all_plan moment encoding after next)) end
+        → FollowsPlan machine a c (fill_all_plan moment encoding words next) end
+    part_then next end q = led_on machine a b c (fill_all_plan moment encoding words next)
+        (fill_all_plan moment encoding rest next) end (p next)
         (subst (λ (l : Plan). FollowsPlan machine b c l end)
         (sym (first_part moment encoding rest part after next h is_part is_after)) q)
 
     pub filled_more : ((next : Plan) → FollowsPlan machine b c (each moment (fill_events moment encoding part) next) next)
         → Filled a c after
-    filled_more filled next = part_then next (fills_all moment encoding after next)
-        (filled (fills_all moment encoding after next))
+    filled_more filled next = part_then next (fill_all_plan moment encoding after next)
+        (filled (fill_all_plan moment encoding after next))
 
     pub filled_broken : (reply : Reply)
         → ((next : Plan) → FollowsPlan machine b c (each moment (fill_events moment encoding part) next) (fails moment reply))
-        → (next : Plan) → FollowsPlan machine a c (fills_all moment encoding words next) (fails moment reply)
+        → (next : Plan) → FollowsPlan machine a c (fill_all_plan moment encoding words next) (fails moment reply)
     filled_broken reply broken next = part_then next (fails moment reply)
-        (broken (fills_all moment encoding after next))
+        (broken (fill_all_plan moment encoding after next))
 
   pub filled_all : (a b : S) (rest : List ℕ) → length rest ≡ 0 → Filled a b rest → (next : Plan)
-      → FollowsPlan machine a b (fills_all moment encoding words next) next
-  filled_all a b rest none p next = subst (λ (l : Plan). FollowsPlan machine a b (fills_all moment encoding words next) l)
+      → FollowsPlan machine a b (fill_all_plan moment encoding words next) next
+  filled_all a b rest none p next = subst (λ (l : Plan). FollowsPlan machine a b (fill_all_plan moment encoding words next) l)
       (no_part moment encoding rest next none) (p next)
 
 -- A file: the rest after the job has logged in, after the file is entered, after its words are put.
@@ -182,7 +182,7 @@ abbrev pub closed_then : Moment → Plan → Plan
 closed_then moment next = each moment (call_event moment (Close 2 0) ∷ []) next
 
 abbrev pub filled_then : Moment → Encoding → List ℕ → Plan → Plan
-filled_then moment encoding words next = fills_all moment encoding words (closed_then moment next)
+filled_then moment encoding words next = fill_all_plan moment encoding words (closed_then moment next)
 
 abbrev pub created_then : Moment → Encoding → Spec → List ℕ → Plan → Plan
 created_then moment encoding spec words next = each moment (create_events moment encoding spec)

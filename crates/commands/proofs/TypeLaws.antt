@@ -10,8 +10,8 @@ use Rattle.std.specs.Simd.{first_chunks}
 use Rattle.words36.specs.declared.moment.Moment.{Moment}
 use Rattle.spec_language.specs.Common.{Plan, Say, each, examines, fetches, sizes, lookup_events, list_events, in_event}
 use Rattle.spec_language.specs.Common.{useti_event, ends}
-use Rattle.spec_language.specs.Common.{fails, file_words, block_address, blocks_said, types_blocks, types_last}
-use Rattle.spec_language.specs.Common.{types_body, until_end, reads_file, blocks_at_once, types_runs, Spoken, typed}
+use Rattle.spec_language.specs.Common.{fails, file_words, block_address, blocks_said, type_blocks_plan, type_last_plan}
+use Rattle.spec_language.specs.Common.{type_body_plan, until_end, read_plan, blocks_at_once, type_runs_plan, Spoken, typed}
 use Rattle.spec_language.specs.Common.{file_said, refuses, refusal, is_broken, line}
 use Rattle.words36.specs.Common.{word_bytes, block_bytes}
 use Rattle.spec_language.specs.declared.encoding.Encoding.{Encoding}
@@ -270,25 +270,25 @@ module _ {S : Type 0} (machine : S → Machine) where
   module _ (moment : Moment) (runs count : ℕ) where
     -- the rest of a plan when this many INs are left
     abbrev pub Ran : S → S → ℕ → Typed → Typed → Type 0
-    Ran a b left before after = HasRead a b (types_runs moment runs count) (types_runs moment left count) before after
+    Ran a b left before after = HasRead a b (type_runs_plan moment runs count) (type_runs_plan moment left count) before after
 
     module _ (a b c : S) (left more : ℕ) (before mid : Typed) (is_more : left ≡ suc more)
         (p : Ran a b left before mid) where
       abbrev behind_run : (List ℕ → Plan) → List ℕ → Plan
-      behind_run next words = types_runs moment more count (λ others. next (words ++ others))
+      behind_run next words = type_runs_plan moment more count (λ others. next (words ++ others))
 
       abbrev takes_run : (List ℕ → Plan) → Plan
       takes_run next = each moment (in_event moment ∷ []) (fetches moment count block_address (behind_run next))
 
-      next_run : HasRead a b (types_runs moment runs count) takes_run before mid
-      unfolding types_runs
-      next_run = subst (λ n. HasRead a b (types_runs moment runs count) (types_runs moment n count) before mid)
+      next_run : HasRead a b (type_runs_plan moment runs count) takes_run before mid
+      unfolding type_runs_plan
+      next_run = subst (λ n. HasRead a b (type_runs_plan moment runs count) (type_runs_plan moment n count) before mid)
           is_more p
 
       pub no_run : {X : Type 0} (result : Result X Reply) (reply : Reply) → result ≡ Err reply
           → ((next : Plan) → FollowsPlan machine b c (each moment (in_event moment ∷ []) next) (fails moment reply))
-          → HasTyped machine a c moment (types_runs moment runs count) result before mid
-      no_run result reply e failed = read_until a b c moment (types_runs moment runs count) takes_run before mid
+          → HasTyped machine a c moment (type_runs_plan moment runs count) result before mid
+      no_run result reply e failed = read_until a b c moment (type_runs_plan moment runs count) takes_run before mid
           result reply e next_run (λ next. failed (fetches moment count block_address (behind_run next)))
 
       module _ (took : (next : Plan) → FollowsPlan machine b c (each moment (in_event moment ∷ []) next) next) (d : S)
@@ -296,12 +296,12 @@ module _ {S : Type 0} (machine : S → Machine) where
         pub no_words : {X Y : Type 0} (read : Result Y Reply) (result : Result X Reply) (reply : Reply)
             → read ≡ Err reply → result ≡ Err reply
             → HasTyped machine c d moment (fetches moment count block_address) read mid after
-            → HasTyped machine a d moment (types_runs moment runs count) result before after
+            → HasTyped machine a d moment (type_runs_plan moment runs count) result before after
         no_words {X = X} {Y = Y} read result reply was is words =
             let q = subst (λ (r : Result Y Reply). HasTyped machine c d moment (fetches moment count block_address) r
             mid after) was words in
             let was_read = next_run in
-            subst (λ (r : Result X Reply). HasTyped machine a d moment (types_runs moment runs count) r before after)
+            subst (λ (r : Result X Reply). HasTyped machine a d moment (type_runs_plan moment runs count) r before after)
             (sym is) (record {
               words = was_read.words ++ q.words;
               types = put_more before mid after was_read.words q.words was_read.types q.types;
@@ -314,41 +314,41 @@ module _ {S : Type 0} (machine : S → Machine) where
         pub read_run : {Y : Type 0} (y : Y)
             → HasTyped machine c d moment (fetches moment count block_address) (Ok y) mid after
             → Ran a d more before after
-        read_run y q = read_more a b d (types_runs moment runs count) takes_run (types_runs moment more count)
+        read_run y q = read_more a b d (type_runs_plan moment runs count) takes_run (type_runs_plan moment more count)
             before mid after q.words next_run
             (λ next. led_then (took (fetches moment count block_address (behind_run next))) (q.led (behind_run next)))
             q.types
 
     pub read_runs : {X : Type 0} (a b : S) (left : ℕ) (before after : Typed) (x : X) → left ≡ zero
-        → Ran a b left before after → HasTyped machine a b moment (types_runs moment runs count) (Ok x) before after
-    unfolding types_runs
+        → Ran a b left before after → HasTyped machine a b moment (type_runs_plan moment runs count) (Ok x) before after
+    unfolding type_runs_plan
     read_runs a b left before after x e p = record {
       words = p.words;
       types = p.types;
-      led = λ next. subst (λ (l : List ℕ). FollowsPlan machine a b (types_runs moment runs count next) (next l))
+      led = λ next. subst (λ (l : List ℕ). FollowsPlan machine a b (type_runs_plan moment runs count next) (next l))
           (append-nil p.words)
-          (subst (λ n. FollowsPlan machine a b (types_runs moment runs count next)
-          (types_runs moment n count (λ others. next (p.words ++ others)))) e (p.led next));
+          (subst (λ n. FollowsPlan machine a b (type_runs_plan moment runs count next)
+          (type_runs_plan moment n count (λ others. next (p.words ++ others)))) e (p.led next));
     }
 
   -- Whole blocks: a list is named, and words are moved by it.
 
   module _ (moment : Moment) (runs count : ℕ) where
     abbrev pub types_listed : (List ℕ → Plan) → Plan
-    types_listed next = each moment (list_events count) (types_runs moment runs count next)
+    types_listed next = each moment (list_events count) (type_runs_plan moment runs count next)
 
     pub no_listed : {X : Type 0} (a b : S) (t : Typed) (result : Result X Reply) (reply : Reply) → result ≡ Err reply
         → ((next : Plan) → FollowsPlan machine a b (each moment (list_events count) next) (fails moment reply))
         → HasTyped machine a b moment types_listed result t t
     no_listed a b t result reply e failed = failed_at a b moment types_listed t result reply e
-        (λ next. failed (types_runs moment runs count next))
+        (λ next. failed (type_runs_plan moment runs count next))
 
     pub read_listed : {X : Type 0} (a b c : S) (before after : Typed) (result : Result X Reply)
         → ((next : Plan) → FollowsPlan machine a b (each moment (list_events count) next) next)
-        → HasTyped machine b c moment (types_runs moment runs count) result before after
+        → HasTyped machine b c moment (type_runs_plan moment runs count) result before after
         → HasTyped machine a c moment types_listed result before after
     read_listed a b c before after result listed p = typed_behind a b c moment types_listed
-        (types_runs moment runs count) before after result (λ next. listed (types_runs moment runs count next)) p
+        (type_runs_plan moment runs count) before after result (λ next. listed (type_runs_plan moment runs count next)) p
 
   module _ (moment : Moment) (blocks : ℕ) where
     abbrev by_runs : (List ℕ → Plan) → Plan
@@ -363,14 +363,14 @@ module _ {S : Type 0} (machine : S → Machine) where
     -- the line ends in the runs
     pub no_blocks : {X Y : Type 0} (a b : S) (before after : Typed) (read : Result Y Reply) (result : Result X Reply)
         (reply : Reply) → read ≡ Err reply → result ≡ Err reply → HasTyped machine a b moment by_runs read before after
-        → HasTyped machine a b moment (types_blocks moment blocks) result before after
+        → HasTyped machine a b moment (type_blocks_plan moment blocks) result before after
     no_blocks a b before after read result reply was is p =
         typed_until a b moment by_runs behind_runs before after read result reply was is p
 
     pub read_blocks : {X Y : Type 0} (a b c : S) (before mid after : Typed) (y : Y) (result : Result X Reply)
         → HasTyped machine a b moment by_runs (Ok y) before mid
         → HasTyped machine b c moment one_by_one result mid after
-        → HasTyped machine a c moment (types_blocks moment blocks) result before after
+        → HasTyped machine a c moment (type_blocks_plan moment blocks) result before after
     read_blocks a b c before mid after y result p q =
         typed_both a b c moment by_runs one_by_one before mid after y result p q
 
@@ -379,20 +379,20 @@ module _ {S : Type 0} (machine : S → Machine) where
   pub not_counted : {X : Type 0} (a b : S) (moment : Moment) (n size : ℕ) (t : Typed) (result : Result X Reply)
       (reply : Reply) → result ≡ Err reply
       → ((next : ℕ → Plan) → FollowsPlan machine a b (sizes moment n size next) (fails moment reply))
-      → HasTyped machine a b moment (types_last moment n size) result t t
+      → HasTyped machine a b moment (type_last_plan moment n size) result t t
   not_counted a b moment n size t result reply e failed =
-      failed_at a b moment (types_last moment n size) t result reply e
+      failed_at a b moment (type_last_plan moment n size) t result reply e
       (λ next. failed (λ m. each moment (list_events m ++ useti_event moment n ∷ in_event moment ∷ [])
       (fetches moment m block_address next)))
 
   module _ (a b : S) (moment : Moment) (n size : ℕ) (count : ℕ) (counted : (next : ℕ → Plan)
       → FollowsPlan machine a b (sizes moment n size next) (next count)) where
     pub last_at : (next : List ℕ → Plan)
-        → FollowsPlan machine a b (types_last moment n size next)
+        → FollowsPlan machine a b (type_last_plan moment n size next)
         (each moment (list_events count)
         (each moment (useti_event moment n ∷ in_event moment ∷ []) (fetches moment count block_address next)))
     last_at next =
-        subst (λ (p : Plan). FollowsPlan machine a b (types_last moment n size next) p)
+        subst (λ (p : Plan). FollowsPlan machine a b (type_last_plan moment n size next) p)
         (each_append moment (list_events count) (useti_event moment n ∷ in_event moment ∷ [])
         (fetches moment count block_address next))
         (counted (λ m. each moment (list_events m ++ useti_event moment n ∷ in_event moment ∷ [])
@@ -401,9 +401,9 @@ module _ {S : Type 0} (machine : S → Machine) where
     module _ (c : S) (t : Typed) where
       pub no_list : {X : Type 0} (result : Result X Reply) (reply : Reply) → result ≡ Err reply
           → ((next : Plan) → FollowsPlan machine b c (each moment (list_events count) next) (fails moment reply))
-          → HasTyped machine a c moment (types_last moment n size) result t t
+          → HasTyped machine a c moment (type_last_plan moment n size) result t t
       no_list result reply e failed =
-          failed_at a c moment (types_last moment n size) t result reply e
+          failed_at a c moment (type_last_plan moment n size) t result reply e
           (λ next. led_then (last_at next)
           (failed (each moment (useti_event moment n ∷ in_event moment ∷ []) (fetches moment count block_address next))))
 
@@ -411,9 +411,9 @@ module _ {S : Type 0} (machine : S → Machine) where
         pub no_last : {X : Type 0} (result : Result X Reply) (reply : Reply) → result ≡ Err reply
             → ((next : Plan)
             → FollowsPlan machine c d (each moment (useti_event moment n ∷ in_event moment ∷ []) next) (fails moment reply))
-            → HasTyped machine a d moment (types_last moment n size) result t t
+            → HasTyped machine a d moment (type_last_plan moment n size) result t t
         no_last result reply e failed =
-            failed_at a d moment (types_last moment n size) t result reply e
+            failed_at a d moment (type_last_plan moment n size) t result reply e
             (λ next. led_then (last_at next)
             (led_then (listed (each moment (useti_event moment n ∷ in_event moment ∷ [])
             (fetches moment count block_address next))) (failed (fetches moment count block_address next))))
@@ -421,46 +421,46 @@ module _ {S : Type 0} (machine : S → Machine) where
         module _ (took : (next : Plan) → FollowsPlan machine c d (each moment (useti_event moment n ∷ in_event moment ∷ []) next) next)
             (e : S) where
           last_fetches : (next : List ℕ → Plan)
-              → FollowsPlan machine a d (types_last moment n size next) (fetches moment count block_address next)
+              → FollowsPlan machine a d (type_last_plan moment n size next) (fetches moment count block_address next)
           last_fetches next = led_then (last_at next)
               (led_then (listed (each moment (useti_event moment n ∷ in_event moment ∷ [])
               (fetches moment count block_address next))) (took (fetches moment count block_address next)))
 
           pub read_last : {X : Type 0} (result : Result X Reply) (after : Typed)
               → HasTyped machine d e moment (fetches moment count block_address) result t after
-              → HasTyped machine a e moment (types_last moment n size) result t after
-          read_last result after words = typed_behind a d e moment (types_last moment n size)
+              → HasTyped machine a e moment (type_last_plan moment n size) result t after
+          read_last result after words = typed_behind a d e moment (type_last_plan moment n size)
               (fetches moment count block_address) t after result last_fetches words
 
   -- All of a body.
 
   pub read_nothing : {X : Type 0} → AlwaysStands machine
       → (a : S) (moment : Moment) (blocks : ℕ) (size : ℕ) (t : Typed) (x : X) → blocks ≡ zero
-      → HasTyped machine a a moment (types_body moment blocks size) (Ok x) t t
+      → HasTyped machine a a moment (type_body_plan moment blocks size) (Ok x) t t
   read_nothing {X = X} stands a moment blocks size t x e =
-      subst (λ n. HasTyped {X = X} machine a a moment (types_body moment n size) (Ok x) t t) (sym e)
+      subst (λ n. HasTyped {X = X} machine a a moment (type_body_plan moment n size) (Ok x) t t) (sym e)
       (record { words = []; types = put_none t; led = λ next. led_still machine stands a (next []) })
 
   pub read_body : {X Y : Type 0} (a b c : S) (moment : Moment) (blocks : ℕ) (more : ℕ) (size : ℕ)
       (before mid after : Typed) (y : Y) (result : Result X Reply) → blocks ≡ suc more
-      → HasTyped machine a b moment (types_blocks moment more) (Ok y) before mid
-      → HasTyped machine b c moment (types_last moment blocks size) result mid after
-      → HasTyped machine a c moment (types_body moment blocks size) result before after
+      → HasTyped machine a b moment (type_blocks_plan moment more) (Ok y) before mid
+      → HasTyped machine b c moment (type_last_plan moment blocks size) result mid after
+      → HasTyped machine a c moment (type_body_plan moment blocks size) result before after
   read_body a b c moment blocks more size before mid after y result e p q =
-      let last = subst (λ n. HasTyped machine b c moment (types_last moment n size) result mid after) e q in
-      subst (λ n. HasTyped machine a c moment (types_body moment n size) result before after) (sym e)
-      (typed_both a b c moment (types_blocks moment more) (types_last moment (suc more) size) before mid after y result
+      let last = subst (λ n. HasTyped machine b c moment (type_last_plan moment n size) result mid after) e q in
+      subst (λ n. HasTyped machine a c moment (type_body_plan moment n size) result before after) (sym e)
+      (typed_both a b c moment (type_blocks_plan moment more) (type_last_plan moment (suc more) size) before mid after y result
       p last)
 
   pub no_body : {X Y : Type 0} (a b : S) (moment : Moment) (blocks : ℕ) (more : ℕ) (size : ℕ) (before after : Typed)
       (blocks_read : Result Y Reply) (result : Result X Reply) (reply : Reply) → blocks ≡ suc more
       → blocks_read ≡ Err reply → result ≡ Err reply
-      → HasTyped machine a b moment (types_blocks moment more) blocks_read before after
-      → HasTyped machine a b moment (types_body moment blocks size) result before after
+      → HasTyped machine a b moment (type_blocks_plan moment more) blocks_read before after
+      → HasTyped machine a b moment (type_body_plan moment blocks size) result before after
   no_body a b moment blocks more size before after blocks_read result reply e was is p =
-      subst (λ n. HasTyped machine a b moment (types_body moment n size) result before after) (sym e)
-      (typed_until a b moment (types_blocks moment more)
-      (λ next words. types_last moment (suc more) size (λ others. next (words ++ others))) before after blocks_read
+      subst (λ n. HasTyped machine a b moment (type_body_plan moment n size) result before after) (sym e)
+      (typed_until a b moment (type_blocks_plan moment more)
+      (λ next words. type_last_plan moment (suc more) size (λ others. next (words ++ others))) before after blocks_read
       result reply was is p)
 
   -- A file that is looked up.
@@ -470,7 +470,7 @@ module _ {S : Type 0} (machine : S → Machine) where
     plan next = each moment (lookup_events moment spec ++ list_events 128) (examines moment (file_words + 3) next)
 
     abbrev behind : ℕ → (List ℕ → Plan) → Plan
-    behind size next = types_body moment (blocks_said size) size (λ words. until_end moment (next words))
+    behind size next = type_body_plan moment (blocks_said size) size (λ words. until_end moment (next words))
 
     opened_at : (next : ℕ → Plan)
         → plan next ≡ each moment (lookup_events moment spec) (each moment (list_events 128) (examines moment (file_words + 3) next))
@@ -513,11 +513,11 @@ module _ {S : Type 0} (machine : S → Machine) where
         (before after : Typed) where
       pub not_read : {X Y : Type 0} (body : Result Y Reply) (result : Result X Reply) (reply : Reply) → body ≡ Err reply
           → result ≡ Err reply
-          → HasTyped machine b c moment (types_body moment (blocks_said size) size) body before after
+          → HasTyped machine b c moment (type_body_plan moment (blocks_said size) size) body before after
           → HasTyped machine a c moment (λ next. plan (λ size. behind size next)) result before after
       not_read {X = X} {Y = Y} body result reply was is p =
           let q = subst (λ (r : Result Y Reply). HasTyped machine b c moment
-          (types_body moment (blocks_said size) size) r before after) was p in
+          (type_body_plan moment (blocks_said size) size) r before after) was p in
           subst (λ (r : Result X Reply). HasTyped machine a c moment (λ next. plan (λ size. behind size next))
           r before after) (sym is) (record {
             words = q.words;
@@ -526,7 +526,7 @@ module _ {S : Type 0} (machine : S → Machine) where
           })
 
       pub read_file : {X Y : Type 0} (d : S) (y : Y) (result : Result X Reply)
-          → HasTyped machine b c moment (types_body moment (blocks_said size) size) (Ok y) before after
+          → HasTyped machine b c moment (type_body_plan moment (blocks_said size) size) (Ok y) before after
           → ((next : Plan) → FollowsPlan machine c d (until_end moment next) (followed moment result (λ unit. next)))
           → HasTyped machine a d moment (λ next. plan (λ size. behind size next)) result before after
       read_file d y result p ended = record {
@@ -546,7 +546,7 @@ module _ {S : Type 0} (machine : S → Machine) where
     pub typed_out : (x : X) → read ≡ Ok x → AreTyped (Text encoding) before []
         → ((words : List ℕ) → AreTyped (Text encoding) after words
         → Tells bytes result (file_said encoding words) tally counted)
-        → FinishesPlan bytes result machine a c (reads_file moment encoding spec) tally counted
+        → FinishesPlan bytes result machine a c (read_plan moment encoding spec) tally counted
     typed_out x e fresh tells =
         let q = subst (λ (r : Result X Reply). HasTyped machine a b moment
         (λ next. plan a b moment spec (λ size. behind a b moment spec size next)) r before after) e p in
@@ -565,7 +565,7 @@ module _ {S : Type 0} (machine : S → Machine) where
     pub typed_refused : (reply : Reply) (words : List ℕ) (broken : Bool) → read ≡ Err reply → words ≡ refusal reply
         → broken ≡ is_broken reply → counted.refused ≡ true → counted.broke ≡ tally.broke || broken
         → counted.reason ≡ tally.reason → IfOk result (λ v. bytes v ≡ line words)
-        → FinishesPlan bytes result machine a c (reads_file moment encoding spec) tally counted
+        → FinishesPlan bytes result machine a c (read_plan moment encoding spec) tally counted
     typed_refused reply words broken e same_words same_broken refused broke reason text =
         let q = subst (λ (r : Result X Reply). HasTyped machine a b moment
         (λ next. plan a b moment spec (λ size. behind a b moment spec size next)) r before after) e p in

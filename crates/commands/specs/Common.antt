@@ -15,7 +15,7 @@ pub use Rattle.commands.specs.Sessions.{IsFlushed, IsGivenUp, LineDone, Script, 
 pub use Rattle.commands.specs.Sessions.{LinesServed}
 pub use Rattle.commands.specs.Sessions.{ReplyWritten, WritesText}
 pub use Rattle.commands.specs.Transfers.{AreAsked, Carries, Checked, Delivery, Errand, IsUnread, Performs, Survey}
-pub use Rattle.commands.specs.Transfers.{TellsMisfit, absent, deletes_file, fresh, if_absent, keeps_as, keeps_new}
+pub use Rattle.commands.specs.Transfers.{TellsMisfit, absent, delete_plan, fresh, if_absent, put_plan_as, put_plan_new}
 pub use Rattle.commands.specs.Transfers.{looks_for, makes_way, no_room}
 pub use Rattle.commands.specs.Outcomes.{AreReadOf, DeliveriesKeepFiles, DeliveriesMakeFiles, ErrandsShowFiles}
 pub use Rattle.commands.specs.Outcomes.{ExportsShowFiles, ImportsMakeFiles, IsExportOf, IsFree, IsStored, IsStoredNew}
@@ -29,4 +29,4 @@ pub use Rattle.commands.specs.Reasons.{feeds, mark, most_bytes, numbered, number
 pub use Rattle.commands.specs.Import.{Imported, labels, said_behind}
 pub use Rattle.commands.specs.Export.{ComesBack, Exports, ExportsWords, HasBytes, HasEntries, HasExported}
 pub use Rattle.commands.specs.Export.{HasWordsRead, IsExport, IsFirstFor, SaysWords, asks_for, encodings_for}
-pub use Rattle.commands.specs.Export.{entries_answered, takes_out}
+pub use Rattle.commands.specs.Export.{entries_answered, export_plan}

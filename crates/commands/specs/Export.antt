@@ -3,7 +3,7 @@ use Rattle.std.specs.Prelude.{◌≡◌, ◌⊎◌, ℕ, nat_le, if◌then◌els
 use Rattle.std.specs.Prelude.{Result, Ok, Err}
 use Rattle.words36.specs.Common.{word_bytes, IsOctet, octets_unpacked, IsWord}
 use Rattle.words36.specs.declared.moment.Moment.{Moment}
-use Rattle.spec_language.specs.Common.{AreWords, login_events, gets, operator, Act, Asks, Plan, Show, Say, Leads}
+use Rattle.spec_language.specs.Common.{AreWords, login_events, get_plan, operator, Act, Asks, Plan, Show, Say, Leads}
 use Rattle.spec_language.specs.Common.{RunsPlan}
 use Rattle.spec_language.specs.Common.{call_event, each, Spoken, prints, refuses, typed, core_words}
 use Rattle.spec_machine.specs.declared.call.Call.TheVariants.{Reset}
@@ -123,5 +123,5 @@ pub record HasExported {E S : Type 0} (machine : S → Machine) (old new : S) (a
   pub exports : Exports asked mode plan acts result
 
 -- a file in a directory, read as words by [1,2], who may read all of them
-abbrev pub takes_out : Moment → Spec → Plan
-takes_out moment spec = gets moment operator Words spec
+abbrev pub export_plan : Moment → Spec → Plan
+export_plan moment spec = get_plan moment operator Words spec

@@ -5,15 +5,15 @@ use Rattle.std.specs.Io.KnownBytes.{Appends, Consumes, IsAtEnd}
 use Rattle.words36.specs.Common.{word_bytes, IsWord}
 use Rattle.words36.specs.declared.moment.Moment.{Moment}
 use Rattle.spec_language.specs.Common.{AreShort, HasFiles, IsPut, IsLineRefused, IsPrinted, HasHalfwordExtension}
-use Rattle.spec_language.specs.Common.{place_of, IsRefusedAt, AreWords, gets, keeps, operator, unfit, Act, Spoken}
+use Rattle.spec_language.specs.Common.{place_of, IsRefusedAt, AreWords, get_plan, put_plan, operator, unfit, Act, Spoken}
 use Rattle.spec_language.specs.Common.{complains, refuses}
 use Rattle.spec_machine.specs.Common.{State, Service, Serving}
 use Rattle.spec_image.specs.Common.{SpecVersion, file_at}
 use Rattle.spec_machine.specs.declared.call.Reply.{Reply}
 use Rattle.spec_language.specs.declared.command.Spec.{Spec}
 use Rattle.spec_language.specs.declared.encoding.Encoding.{Encoding}
-use Rattle.commands.specs.Transfers.{Delivery, Errand, keeps_new}
-use Rattle.commands.specs.Export.{HasExported, IsExport, takes_out}
+use Rattle.commands.specs.Transfers.{Delivery, Errand, put_plan_new}
+use Rattle.commands.specs.Export.{HasExported, IsExport, export_plan}
 use Rattle.commands.specs.Import.{Imported, said_behind}
 use Rattle.commands.specs.Machines.{Machine}
 use Rattle.commands.specs.Reasons.{BeginsNoFile, IsTooLong}
@@ -41,7 +41,7 @@ abbrev pub DeliveriesKeepFiles : {S : Type 0} → (S → Machine) → Type 0
 DeliveriesKeepFiles {S} machine =
     (source left sink full : Option (List ℕ)) (old new : S) (moment : Moment) (me : ℕ) (encoding : Encoding)
     (spec : Spec) (tally : Tally)
-    → (delivery : Delivery source left sink full machine old new encoding (keeps moment me encoding spec) (Ok tally))
+    → (delivery : Delivery source left sink full machine old new encoding (put_plan moment me encoding spec) (Ok tally))
     → (machine new).honest → (s : State) → (machine old).serves (Serving s) → 1 < length s.jobs
     → HasHalfwordExtension spec
     → (read : List ℕ) × (written : List ℕ) × Consumes source left read × Appends sink full written
@@ -65,7 +65,7 @@ abbrev pub DeliveriesMakeFiles : {S : Type 0} → (S → Machine) → Type 0
 DeliveriesMakeFiles {S} machine =
     (source left sink full : Option (List ℕ)) (old new : S) (moment : Moment) (me : ℕ) (encoding : Encoding)
     (spec : Spec) (tally : Tally)
-    → (delivery : Delivery source left sink full machine old new encoding (keeps_new moment me encoding spec)
+    → (delivery : Delivery source left sink full machine old new encoding (put_plan_new moment me encoding spec)
     (Ok tally))
     → (machine new).honest → (s : State) → (machine old).serves (Serving s) → 1 < length s.jobs
     → HasHalfwordExtension spec
@@ -78,7 +78,7 @@ abbrev pub ImportsMakeFiles : {S : Type 0} → (S → Machine) → Type 0
 ImportsMakeFiles {S} machine =
     (sink full : Option (List ℕ)) (old new : S) (moment : Moment) (me : ℕ) (encoding : Encoding) (spec : Spec)
     (label bytes : List ℕ) (tally : Tally)
-    → Imported sink full machine old new encoding label bytes (keeps_new moment me encoding spec) (Ok tally)
+    → Imported sink full machine old new encoding label bytes (put_plan_new moment me encoding spec) (Ok tally)
     → (machine new).honest → (s : State) → (machine old).serves (Serving s) → 1 < length s.jobs
     → HasHalfwordExtension spec
     → (written : List ℕ) × Appends sink full written × (said : Spoken) × (spoken written tally ≡ said_behind label said)
@@ -90,7 +90,7 @@ ImportsMakeFiles {S} machine =
 abbrev pub ErrandsShowFiles : {S : Type 0} → (S → Machine) → Type 0
 ErrandsShowFiles {S} machine =
     (sink full : Option (List ℕ)) (old new : S) (moment : Moment) (me : ℕ) (encoding : Encoding) (spec : Spec)
-    (tally : Tally) → (errand : Errand sink full machine old new (gets moment me encoding spec) (Ok tally))
+    (tally : Tally) → (errand : Errand sink full machine old new (get_plan moment me encoding spec) (Ok tally))
     → (machine new).honest → (s : State) → (machine old).serves (Serving s) → 1 < length s.jobs
     → HasHalfwordExtension spec
     → AreShort s.files
@@ -118,7 +118,7 @@ IsExportOf moment asked mode s spec acts exported =
 abbrev pub ExportsShowFiles : {S : Type 0} → (S → Machine) → Type 0
 ExportsShowFiles {S} machine =
     (old new : S) (moment : Moment) (asked : Option Encoding) (mode : ℕ) (spec : Spec) (exported : Exported)
-    → (out : HasExported {E = AllocError} machine old new asked mode (takes_out moment spec) (Ok exported))
+    → (out : HasExported {E = AllocError} machine old new asked mode (export_plan moment spec) (Ok exported))
     → (machine new).honest → (s : State) → (machine old).serves (Serving s) → 1 < length s.jobs
     → HasHalfwordExtension spec
     → AreShort s.files

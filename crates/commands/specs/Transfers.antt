@@ -3,9 +3,9 @@ use Rattle.std.specs.Prelude.{◌≡◌, ◌⊎◌, ◌<◌, ℕ, false, List, [
 use Rattle.std.specs.Prelude.{Some, None, Result, Ok, Err, codes, ◌≤◌, ◌==◌, if◌then◌else◌}
 use Rattle.words36.specs.declared.moment.Moment.{Moment}
 use Rattle.std.specs.Io.KnownBytes.{Appends, Consumes, IsAtEnd}
-use Rattle.spec_language.specs.Common.{AreWords, create_events, login_events, fills_all, keeps, surveys_of, unfit}
+use Rattle.spec_language.specs.Common.{AreWords, create_events, login_events, fill_all_plan, put_plan, list_plan_of, unfit}
 use Rattle.spec_language.specs.Common.{volume_line}
-use Rattle.spec_language.specs.Common.{Act, Plan, Ask, Say, Leads, RunsPlan, open_events, begins, call_event, each}
+use Rattle.spec_language.specs.Common.{Act, Plan, Ask, Say, Leads, RunsPlan, open_events, line_plan, call_event, each}
 use Rattle.spec_language.specs.Common.{ends}
 use Rattle.spec_language.specs.Common.{fails, file_words, name_events, ok, Spoken, complains}
 use Rattle.spec_machine.specs.Common.{State, room, Serving, Broken}
@@ -31,8 +31,8 @@ use Rattle.commands.specs.declared.reason.Misfit.TheVariants.{Excess}
 use Rattle.commands.specs.declared.reason.Reason.TheVariants.{Input}
 
 -- A file is deleted, as by DELETE.
-abbrev pub deletes_file : Moment → ℕ → Spec → Plan
-deletes_file moment owner spec = each moment (login_events owner) (begins moment owner (DeleteLine spec))
+abbrev pub delete_plan : Moment → ℕ → Spec → Plan
+delete_plan moment owner spec = each moment (login_events owner) (line_plan moment owner (DeleteLine spec))
 
 -- The events that name a file before it is looked up, on channel 1.
 abbrev pub looks_for : Moment → Spec → List Event
@@ -55,15 +55,15 @@ makes_way Replace moment spec next = next
 makes_way Refuse moment spec next = absent moment spec next
 
 -- A file is put if there is none of its name.
-abbrev pub keeps_new : Moment → ℕ → Encoding → Spec → Option (List ℕ) → Plan
-keeps_new moment owner encoding spec None = Say (complains (unfit encoding))
-keeps_new moment owner encoding spec (Some words) =
+abbrev pub put_plan_new : Moment → ℕ → Encoding → Spec → Option (List ℕ) → Plan
+put_plan_new moment owner encoding spec None = Say (complains (unfit encoding))
+put_plan_new moment owner encoding spec (Some words) =
     each moment (login_events owner) (absent moment spec (each moment (create_events moment encoding spec)
-    (fills_all moment encoding words (each moment (call_event moment (Close 2 0) ∷ []) (ends moment ok)))))
+    (fill_all_plan moment encoding words (each moment (call_event moment (Close 2 0) ∷ []) (ends moment ok)))))
 
-abbrev pub keeps_as : Existing → Moment → ℕ → Encoding → Spec → Option (List ℕ) → Plan
-keeps_as Replace = keeps
-keeps_as Refuse = keeps_new
+abbrev pub put_plan_as : Existing → Moment → ℕ → Encoding → Spec → Option (List ℕ) → Plan
+put_plan_as Replace = put_plan
+put_plan_as Refuse = put_plan_new
 
 -- nothing was counted yet
 abbrev pub fresh : Tally
@@ -148,7 +148,7 @@ pub record Survey {S : Type 0} (sink full : Option (List ℕ)) (machine : S → 
     (style : Style) (place : Option ℕ) (result : Result Tally SessionError) : Type 0 where
   pub owners : Result (List ℕ) Reply
   pub asked : AreAsked (machine old) place owners
-  pub errand : Errand sink full machine old new (surveys_of moment style owners) result
+  pub errand : Errand sink full machine old new (list_plan_of moment style owners) result
 
 -- The line about a volume was written, or a beginning of it.
 pub record Checked (sink full : Option (List ℕ)) (machine : Machine) (result : Result Tally SessionError) : Type 0 where

@@ -1,8 +1,8 @@
 //! The command COPY.
 ghost use Rattle.std.specs.Prelude.{◌++◌, ◌∷◌, [], ◌+◌, ℕ, Some};
 ghost use Rattle.spec_language.specs.Common.{Plan, each, examines, lookup_events, enter_events};
-ghost use Rattle.spec_language.specs.Common.{list_events, file_words, copies_runs, copies_blocks, copies_last};
-ghost use Rattle.spec_language.specs.Common.{copies_body, until_end, blocks_said as said_blocks, call_event};
+ghost use Rattle.spec_language.specs.Common.{list_events, file_words, copy_runs_plan, copy_blocks_plan, copy_last_plan};
+ghost use Rattle.spec_language.specs.Common.{copy_body_plan, until_end, blocks_said as said_blocks, call_event};
 ghost use Rattle.spec_machine.specs.declared.call.Call.TheVariants.{Close};
 ghost use Rattle.spec_language.specs.declared.command.Command.TheVariants.{Copy as CopyLine};
 ghost use Rattle.commands.specs.Common.{FollowsPlan, followed, CommandDone};
@@ -29,7 +29,7 @@ fn copy_runs<S: FileService>(
     runs: u32,
 ) -> Result<(), Reply>
     ensures { (next : Plan) → FollowsPlan S.machine service.old service.new
-        (copies_runs moment runs next) (followed moment result (λ unit. next)) }
+        (copy_runs_plan moment runs next) (followed moment result (λ unit. next)) }
 {
     for _ in 0..runs {
         ask_all(alloc, service, &[in_event(moment), out_event(moment)])?;
@@ -46,7 +46,7 @@ fn copy_blocks<S: FileService>(
     count: u32,
 ) -> Result<(), Reply>
     ensures { (next : Plan) → FollowsPlan S.machine service.old service.new
-        (copies_blocks moment count next) (followed moment result (λ unit. next)) }
+        (copy_blocks_plan moment count next) (followed moment result (λ unit. next)) }
 {
     ask_all(alloc, service, &list_events(RUN_WORDS))?;
     copy_runs(alloc, service, moment, count / RUN_BLOCKS)?;
@@ -63,7 +63,7 @@ fn copy_last<S: FileService>(
     size: Word,
 ) -> Result<(), Reply>
     ensures { (next : Plan) → FollowsPlan S.machine service.old service.new
-        (copies_last moment n size next) (followed moment result (λ unit. next)) }
+        (copy_last_plan moment n size next) (followed moment result (λ unit. next)) }
 {
     let count = last_count(alloc, service, moment, n, size)?;
     ask_all(alloc, service, &list_events(count))?;
@@ -82,7 +82,7 @@ fn copy_body<S: FileService>(
     size: Word,
 ) -> Result<(), Reply>
     ensures { (next : Plan) → FollowsPlan S.machine service.old service.new
-        (copies_body moment (said_blocks size) size next) (followed moment result (λ unit. next)) }
+        (copy_body_plan moment (said_blocks size) size next) (followed moment result (λ unit. next)) }
 {
     let blocks = blocks_said(size);
     if blocks == 0 {
@@ -120,7 +120,7 @@ fn copy_file<S: FileService>(
 ) -> Result<(), Reply>
     ensures { (next : Plan) → FollowsPlan S.machine service.old service.new
         (each moment (lookup_events moment from ++ enter_events moment to ++ list_events 128)
-        (examines moment (file_words + 3) (λ size. copies_body moment (said_blocks size) size
+        (examines moment (file_words + 3) (λ size. copy_body_plan moment (said_blocks size) size
         (until_end moment (each moment (call_event moment (Close 2 0) ∷ []) next)))))
         (followed moment result (λ unit. next)) }
 {

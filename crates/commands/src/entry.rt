@@ -2,12 +2,12 @@
 ghost use Rattle.commands.specs.Machines.{Machine};
 ghost use Rattle.commands.specs.Monitors.{machine_of};
 ghost use Rattle.commands.specs.Sessions.{Session, Script};
-ghost use Rattle.commands.specs.Transfers.{Checked, Delivery, Errand, Survey, deletes_file, keeps_as};
-ghost use Rattle.commands.specs.Export.{HasEntries, HasExported, takes_out};
+ghost use Rattle.commands.specs.Transfers.{Checked, Delivery, Errand, Survey, delete_plan, put_plan_as};
+ghost use Rattle.commands.specs.Export.{HasEntries, HasExported, export_plan};
 ghost use Rattle.commands.specs.Import.{Imported};
 ghost use Rattle.commands.specs.PlanSteps.{FollowsPlan, followed};
 ghost use Rattle.monitor.specs.Common.{MonitorState};
-ghost use Rattle.spec_language.specs.Common.{login_events, gets, own_file, Plan, make_dir_events, each};
+ghost use Rattle.spec_language.specs.Common.{login_events, get_plan, own_file, Plan, make_dir_events, each};
 ghost use Rattle.commands.specs.declared.existing.Existing.TheVariants.{Refuse};
 ghost use Rattle.std.specs.Prelude.{Some};
 
@@ -15,7 +15,7 @@ use crate::answer::{SESSION_JOB, Tally};
 use crate::export_file::{Export, Exported, entries_of, take_out};
 use crate::import_file::{Import, take_in};
 use crate::make_dir::make_own;
-use crate::put_file::NewFile;
+use crate::put_file::PutFile;
 use crate::run::{print, run_script, run_session};
 use crate::service::FileService;
 use crate::transfer::{read_in, write_deleted, write_lists, write_out, write_refusal};
@@ -129,7 +129,7 @@ pub fn get<W: Write, D: Disk>(
 ) -> Result<Tally, SessionError>
     ensures { Errand (W.contents writer.old) (W.contents writer.new)
         (λ (m : MonitorState D). machine_of (D.state m.disk) m.map m.failed m.jobs) monitor.old monitor.new
-        (gets moment owner encoding (own_file name)) result }
+        (get_plan moment owner encoding (own_file name)) result }
 {
     let spec = Spec { name, owner: None };
     write_out(alloc, writer, monitor, moment, owner, encoding, spec)
@@ -151,7 +151,7 @@ pub fn delete<W: Write, D: Disk>(
 ) -> Result<Tally, SessionError>
     ensures { Errand (W.contents writer.old) (W.contents writer.new)
         (λ (m : MonitorState D). machine_of (D.state m.disk) m.map m.failed m.jobs) monitor.old monitor.new
-        (deletes_file moment owner (own_file name)) result }
+        (delete_plan moment owner (own_file name)) result }
 {
     let spec = Spec { name, owner: None };
     write_deleted(alloc, writer, monitor, moment, owner, spec)
@@ -172,12 +172,12 @@ pub fn put<R: Read, W: Write, D: Disk>(
     writer: &mut W,
     monitor: &mut Monitor<D>,
     moment: Moment,
-    file: &NewFile,
+    file: &PutFile,
 ) -> Result<Tally, SessionError>
     ensures { Delivery (R.remaining reader.old) (R.remaining reader.new) (W.contents writer.old) (W.contents writer.new)
         (λ (m : MonitorState D). machine_of (D.state m.disk) m.map m.failed m.jobs) monitor.old monitor.new
         file.now.encoding
-        (keeps_as file.now.existing moment file.now.owner file.now.encoding (own_file file.now.name)) result }
+        (put_plan_as file.now.existing moment file.now.owner file.now.encoding (own_file file.now.name)) result }
 {
     read_in(alloc, reader, writer, monitor, moment, file)
 }
@@ -199,7 +199,7 @@ pub fn import<W: Write, D: Disk>(
     ensures { Imported (W.contents writer.old) (W.contents writer.new)
         (λ (m : MonitorState D). machine_of (D.state m.disk) m.map m.failed m.jobs) monitor.old monitor.new
         file.now.encoding file.now.label.now file.now.bytes.now
-        (keeps_as Refuse file.now.moment file.now.owner file.now.encoding (own_file file.now.name)) result }
+        (put_plan_as Refuse file.now.moment file.now.owner file.now.encoding (own_file file.now.name)) result }
 {
     take_in(alloc, writer, monitor, file)
 }
@@ -264,7 +264,7 @@ pub fn export<D: Disk>(
 ) -> Result<Exported, AllocError>
     ensures { HasExported (λ (m : MonitorState D). machine_of (D.state m.disk) m.map m.failed m.jobs) monitor.old
         monitor.new file.now.encoding file.now.mode
-        (takes_out file.now.moment (record { name = file.now.name; owner = Some file.now.owner })) result }
+        (export_plan file.now.moment (record { name = file.now.name; owner = Some file.now.owner })) result }
 {
     take_out(alloc, monitor, file)
 }

@@ -3,7 +3,7 @@ ghost use Rattle.std.specs.Prelude.{◌≡◌, ◌↔◌, ◌∷◌, [], ℕ, If
 ghost use Rattle.words36.specs.Common.{packed, word_bytes, IsOctet, IsWord};
 ghost use Rattle.spec_language.specs.Common.{AreWords, typed};
 ghost use Rattle.spec_language.specs.declared.encoding.Encoding.TheVariants.{Characters, Words, Octets};
-ghost use Rattle.commands.specs.Common.{HasBytes, HasEntries, HasExported, HasWordsRead, IsExport, takes_out};
+ghost use Rattle.commands.specs.Common.{HasBytes, HasEntries, HasExported, HasWordsRead, IsExport, export_plan};
 ghost use Rattle.commands.specs.Common.{encodings_for};
 
 use crate::answer::{CORE_WORDS, SESSION_JOB};
@@ -226,7 +226,7 @@ fn read_any<S: FileService>(
     moment: Moment,
     spec: Spec,
 ) -> Result<Result<Vec<Word>, AllocError>, Reply>
-    ensures { HasWordsRead (λ v. v.items) result S.machine service.old service.new (takes_out moment spec) }
+    ensures { HasWordsRead (λ v. v.items) result S.machine service.old service.new (export_plan moment spec) }
 {
     match enter(alloc, service, operator()) {
         Ok(()) => read_words(alloc, service, moment, spec),
@@ -248,7 +248,7 @@ pub fn take_out<S: FileService>(
     file: &Export,
 ) -> Result<Exported, AllocError>
     ensures { HasExported S.machine service.old service.new file.now.encoding file.now.mode
-        (takes_out file.now.moment (record { name = file.now.name; owner = Some file.now.owner })) result }
+        (export_plan file.now.moment (record { name = file.now.name; owner = Some file.now.owner })) result }
 {
     let spec = Spec {
         name: file.name,

@@ -1,13 +1,13 @@
 //! The import of bytes in memory as a new file, and its answer after a label.
 ghost use Rattle.std.specs.Prelude.{◌≡◌, ◌++◌, IfOk};
 ghost use Rattle.spec_language.specs.Common.{own_file};
-ghost use Rattle.commands.specs.Common.{FinishesPlan, Errand, keeps_as, no_room, Imported, labels, words_said};
+ghost use Rattle.commands.specs.Common.{FinishesPlan, Errand, put_plan_as, no_room, Imported, labels, words_said};
 ghost use Rattle.commands.specs.declared.existing.Existing.TheVariants.{Refuse};
 
 use crate::answer::{Tally, refuse};
 use crate::existing::Existing;
 use crate::input_words::{most_bytes, words_of};
-use crate::put_file::NewFile;
+use crate::put_file::PutFile;
 use crate::run::print;
 use crate::service::FileService;
 use crate::transfer::{put_words, reason_of};
@@ -82,10 +82,10 @@ fn import_words<S: FileService>(
     words: &Result<Vec<Word>, Misfit>,
 ) -> Result<Vec<u8>, AllocError>
     ensures { FinishesPlan (λ bytes. bytes.items) result S.machine service.old service.new (labels file.now.label.now
-        (keeps_as Refuse file.now.moment file.now.owner file.now.encoding (own_file file.now.name)
+        (put_plan_as Refuse file.now.moment file.now.owner file.now.encoding (own_file file.now.name)
         (words_said (λ v. v.items) words.now))) tally.old tally.new }
 {
-    let put = NewFile {
+    let put = PutFile {
         owner: file.owner,
         name: file.name,
         encoding: file.encoding,
@@ -110,7 +110,7 @@ pub fn take_in<W: Write, S: FileService>(
 ) -> Result<Tally, SessionError>
     ensures { Imported (W.contents writer.old) (W.contents writer.new) S.machine service.old service.new
         file.now.encoding file.now.label.now file.now.bytes.now
-        (keeps_as Refuse file.now.moment file.now.owner file.now.encoding (own_file file.now.name)) result }
+        (put_plan_as Refuse file.now.moment file.now.owner file.now.encoding (own_file file.now.name)) result }
 {
     let most = most_bytes(file.encoding);
     if file.bytes.len() > most {

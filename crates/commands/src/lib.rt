@@ -39,7 +39,7 @@
 //!    has, and how many are left. (`Checked`) If the input of `put` can't be a file, the tally has the first byte or
 //!    word that doesn't fit, or how much a file holds. (`IsMisfit`) Reading stops early only at bytes with which no
 //!    file begins, or at more than one holds. (`BeginsNoFile`, `IsTooLong`, `long_inputs_fit_no_file`)
-//! 12. A `put` that doesn't replace looks the name up first, and continues only if there is no such file. (`keeps_new`)
+//! 12. A `put` that doesn't replace looks the name up first, and continues only if there is no such file. (`put_plan_new`)
 //!    `import` does this for bytes in memory, and writes its answer after a label. (`Imported`) `entries` returns the
 //!    files of a directory as they are listed for job 1. (`HasEntries`) `export` returns the bytes of a file. If no
 //!    encoding is given, it takes the first of the file's mode in which any bytes spell its words, and a file that is
@@ -102,7 +102,7 @@ pub use laws::{
 };
 pub use monitor::{CoreArea, Monitor, StartError};
 pub use names::{file_named, owner_named};
-pub use put_file::NewFile;
+pub use put_file::PutFile;
 pub use reason::{Misfit, Reason, RefusedLines};
 pub use restart::start_after_acts;
 pub use service::FileService;

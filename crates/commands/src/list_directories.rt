@@ -1,6 +1,6 @@
 //! The lists of directories, as texts.
 ghost use Rattle.std.specs.Prelude.{◌≡◌, [], IfOk, IfErr};
-ghost use Rattle.spec_language.specs.Common.{Plan, Say, operator, shows_all, surveys};
+ghost use Rattle.spec_language.specs.Common.{Plan, Say, operator, directories_plan, list_plan};
 ghost use Rattle.commands.specs.Common.{FollowsPlan, HasShown, Carries, fresh, spoken};
 
 use crate::answer::{SESSION_JOB, Tally, is_broken, refuse};
@@ -37,9 +37,9 @@ fn show_all<S: FileService>(
     owners: &[Ppn],
 ) -> Result<Vec<u8>, AllocError>
     ensures ok { IfOk result (λ bytes. FollowsPlan S.machine service.old service.new
-        (shows_all style owners.now (spoken [] tally.old)) (Say (spoken bytes.items tally.new))) }
+        (directories_plan style owners.now (spoken [] tally.old)) (Say (spoken bytes.items tally.new))) }
     ensures err { IfErr result (λ error. (rest : Plan) × FollowsPlan S.machine service.old service.new
-        (shows_all style owners.now (spoken [] tally.old)) rest) }
+        (directories_plan style owners.now (spoken [] tally.old)) rest) }
     ensures reason { tally.new.reason ≡ tally.old.reason }
 {
     let mut bytes = Vec::new(alloc);
@@ -67,7 +67,7 @@ pub fn survey<S: FileService>(
     owners: &[Ppn],
 ) -> Result<Vec<u8>, AllocError>
     requires { tally.old ≡ fresh }
-    ensures { Carries (λ bytes. bytes.items) result S.machine service.old service.new (surveys moment style owners.now)
+    ensures { Carries (λ bytes. bytes.items) result S.machine service.old service.new (list_plan moment style owners.now)
         tally.new }
 {
     match enter(alloc, service, operator()) {

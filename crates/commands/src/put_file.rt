@@ -5,7 +5,7 @@ ghost use Rattle.spec_language.specs.Common.{login_events, fill_events};
 ghost use Rattle.spec_language.specs.Common.{fills_all as filled_all, own_file, part_address as address_of};
 ghost use Rattle.spec_language.specs.Common.{part_words as words_of};
 ghost use Rattle.spec_machine.specs.declared.call.Call.TheVariants.{Close};
-ghost use Rattle.commands.specs.Common.{FinishesPlan, FollowsPlan, followed, absent, if_absent, keeps_as, makes_way};
+ghost use Rattle.commands.specs.Common.{FinishesPlan, FollowsPlan, followed, absent, if_absent, put_plan_as, makes_way};
 ghost use Rattle.words36.specs.declared.moment.Moment as moments;
 
 use crate::answer::{CORE_WORDS, SESSION_JOB, Tally};
@@ -24,7 +24,7 @@ use words36::{BLOCK_WORDS, FileName, Moment, Ppn, Word};
 
 /// A file that will be put: its place, its encoding, and what happens to a file of its name.
 #[derive(Clone, Copy, Debug, PartialEq, Eq)]
-pub struct NewFile {
+pub struct PutFile {
     /// The owner of the directory that it comes into: job 1 logs in as this owner.
     pub owner: Ppn,
     /// Its name.
@@ -200,7 +200,7 @@ fn make_way<S: FileService>(
     alloc: Global,
     service: &mut S,
     moment: Moment,
-    file: &NewFile,
+    file: &PutFile,
 ) -> Result<(), Reply>
     ensures { (next : Plan) → FollowsPlan S.machine service.old service.new
         (makes_way file.now.existing moment (own_file file.now.name) next) (followed moment result (λ unit. next)) }
@@ -220,7 +220,7 @@ fn write_file<S: FileService>(
     alloc: Global,
     service: &mut S,
     moment: Moment,
-    file: &NewFile,
+    file: &PutFile,
     words: &[Word],
 ) -> Result<(), Reply>
     ensures { (next : Plan) → FollowsPlan S.machine service.old service.new
@@ -246,11 +246,11 @@ pub fn put_file<S: FileService>(
     service: &mut S,
     moment: Moment,
     tally: &mut Tally,
-    file: &NewFile,
+    file: &PutFile,
     words: &[Word],
 ) -> Result<Vec<u8>, AllocError>
     ensures { FinishesPlan (λ bytes. bytes.items) result S.machine service.old service.new
-        (keeps_as file.now.existing moment file.now.owner file.now.encoding (own_file file.now.name) (Some words.now))
+        (put_plan_as file.now.existing moment file.now.owner file.now.encoding (own_file file.now.name) (Some words.now))
         tally.old tally.new }
 {
     let written = write_file(alloc, service, moment, file, words);

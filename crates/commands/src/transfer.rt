@@ -1,7 +1,7 @@
 //! The errands of job 1 for a command of a person: a file put, got or deleted, and lists.
 ghost use Rattle.std.specs.Prelude.{◌≡◌, ℕ, List};
-ghost use Rattle.spec_language.specs.Common.{gets, own_file, surveys, Say, refuses};
-ghost use Rattle.commands.specs.Common.{FinishesPlan, Delivery, Errand, deletes_file, keeps_as, no_room, HasWords};
+ghost use Rattle.spec_language.specs.Common.{get_plan, own_file, list_plan, Say, refuses};
+ghost use Rattle.commands.specs.Common.{FinishesPlan, Delivery, Errand, delete_plan, put_plan_as, no_room, HasWords};
 ghost use Rattle.commands.specs.Common.{IsInputReason, words_said};
 ghost use Rattle.spec_language.specs.declared.encoding.Encoding.{Encoding as Encodings};
 
@@ -10,7 +10,7 @@ use crate::change_file::remove;
 use crate::conclude::conclude;
 use crate::input_words::{most_bytes, read_input, unfit, words_of};
 use crate::list_directories::survey;
-use crate::put_file::{NewFile, enter, put_file};
+use crate::put_file::{PutFile, enter, put_file};
 use crate::run::print;
 use crate::service::FileService;
 use crate::type_line::read_out;
@@ -32,7 +32,7 @@ fn get_file<S: FileService>(
     spec: Spec,
 ) -> Result<Vec<u8>, AllocError>
     ensures { FinishesPlan (λ bytes. bytes.items) result S.machine service.old service.new
-        (gets moment owner encoding spec) tally.old tally.new }
+        (get_plan moment owner encoding spec) tally.old tally.new }
 {
     match enter(alloc, service, owner) {
         Ok(()) => read_out(alloc, service, moment, tally, encoding, spec),
@@ -55,7 +55,7 @@ pub fn write_out<W: Write, S: FileService>(
     spec: Spec,
 ) -> Result<Tally, SessionError>
     ensures { Errand (W.contents writer.old) (W.contents writer.new) S.machine service.old service.new
-        (gets moment owner encoding spec) result }
+        (get_plan moment owner encoding spec) result }
 {
     let mut tally = Tally::none();
     let text = get_file(alloc, service, moment, &mut tally, owner, encoding, spec);
@@ -73,7 +73,7 @@ fn delete_file<S: FileService>(
     spec: Spec,
 ) -> Result<Vec<u8>, AllocError>
     ensures { FinishesPlan (λ bytes. bytes.items) result S.machine service.old service.new
-        (deletes_file moment owner spec) tally.old tally.new }
+        (delete_plan moment owner spec) tally.old tally.new }
 {
     match enter(alloc, service, owner) {
         Ok(()) => {
@@ -98,7 +98,7 @@ pub fn write_deleted<W: Write, S: FileService>(
     spec: Spec,
 ) -> Result<Tally, SessionError>
     ensures { Errand (W.contents writer.old) (W.contents writer.new) S.machine service.old service.new
-        (deletes_file moment owner spec) result }
+        (delete_plan moment owner spec) result }
 {
     let mut tally = Tally::none();
     let text = delete_file(alloc, service, moment, &mut tally, owner, spec);
@@ -120,7 +120,7 @@ pub fn write_lists<W: Write, S: FileService>(
     owners: &[Ppn],
 ) -> Result<Tally, SessionError>
     ensures { Errand (W.contents writer.old) (W.contents writer.new) S.machine service.old service.new
-        (surveys moment style owners.now) result }
+        (list_plan moment style owners.now) result }
 {
     let mut tally = Tally::none();
     let text = survey(alloc, service, moment, &mut tally, style, owners);
@@ -165,11 +165,11 @@ pub fn put_words<S: FileService>(
     service: &mut S,
     moment: Moment,
     tally: &mut Tally,
-    file: &NewFile,
+    file: &PutFile,
     words: &Result<Vec<Word>, Misfit>,
 ) -> Result<Vec<u8>, AllocError>
     ensures { FinishesPlan (λ bytes. bytes.items) result S.machine service.old service.new
-        (keeps_as file.now.existing moment file.now.owner file.now.encoding (own_file file.now.name)
+        (put_plan_as file.now.existing moment file.now.owner file.now.encoding (own_file file.now.name)
         (words_said (λ v. v.items) words.now)) tally.old tally.new }
 {
     match words {
@@ -207,11 +207,11 @@ pub fn read_in<R: Read, W: Write, S: FileService>(
     writer: &mut W,
     service: &mut S,
     moment: Moment,
-    file: &NewFile,
+    file: &PutFile,
 ) -> Result<Tally, SessionError>
     ensures { Delivery (R.remaining reader.old) (R.remaining reader.new) (W.contents writer.old)
         (W.contents writer.new) S.machine service.old service.new file.now.encoding
-        (keeps_as file.now.existing moment file.now.owner file.now.encoding (own_file file.now.name)) result }
+        (put_plan_as file.now.existing moment file.now.owner file.now.encoding (own_file file.now.name)) result }
 {
     let bytes = read_input(alloc, file.encoding, reader)?;
     let most = most_bytes(file.encoding);

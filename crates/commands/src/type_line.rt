@@ -2,8 +2,8 @@
 ghost use Rattle.std.specs.Prelude.{◌≡◌, ◌+◌, ◌≤◌, ◌++◌, ℕ, List, [], Some, true, IfOk, OnOk, flat_map};
 ghost use Rattle.words36.specs.Common.{word_bytes, block_bytes, HasRead, octets_unpacked};
 ghost use Rattle.spec_language.specs.Common.{Plan, each, examines, fetches, lookup_events, list_events};
-ghost use Rattle.spec_language.specs.Common.{file_words, block_address, types_last, types_body};
-ghost use Rattle.spec_language.specs.Common.{blocks_said as said_blocks, until_end, reads_file, typed, file_said};
+ghost use Rattle.spec_language.specs.Common.{file_words, block_address, type_last_plan, type_body_plan};
+ghost use Rattle.spec_language.specs.Common.{blocks_said as said_blocks, until_end, read_plan, typed, file_said};
 ghost use Rattle.spec_language.specs.Common.{octets_said};
 ghost use Rattle.spec_language.specs.declared.encoding.Encoding.TheVariants.{Words};
 ghost use Rattle.spec_language.specs.declared.command.Command.TheVariants.{TypeOut as TypeLine};
@@ -162,7 +162,7 @@ impl Typed {
 }
 
 /// Returns the bytes of eight bits of words that were read, or their refusal, and counts that.
-fn tell_octets(alloc: Global, tally: &mut Tally, octets: OctetReader) -> Result<Vec<u8>, AllocError>
+fn octet_bytes(alloc: Global, tally: &mut Tally, octets: OctetReader) -> Result<Vec<u8>, AllocError>
     ensures { (words : List ℕ) → HasRead octets words
         → Tells (λ bytes. bytes.items) result (octets_said (octets_unpacked words)) tally.old tally.new }
 {
@@ -186,7 +186,7 @@ fn file_text(
     match encoding {
         Encoding::Characters => typed.into_bytes(),
         Encoding::Words => typed.into_bytes(),
-        Encoding::Octets => tell_octets(alloc, tally, typed.octets),
+        Encoding::Octets => octet_bytes(alloc, tally, typed.octets),
     }
 }
 
@@ -265,7 +265,7 @@ fn type_last<S: FileService>(
     size: Word,
     typed: &mut Typed,
 ) -> Result<(), Reply>
-    ensures { HasTyped S.machine service.old service.new moment (types_last moment n size) result typed.old typed.new }
+    ensures { HasTyped S.machine service.old service.new moment (type_last_plan moment n size) result typed.old typed.new }
 {
     let count = last_count(alloc, service, moment, n, size)?;
     ask_all(alloc, service, &list_events(count))?;
@@ -281,7 +281,7 @@ fn type_body<S: FileService>(
     size: Word,
     typed: &mut Typed,
 ) -> Result<(), Reply>
-    ensures { HasTyped S.machine service.old service.new moment (types_body moment (said_blocks size) size)
+    ensures { HasTyped S.machine service.old service.new moment (type_body_plan moment (said_blocks size) size)
         result typed.old typed.new }
 {
     let blocks = blocks_said(size);
@@ -318,7 +318,7 @@ fn type_file<S: FileService>(
 ) -> Result<(), Reply>
     ensures { HasTyped S.machine service.old service.new moment
         (λ next. each moment (lookup_events moment spec ++ list_events 128)
-        (examines moment (file_words + 3) (λ size. types_body moment (said_blocks size) size
+        (examines moment (file_words + 3) (λ size. type_body_plan moment (said_blocks size) size
         (λ words. until_end moment (next words))))) result typed.old typed.new }
 {
     let size = open_one(alloc, service, moment, spec)?;
@@ -336,7 +336,7 @@ pub fn read_out<S: FileService>(
     spec: Spec,
 ) -> Result<Vec<u8>, AllocError>
     ensures { FinishesPlan (λ bytes. bytes.items) result S.machine service.old service.new
-        (reads_file moment encoding spec) tally.old tally.new }
+        (read_plan moment encoding spec) tally.old tally.new }
 {
     let mut typed = Typed::new(alloc, Target::Text(encoding));
     let read = type_file(alloc, service, moment, spec, &mut typed);
@@ -359,7 +359,7 @@ pub fn read_words<S: FileService>(
     moment: Moment,
     spec: Spec,
 ) -> Result<Result<Vec<Word>, AllocError>, Reply>
-    ensures { HasWordsRead (λ v. v.items) result S.machine service.old service.new (reads_file moment Words spec) }
+    ensures { HasWordsRead (λ v. v.items) result S.machine service.old service.new (read_plan moment Words spec) }
 {
     let mut typed = Typed::new(alloc, Target::List);
     let read = type_file(alloc, service, moment, spec, &mut typed);

@@ -32,7 +32,7 @@ fn put(groups: &mut Vec<u64>, group: u64)
 }
 
 /// Reads a word of a job's core, and reports it with its address. Returns the reply if it isn't a word.
-fn tell_word<S: FileService>(
+fn push_word<S: FileService>(
     alloc: Global,
     service: &mut S,
     job: u8,
@@ -61,7 +61,7 @@ fn tell_word<S: FileService>(
 /// Reads the words of an area of a job's core, and reports each with its address, up to the first answer that is no
 /// word.
 /// Returns the reply to that one, if there is one.
-fn tell_area<S: FileService>(
+fn push_area<S: FileService>(
     alloc: Global,
     service: &mut S,
     job: u8,
@@ -80,7 +80,7 @@ fn tell_area<S: FileService>(
 {
     for place in 0..area.count {
         let address = (area.first + place) as u32;
-        if let Some(reply) = tell_word(alloc, service, job, address, groups) {
+        if let Some(reply) = push_word(alloc, service, job, address, groups) {
             return Some(reply);
         }
     }
@@ -89,7 +89,7 @@ fn tell_area<S: FileService>(
 
 /// Reads the words of areas of a job's core, and reports each with its address, up to the first answer that is no word.
 /// Returns the reply to that one, or Done.
-pub(crate) fn tell_areas<S: FileService>(
+pub(crate) fn push_areas<S: FileService>(
     alloc: Global,
     service: &mut S,
     job: u8,
@@ -102,7 +102,7 @@ pub(crate) fn tell_areas<S: FileService>(
         result }
 {
     for area in areas {
-        if let Some(reply) = tell_area(alloc, service, job, area, groups) {
+        if let Some(reply) = push_area(alloc, service, job, area, groups) {
             return reply;
         }
     }

@@ -7,7 +7,7 @@ ghost use Rattle.wire.specs.declared.header.Header.{Header as Headers};
 ghost use Rattle.exchange.specs.Turns.{addresses};
 ghost use Rattle.exchange.specs.Exchanges.{HasPut, HasWritten, ServesOrder, IsLow, AreTold};
 
-use crate::reply_words::tell_areas;
+use crate::reply_words::push_areas;
 use commands::FileService;
 use spec_machine::{Event, Reply};
 use std::alloc::Global;
@@ -78,10 +78,10 @@ pub(crate) fn serve_order<S: FileService>(
         Order::Deposit(job, first, _) => {
             Answer::Reply(put_words(alloc, service, job, first, body))
         }
-        Order::Examine(job, _, _) => Answer::Reply(tell_areas(alloc, service, job, areas, groups)),
+        Order::Examine(job, _, _) => Answer::Reply(push_areas(alloc, service, job, areas, groups)),
         Order::Call(job, call, moment) => {
             let reply = service.event(alloc, &Event::Call(job.into(), call, moment));
-            tell_areas(alloc, service, job, areas, groups);
+            push_areas(alloc, service, job, areas, groups);
             Answer::Reply(reply)
         }
         Order::Room => Answer::Room(service.room()),

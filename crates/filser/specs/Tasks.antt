@@ -2,9 +2,9 @@
 use Rattle.std.specs.Prelude.{◌≡◌, ℕ, List, Option, Result}
 use Rattle.words36.specs.declared.moment.Moment.{Moment}
 use Rattle.blockdisk.specs.Common.{DiskState}
-use Rattle.spec_language.specs.Common.{gets, own_file}
+use Rattle.spec_language.specs.Common.{get_plan, own_file}
 use Rattle.monitor.specs.Common.{MonitorState}
-use Rattle.commands.specs.Common.{Checked, Delivery, Errand, Survey, deletes_file, keeps_as, Session, Script}
+use Rattle.commands.specs.Common.{Checked, Delivery, Errand, Survey, delete_plan, put_plan_as, Session, Script}
 use Rattle.commands.specs.declared.answer.Tally.{Tally}
 use Rattle.commands.specs.declared.error.SessionError.{SessionError}
 use Rattle.exchange.specs.Exchanges.{Exchange}
@@ -28,12 +28,12 @@ Attends state Wire source left sink full first last result =
     Exchange source left sink full (machine_over state) first last result
 Attends state (Put file existing at) source left sink full first last result =
     Delivery source left sink full (machine_over state) first last file.encoding
-    (keeps_as existing at file.owner file.encoding (own_file file.name)) result
+    (put_plan_as existing at file.owner file.encoding (own_file file.name)) result
 Attends state (Get file at) source left sink full first last result = (left ≡ source)
-    × Errand sink full (machine_over state) first last (gets at file.owner file.encoding (own_file file.name)) result
+    × Errand sink full (machine_over state) first last (get_plan at file.owner file.encoding (own_file file.name)) result
 Attends state (Delete owner name) source left sink full first last result = (left ≡ source)
     × (at : Moment) × IsFirstMoment at
-    × Errand sink full (machine_over state) first last (deletes_file at owner (own_file name)) result
+    × Errand sink full (machine_over state) first last (delete_plan at owner (own_file name)) result
 Attends state (ListAll place style) source left sink full first last result = (left ≡ source)
     × (at : Moment) × IsFirstMoment at × Survey sink full (machine_over state) first last at style place result
 Attends state Check source left sink full first last result = (left ≡ source)

@@ -11,7 +11,7 @@ ghost use Rattle.filser.specs.declared.fault.ImageFault.{ImageFault as Faults};
 ghost use Rattle.filser.specs.declared.status.Status.TheVariants.{BadArguments};
 ghost use Rattle.filser.specs.declared.disks.Disks.TheVariants as disks;
 
-use crate::fault::{report, tell_stale_cache};
+use crate::fault::{report, report_stale_cache};
 use crate::image::{NotMade, failure_of, new_file, open_disk, zeros_in};
 use crate::message::print_line;
 use crate::outcome::Outcome;
@@ -172,7 +172,7 @@ fn convert_disk<H: Host, W: Write, E: Write>(
             let path = conversion.path;
             let image = Disks::Unserved(disk);
             let outcome = unconverted(fault, path, image, leave, writer, errors);
-            tell_stale_cache(errors, path, &fault.host);
+            report_stale_cache(errors, path, &fault.host);
             outcome
         }
     }
@@ -209,7 +209,7 @@ fn new_target<H: Host, E: Write>(
     match zeros_in(host, made.file, new, form, blocks, supposed) {
         Ok(disk) => Ok((disk, made.right)),
         Err(denied) => {
-            tell_incomplete(new, errors);
+            report_incomplete(new, errors);
             Err(denied)
         }
     }
@@ -275,7 +275,7 @@ fn copy_to<W: Write, E: Write>(
     let (copied, target) = copy(alloc, &mut source, target, conversion.telling, errors);
     match copied {
         Ok(()) => Outcome {
-            status: tell_converted(source.blocks(), writer),
+            status: report_converted(source.blocks(), writer),
             image: Disks::Unserved(source),
             new: Disks::Made(target, right),
             memory: None,
@@ -300,7 +300,7 @@ fn uncopied<W: Write, E: Write>(
     ensures explained { (fault : Faults) × IsCopyFault error fault
         × IsExplained (W.contents writer.old) (W.contents writer.new) result.status fault }
 {
-    tell_incomplete(conversion.new, errors);
+    report_incomplete(conversion.new, errors);
     let (path, fault) = match error {
         CopyError::Source(error) => (
             conversion.path,
@@ -318,7 +318,7 @@ fn uncopied<W: Write, E: Write>(
         ),
     };
     let status = refuse_image(fault, path, writer, errors);
-    tell_stale_cache(errors, conversion.path, &failure_of(source.file()));
+    report_stale_cache(errors, conversion.path, &failure_of(source.file()));
     Outcome {
         status,
         image: Disks::Unserved(source),
@@ -364,7 +364,7 @@ fn copy<E: Write>(
 }
 
 /// Prints how many blocks were converted.
-fn tell_converted<W: Write>(blocks: u32, writer: &mut W) -> Status
+fn report_converted<W: Write>(blocks: u32, writer: &mut W) -> Status
     ensures serving { result ≢ BadArguments }
     ensures told { IsLine (W.contents writer.old) (W.contents writer.new) result 0 (converted_text blocks) }
 {
@@ -373,6 +373,6 @@ fn tell_converted<W: Write>(blocks: u32, writer: &mut W) -> Status
 }
 
 /// Reports that a new image stays as it was when the conversion ended.
-fn tell_incomplete<E: Write>(new: &str, errors: &mut E) {
+fn report_incomplete<E: Write>(new: &str, errors: &mut E) {
     report(errors, new, &"incomplete");
 }

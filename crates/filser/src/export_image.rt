@@ -5,9 +5,9 @@ ghost use Rattle.filser.specs.Common.{IsExportedFrom, IsOnExported};
 ghost use Rattle.filser.specs.declared.status.Status.TheVariants.{BadArguments};
 
 use crate::host::Shelf;
-use crate::image::{NamedImage, open_image, tell_failure};
+use crate::image::{NamedImage, open_image, report_failure};
 use crate::program::refuse_image;
-use crate::reasons::tell_ending;
+use crate::reasons::report_ending;
 use crate::serve_image::{ending, say};
 use crate::{
     Access, Disks, ExportTask, Host, ImageDisks, OpeningLeave, Refusal, Run, Seen, Status,
@@ -38,7 +38,7 @@ fn export_from<H: Host, D: Disk + Drop, W: Write, E: Write>(
             let shelf = Shelf::of(host);
             let exported = export_files(&shelf, alloc, task, &mut monitor, writer, errors);
             let status = ending(exported);
-            tell_ending(errors, status, &exported);
+            report_ending(errors, status, &exported);
             (status, monitor.finish())
         }
         Err((error, disk)) => (say(writer, Refusal::Start(error)), disk),
@@ -64,7 +64,7 @@ pub(crate) fn export_image<H: Host, W: Write, E: Write>(
     match open_image(host, alloc, path, form, Access::Read, leave) {
         Ok(disk) => {
             let (status, disk) = export_from(host, alloc, disk, task, writer, errors);
-            tell_failure(errors, path, &disk);
+            report_failure(errors, path, &disk);
             (status, Disks::Served(disk))
         }
         Err((fault, disks)) => (refuse_image(fault, path, writer, errors), disks),

@@ -90,7 +90,7 @@ pub(crate) fn report<E: Write, T: Display>(errors: &mut E, name: &str, what: &T)
 
 /// Reports a fault of the host on a file. A call that reaches the end of an image reaches it too early, since an image
 /// keeps its length.
-pub(crate) fn tell_fault<E: Write>(errors: &mut E, path: &str, fault: &HostFault) {
+pub(crate) fn report_fault<E: Write>(errors: &mut E, path: &str, fault: &HostFault) {
     match fault {
         HostFault::System(error) if error.kind() == ErrorKind::UnexpectedEof => report(
             errors,
@@ -103,7 +103,7 @@ pub(crate) fn tell_fault<E: Write>(errors: &mut E, path: &str, fault: &HostFault
 
 /// Reports what to do after a fault of a device, if there was one: a host may keep the data that it couldn't write in
 /// its cache and forget the failure, so that a start reads what isn't on the disk.
-pub(crate) fn tell_stale_cache<E: Write>(errors: &mut E, path: &str, fault: &Option<HostFault>) {
+pub(crate) fn report_stale_cache<E: Write>(errors: &mut E, path: &str, fault: &Option<HostFault>) {
     if fault.is_some() {
         report(
             errors,
@@ -114,6 +114,6 @@ pub(crate) fn tell_stale_cache<E: Write>(errors: &mut E, path: &str, fault: &Opt
 }
 
 /// Reports that the program found no memory for itself.
-pub(crate) fn tell_no_memory<E: Write>(errors: &mut E) {
+pub(crate) fn report_no_memory<E: Write>(errors: &mut E) {
     let _ = writeln!(errors, "filser: out of memory");
 }

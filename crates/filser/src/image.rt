@@ -9,7 +9,7 @@ ghost use Rattle.filser.specs.Common.{IsNoNewDisk, IsNotMade};
 ghost use Rattle.filser.specs.declared.fault.HostFault.TheVariants.{System, Memory as OutOfMemory};
 ghost use Rattle.filser.specs.declared.disks.Disks.TheVariants as disks;
 
-use crate::fault::{tell_fault, tell_stale_cache};
+use crate::fault::{report_fault, report_stale_cache};
 use crate::streams::{is_stream, stream_of};
 use crate::{
     Access, Disks, Host, HostFault, Image, ImageDisks, ImageFault, MakingLeave, NewDisks, NewFile,
@@ -76,12 +76,12 @@ pub(crate) fn failure_of(file: &HostFile) -> Option<HostFault>
 }
 
 /// Reports why the file of an image failed, if it did, and what to do then.
-pub(crate) fn tell_failure<E: Write>(errors: &mut E, path: &str, image: &Image) {
+pub(crate) fn report_failure<E: Write>(errors: &mut E, path: &str, image: &Image) {
     let fault = failure_of(image.inner().file());
     if let Some(fault) = &fault {
-        tell_fault(errors, path, fault);
+        report_fault(errors, path, fault);
     }
-    tell_stale_cache(errors, path, &fault);
+    report_stale_cache(errors, path, &fault);
 }
 
 /// Locks the file of an image for this process alone, until the process ends. It never waits.

@@ -5,9 +5,9 @@ ghost use Rattle.filser.specs.Common.{IsImportRun, IsOnImported};
 ghost use Rattle.filser.specs.declared.status.Status.TheVariants.{BadArguments};
 
 use crate::host::Shelf;
-use crate::image::{NamedImage, open_image, tell_failure};
+use crate::image::{NamedImage, open_image, report_failure};
 use crate::program::refuse_image;
-use crate::reasons::{tell_ending, tell_late_date};
+use crate::reasons::{report_ending, report_late_date};
 use crate::serve_image::{ending, say};
 use crate::{
     Access, Disks, Host, ImageDisks, ImportTask, OpeningLeave, Refusal, Run, Seen, Status,
@@ -20,9 +20,9 @@ use std::io::Write;
 use volume::Layout;
 
 /// Reports that every file will be refused, if the date that is given to all of them is past those of the volume.
-fn tell_date<E: Write>(errors: &mut E, task: &ImportTask<'_>, layout: Layout) {
+fn report_date<E: Write>(errors: &mut E, task: &ImportTask<'_>, layout: Layout) {
     if !task.dated {
-        tell_late_date(errors, Some(task.moment), layout);
+        report_late_date(errors, Some(task.moment), layout);
     }
 }
 
@@ -43,11 +43,11 @@ fn import_on<H: Host, D: Disk + Drop, W: Write, E: Write>(
 {
     match Monitor::start(alloc, disk) {
         Ok(mut monitor) => {
-            tell_date(errors, task, monitor.layout());
+            report_date(errors, task, monitor.layout());
             let shelf = Shelf::of(host);
             let imported = import_files(&shelf, alloc, task, &mut monitor, writer, errors);
             let status = ending(imported);
-            tell_ending(errors, status, &imported);
+            report_ending(errors, status, &imported);
             (status, monitor.finish())
         }
         Err((error, disk)) => (say(writer, Refusal::Start(error)), disk),
@@ -73,7 +73,7 @@ pub(crate) fn import_image<H: Host, W: Write, E: Write>(
     match open_image(host, alloc, path, form, Access::Write, leave) {
         Ok(disk) => {
             let (status, disk) = import_on(host, alloc, disk, task, writer, errors);
-            tell_failure(errors, path, &disk);
+            report_failure(errors, path, &disk);
             (status, Disks::Served(disk))
         }
         Err((fault, disks)) => (refuse_image(fault, path, writer, errors), disks),

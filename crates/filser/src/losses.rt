@@ -4,7 +4,7 @@ ghost use Rattle.filser.specs.Common.{IsGivenBack, IsSearched};
 ghost use Rattle.filser.specs.declared.task.Task.TheVariants.{Check};
 
 use crate::Task;
-use crate::fault::tell_no_memory;
+use crate::fault::report_no_memory;
 use blockdisk::{Disk, Fail, FuseDisk};
 use commands::extension_text;
 use salvage::{Copied, Cost, Finding, SalvageError, Survey, survey_disk};
@@ -50,7 +50,7 @@ fn write_part<W: fmt::Write>(f: &mut Formatter<W>, part: &[u8]) -> fmt::Result {
 }
 
 /// Reports which file a fault costs, if it costs one.
-fn tell_loss<E: Write>(errors: &mut E, finding: Finding) {
+fn report_loss<E: Write>(errors: &mut E, finding: Finding) {
     let Finding { fault, costs } = finding;
     let _ = match costs {
         Cost::File(owner, name) => {
@@ -68,18 +68,18 @@ fn tell_loss<E: Write>(errors: &mut E, finding: Finding) {
 }
 
 /// Reports which command shows more.
-fn tell_elsewhere<E: Write>(errors: &mut E, what: &str) {
+fn report_elsewhere<E: Write>(errors: &mut E, what: &str) {
     let _ = writeln!(errors, "filser: {what}: see filser salvage --list");
 }
 
 /// Reports which files these faults cost, up to `MOST_TOLD` of them.
-fn tell_findings<E: Write>(errors: &mut E, findings: &[Finding]) {
+fn report_findings<E: Write>(errors: &mut E, findings: &[Finding]) {
     let (told, others) = findings.split_at(findings.len().min(MOST_TOLD));
     for finding in told {
-        tell_loss(errors, *finding);
+        report_loss(errors, *finding);
     }
     if !others.is_empty() {
-        tell_elsewhere(errors, "more is wrong");
+        report_elsewhere(errors, "more is wrong");
     }
 }
 
@@ -107,13 +107,13 @@ fn search<D: Disk>(alloc: Global, disk: &mut D) -> Result<Survey, SalvageError>
 }
 
 /// Reports which files the faults of a disk cost.
-fn tell_losses<D: Disk, E: Write>(alloc: Global, disk: &mut D, errors: &mut E)
+fn report_losses<D: Disk, E: Write>(alloc: Global, disk: &mut D, errors: &mut E)
     ensures { IsSearched (D.state disk.old) (D.state disk.new) }
 {
     match search(alloc, disk) {
-        Ok(found) => tell_findings(errors, found.findings.as_slice()),
-        Err(SalvageError::Device) => tell_elsewhere(errors, "which files are lost"),
-        Err(SalvageError::NoMemory) => tell_no_memory(errors),
+        Ok(found) => report_findings(errors, found.findings.as_slice()),
+        Err(SalvageError::Device) => report_elsewhere(errors, "which files are lost"),
+        Err(SalvageError::NoMemory) => report_no_memory(errors),
         Err(SalvageError::NotVolume) => {}
     }
 }
@@ -159,6 +159,6 @@ pub(crate) fn give_back<D: Disk, E: Write>(
         return disk;
     }
     let mut searched = disk;
-    tell_losses(alloc, &mut searched, errors);
+    report_losses(alloc, &mut searched, errors);
     searched
 }

@@ -95,7 +95,7 @@ fn main(rt: HostRuntime) -> ExitCode {
     let code = match MissingStreams::hold(&rt) {
         Ok(missing) => match run(&rt, &missing) {
             Ok(code) => code,
-            Err(error) => tell_unread(&rt, &error),
+            Err(error) => report_unread(&rt, &error),
         },
         Err(error) => {
             report(&rt, &format_args!("filser: /: {error}"));
@@ -106,7 +106,7 @@ fn main(rt: HostRuntime) -> ExitCode {
 }
 
 /// Reports why the arguments couldn't be read, and returns the status of a run without arguments.
-fn tell_unread(rt: &HostRuntime, error: &io::Error) -> u8 {
+fn report_unread(rt: &HostRuntime, error: &io::Error) -> u8 {
     if error.kind() == ErrorKind::OutOfMemory {
         report(rt, &"filser: out of memory");
         Status::Fault.code()

@@ -5,7 +5,7 @@ ghost use Rattle.imagefile.specs.Common.{assumed_in};
 ghost use Rattle.filser.specs.Common.{IsLine, IsMigrationRun, IsOnMigrated};
 ghost use Rattle.filser.specs.declared.status.Status.TheVariants.{BadArguments};
 
-use crate::image::{open_image, tell_failure};
+use crate::image::{open_image, report_failure};
 use crate::message::print_line;
 use crate::program::refuse_image;
 use crate::serve_image::say;
@@ -17,7 +17,7 @@ use std::alloc::Global;
 use std::io::Write;
 
 /// Prints the layout that a volume has after its migration.
-fn tell_layout<W: Write>(writer: &mut W) -> Status
+fn report_layout<W: Write>(writer: &mut W) -> Status
     ensures serving { result ≢ BadArguments }
     ensures told { IsLine (W.contents writer.old) (W.contents writer.new) result 0 (codes "Layout 2") }
 {
@@ -32,7 +32,7 @@ fn migrate<D: Disk, W: Write>(alloc: Global, disk: &mut D, writer: &mut W) -> St
     ensures same { SameDisk (D.state disk.old) (D.state disk.new) }
 {
     match Volume::migrate(alloc, disk) {
-        Ok(_) => tell_layout(writer),
+        Ok(_) => report_layout(writer),
         Err(error) => say(writer, Refusal::Start(error)),
     }
 }
@@ -57,7 +57,7 @@ pub(crate) fn migrate_image<H: Host, W: Write, E: Write>(
         Ok(image) => {
             let mut image = image;
             let status = migrate(alloc, &mut image, writer);
-            tell_failure(errors, path, &image);
+            report_failure(errors, path, &image);
             (status, Disks::Served(image))
         }
         Err((fault, disks)) => (refuse_image(fault, path, writer, errors), disks),

@@ -19,7 +19,7 @@ ghost use Rattle.filser.specs.declared.status.Status.TheVariants.{Done, BadArgum
 use crate::convert::{Conversion, convert_image};
 use crate::escaped::EscapedLines;
 use crate::export_image::export_image;
-use crate::fault::{report, tell_fault, tell_no_memory};
+use crate::fault::{report, report_fault, report_no_memory};
 use crate::free_streams::FreeStreams;
 use crate::image::{NamedImage, NewVolume, make_image};
 use crate::import_image::import_image;
@@ -82,7 +82,7 @@ pub fn work<H: Host, R: Read, W: Write, E: Write>(
 {
     let outcome = answer(host, alloc, words, missing, telling, leaves, streams);
     let flushed = streams.writer.flush();
-    tell_streams(
+    report_streams(
         host,
         words,
         &streams.reader,
@@ -99,7 +99,7 @@ pub fn work<H: Host, R: Read, W: Write, E: Write>(
 
 /// Reports why the input broke off, and why the output failed, if they did, unless that would land in a file that the
 /// words name.
-fn tell_streams<H: Host, R: Read, W: Write, E: Write>(
+fn report_streams<H: Host, R: Read, W: Write, E: Write>(
     host: &H,
     words: &[&str],
     reader: &LineReader<R>,
@@ -111,7 +111,7 @@ fn tell_streams<H: Host, R: Read, W: Write, E: Write>(
         return;
     }
     if let Some((line, fault)) = broken {
-        tell_input(errors, words, line, &fault);
+        report_input(errors, words, line, &fault);
     }
     if let Some(fault) = failed {
         report(errors, "standard output", &fault);
@@ -119,7 +119,7 @@ fn tell_streams<H: Host, R: Read, W: Write, E: Write>(
 }
 
 /// Reports why the input broke off, and in which line, if the input has lines.
-fn tell_input<E: Write>(errors: &mut E, words: &[&str], line: u64, fault: &io::Error) {
+fn report_input<E: Write>(errors: &mut E, words: &[&str], line: u64, fault: &io::Error) {
     if has_lines(words) {
         report(
             errors,
@@ -234,7 +234,7 @@ fn start<H: Host, R: Read, W: Write, E: Write>(
         return without_disks(status, leaves);
     }
     if missing.are_needed() {
-        tell_closed(host, asked, &mut streams.errors);
+        report_closed(host, asked, &mut streams.errors);
         return without_disks(Status::Fault, leaves);
     }
     perform(host, alloc, asked, telling, leaves, streams)
@@ -242,7 +242,7 @@ fn start<H: Host, R: Read, W: Write, E: Write>(
 
 /// Reports that there is nothing to read from or to print to, unless that would land in the file that has the name of a
 /// new image.
-fn tell_closed<H: Host, E: Write>(host: &H, asked: &Request<'_>, errors: &mut E) {
+fn report_closed<H: Host, E: Write>(host: &H, asked: &Request<'_>, errors: &mut E) {
     if let Request::Convert(_, new, _) = asked
         && is_at_errors(host, new)
     {
@@ -405,7 +405,7 @@ pub(crate) fn refuse_image<W: Write, E: Write>(
         return say(writer, fault.refusal);
     };
     if !host.forbids_errors() {
-        tell_fault(errors, path, &host);
+        report_fault(errors, path, &host);
     }
     if host.forbids_output() {
         return fault.refusal.status();
@@ -432,13 +432,13 @@ fn refuse<W: Write, E: Write>(
         RequestError::Usage(usage) => show(usage, free, writer, errors),
         RequestError::BadArgument(wrong) => {
             if free.errors {
-                tell_wrong(*wrong, errors);
+                report_wrong(*wrong, errors);
             }
             Status::BadArguments
         }
         RequestError::NoMemory => {
             if free.errors {
-                tell_no_memory(errors);
+                report_no_memory(errors);
             }
             Status::Fault
         }
@@ -446,7 +446,7 @@ fn refuse<W: Write, E: Write>(
 }
 
 /// Reports which argument isn't valid.
-fn tell_wrong<E: Write>(wrong: Option<WrongArgument<'_>>, errors: &mut E) {
+fn report_wrong<E: Write>(wrong: Option<WrongArgument<'_>>, errors: &mut E) {
     let _ = writeln!(errors, "?Bad argument");
     if let Some(wrong) = wrong {
         let _ = writeln!(errors, "filser: {wrong}");

@@ -1,6 +1,6 @@
 //! The reports of why lines or an input were refused.
 use crate::Status;
-use crate::fault::{report, tell_no_memory};
+use crate::fault::{report, report_no_memory};
 use commands::{Misfit, Reason, RefusedLines, SessionError, Tally};
 use std::io::Write;
 use volume::Layout;
@@ -11,7 +11,7 @@ const INPUT: &str = "standard input";
 
 /// Reports that every call will be refused, if the requested date is past those of the volume. No date is past those of
 /// layout 2, so the day that is reported is the last one of layout 1.
-pub(crate) fn tell_late_date<E: Write>(errors: &mut E, moment: Option<Moment>, layout: Layout) {
+pub(crate) fn report_late_date<E: Write>(errors: &mut E, moment: Option<Moment>, layout: Layout) {
     let Some(at) = moment else {
         return;
     };
@@ -26,30 +26,30 @@ pub(crate) fn tell_late_date<E: Write>(errors: &mut E, moment: Option<Moment>, l
 }
 
 /// Reports why a run was refused, if it was and nothing worse happened, or that it broke off for lack of memory.
-pub(crate) fn tell_ending<E: Write>(
+pub(crate) fn report_ending<E: Write>(
     errors: &mut E,
     status: Status,
     talked: &Result<Tally, SessionError>,
 ) {
     match talked {
-        Ok(tally) if status == Status::Refused => tell_refusal(errors, tally.reason),
-        Err(SessionError::NoMemory) => tell_no_memory(errors),
+        Ok(tally) if status == Status::Refused => report_refusal(errors, tally.reason),
+        Err(SessionError::NoMemory) => report_no_memory(errors),
         // The file of an image reports its own fault, and a run that of a stream at its end.
         Ok(_) | Err(SessionError::Read | SessionError::Write) => {}
     }
 }
 
 /// Reports why lines or an input were refused.
-fn tell_refusal<E: Write>(errors: &mut E, reason: Option<Reason>) {
+fn report_refusal<E: Write>(errors: &mut E, reason: Option<Reason>) {
     match reason {
-        Some(Reason::Lines(lines)) => tell_lines(errors, lines),
-        Some(Reason::Input(misfit)) => tell_misfit(errors, misfit),
+        Some(Reason::Lines(lines)) => report_lines(errors, lines),
+        Some(Reason::Input(misfit)) => report_misfit(errors, misfit),
         None => {}
     }
 }
 
 /// Reports how many lines were refused, and which is the first.
-fn tell_lines<E: Write>(errors: &mut E, lines: RefusedLines) {
+fn report_lines<E: Write>(errors: &mut E, lines: RefusedLines) {
     let RefusedLines { count, first } = lines;
     if count == 1 {
         report(errors, INPUT, &format_args!("line {first} was refused"));
@@ -63,7 +63,7 @@ fn tell_lines<E: Write>(errors: &mut E, lines: RefusedLines) {
 }
 
 /// Reports why the input can't be a file.
-fn tell_misfit<E: Write>(errors: &mut E, misfit: Misfit) {
+fn report_misfit<E: Write>(errors: &mut E, misfit: Misfit) {
     match misfit {
         Misfit::Byte(byte, place) => report(
             errors,

@@ -8,11 +8,11 @@ ghost use Rattle.salvage.specs.declared.saved.SavedFile.{SavedFile};
 ghost use Rattle.filser.specs.Common.{AreFound, IsOnSalvaged, IsSalvagedFrom, IsUnsurveyed, start_error};
 ghost use Rattle.filser.specs.declared.status.Status.TheVariants.{BadArguments};
 
-use crate::fault::tell_fault;
+use crate::fault::report_fault;
 use crate::host::Shelf;
 use crate::image::{NamedImage, failure_of, open_disk};
 use crate::program::refuse_image;
-use crate::reasons::tell_ending;
+use crate::reasons::report_ending;
 use crate::serve_image::{ending, say};
 use crate::{
     Access, Disks, ExportTask, Host, ImageDisks, OpeningLeave, Refusal, Run, Seen, Status,
@@ -57,7 +57,7 @@ fn salvage_copy<H: Host, W: Write, E: Write>(
             let shelf = Shelf::of(host);
             let saved = save_survey(&shelf, alloc, task, &found, copied, writer, errors);
             let status = ending(saved);
-            tell_ending(errors, status, &saved);
+            report_ending(errors, status, &saved);
             status
         }
         Err(error) => say(writer, Refusal::Start(start_error(error))),
@@ -105,7 +105,7 @@ pub(crate) fn salvage_image<H: Host, W: Write, E: Write>(
             let mut disk = disk;
             let status = salvage_from(host, alloc, &mut disk, task, writer, errors);
             if let Some(fault) = &failure_of(disk.file()) {
-                tell_fault(errors, path, fault);
+                report_fault(errors, path, fault);
             }
             (status, Disks::Unserved(disk))
         }

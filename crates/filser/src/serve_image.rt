@@ -5,17 +5,17 @@ ghost use Rattle.filser.specs.Common.{IsOnFresh, IsOnImage, IsTaskRun, IsLine, r
 ghost use Rattle.filser.specs.Common.{status_code, Attends, IsFirstMoment};
 ghost use Rattle.filser.specs.declared.status.Status.TheVariants.{BadArguments};
 
-use crate::fault::tell_no_memory;
-use crate::image::{NamedImage, open_image, tell_failure};
+use crate::fault::report_no_memory;
+use crate::image::{NamedImage, open_image, report_failure};
 use crate::losses::give_back;
 use crate::message::print_line;
 use crate::program::refuse_image;
-use crate::reasons::{tell_ending, tell_late_date};
+use crate::reasons::{report_ending, report_late_date};
 use crate::streams::Streams;
 use crate::{Disks, Host, ImageDisks, OpeningLeave, Refusal, Run, Seen, Status, Task};
 use blockdisk::{Disk, MemDisk};
 use commands::{
-    Monitor, NewFile, SessionError, Tally, Volume, check, delete, get, list, put, script, session,
+    Monitor, PutFile, SessionError, Tally, Volume, check, delete, get, list, put, script, session,
 };
 use exchange::serve_wire;
 use std::alloc::Global;
@@ -88,7 +88,7 @@ fn attend<D: Disk, R: Read, W: Write>(
         Task::Calls(at) => script(alloc, reader, writer, monitor, at),
         Task::Wire => serve_wire(alloc, reader, writer, monitor),
         Task::Put(file, existing, at) => {
-            let file = NewFile {
+            let file = PutFile {
                 owner: file.owner,
                 name: file.name,
                 encoding: file.encoding,
@@ -128,10 +128,10 @@ fn serve<D: Disk + Drop, R: Read, W: Write, E: Write>(
 {
     match Monitor::start(alloc, disk) {
         Ok(mut monitor) => {
-            tell_late_date(errors, task.moment(), monitor.layout());
+            report_late_date(errors, task.moment(), monitor.layout());
             let attended = attend(alloc, task, reader, writer, &mut monitor);
             let status = ending(attended);
-            tell_ending(errors, status, &attended);
+            report_ending(errors, status, &attended);
             (status, monitor.finish())
         }
         Err((error, disk)) => {
@@ -166,7 +166,7 @@ pub(crate) fn serve_image<H: Host, R: Read, W: Write, E: Write>(
     match open_image(host, alloc, path, form, task.access(), leave) {
         Ok(opened) => {
             let (status, opened) = serve(alloc, opened, task, reader, writer, errors);
-            tell_failure(errors, path, &opened);
+            report_failure(errors, path, &opened);
             (status, Disks::Served(opened))
         }
         Err((fault, disks)) => (refuse_image(fault, path, writer, errors), disks),
@@ -188,7 +188,7 @@ pub(crate) fn serve_fresh<R: Read, W: Write, E: Write>(
         errors,
     } = streams;
     let Ok(mut disk) = MemDisk::new(alloc, FRESH_BLOCKS, FRESH_CALLS) else {
-        tell_no_memory(errors);
+        report_no_memory(errors);
         return (Status::Fault, None);
     };
     match Volume::init(&mut disk) {

@@ -42,7 +42,7 @@ pub struct Tree {
 /// # Errors
 ///
 /// `Device` and `NoMemory` if the reader was refused for that; `NoMemory` if there is no memory for the finding.
-fn tell_refusal(
+fn report_refusal(
     findings: &mut Vec<Finding>,
     refusal: VolumeError,
     costs: Cost,
@@ -145,7 +145,7 @@ fn add_file<D: Disk>(
                 stored,
             },
         ),
-        Err(refusal) => tell_refusal(findings, refusal, Cost::File(ppn, entry.name)),
+        Err(refusal) => report_refusal(findings, refusal, Cost::File(ppn, entry.name)),
     }
 }
 
@@ -226,7 +226,7 @@ fn add_directory<D: Disk>(
             files,
             findings,
         ),
-        Err(refusal) => tell_refusal(findings, refusal, Cost::Directory(entry.ppn)),
+        Err(refusal) => report_refusal(findings, refusal, Cost::Directory(entry.ppn)),
     }
 }
 
@@ -294,7 +294,7 @@ fn add_master<D: Disk>(
 {
     match load_chain::<MasterEntry, D>(alloc, disk, home.master) {
         Ok(chain) => add_directories(alloc, disk, home.layout, chain.entries(), files, findings),
-        Err(refusal) => tell_refusal(findings, refusal, Cost::Directories),
+        Err(refusal) => report_refusal(findings, refusal, Cost::Directories),
     }
 }
 
@@ -337,7 +337,7 @@ fn without_home(alloc: Global, refusal: VolumeError) -> Result<Tree, SalvageErro
     ensures range { IsErrOf result NotVolume → ⊥ }
 {
     let mut findings = Vec::new(alloc);
-    tell_refusal(&mut findings, refusal, Cost::Directories)?;
+    report_refusal(&mut findings, refusal, Cost::Directories)?;
     Ok(Tree {
         layout: Layout::Two,
         files: Vec::new(alloc),

@@ -13,13 +13,13 @@ use Rattle.spec_language.specs.Plans.{lookup_events}
 use Rattle.spec_language.specs.Plans.{enter_events, list_events, deposit_events, examines, fetches, takes_over, counts}
 use Rattle.spec_language.specs.Plans.{sizes}
 use Rattle.spec_language.specs.Plans.{says_words, last_said, same_words, block_address, file_words, blocks_said}
-use Rattle.spec_language.specs.Plans.{blocks_at_once, quota_events, copies_runs, copies_blocks, copies_last}
-use Rattle.spec_language.specs.Plans.{copies_body, copies, types_runs, types_blocks, types_last, types_body}
-use Rattle.spec_language.specs.Plans.{reads_file, rename_events, delete_events, protect_events, make_dir_events, shows}
-use Rattle.spec_language.specs.Plans.{begins}
-use Rattle.spec_language.specs.Errands.{login_events, create_events, fill_events, size_events, fills_parts, fills_all}
+use Rattle.spec_language.specs.Plans.{blocks_at_once, quota_events, copy_runs_plan, copy_blocks_plan, copy_last_plan}
+use Rattle.spec_language.specs.Plans.{copy_body_plan, copy_plan, type_runs_plan, type_blocks_plan, type_last_plan, type_body_plan}
+use Rattle.spec_language.specs.Plans.{read_plan, rename_events, delete_events, protect_events, make_dir_events, directory_plan}
+use Rattle.spec_language.specs.Plans.{line_plan}
+use Rattle.spec_language.specs.Errands.{login_events, create_events, fill_events, size_events, fill_parts_plan, fill_all_plan}
 use Rattle.spec_language.specs.Errands.{parts_of}
-use Rattle.spec_language.specs.Errands.{part_words, part_address, keeps, gets}
+use Rattle.spec_language.specs.Errands.{part_words, part_address, put_plan, get_plan}
 use Rattle.spec_language.specs.Causes.{is_done, is_word, is_wanted, GoesUntilRefused, SaysOk, ClosesAtEnd}
 use Rattle.spec_language.specs.Causes.{PrintsAtEnd, EndsSo, SaysSo, IsAsWanted, IsRefusedAt}
 use Rattle.spec_language.specs.declared.command.Spec.{Spec}
@@ -151,45 +151,45 @@ module _ (moment : Moment) (IsEnd : Plan → Type 0) where
   -- COPY
 
   copies_runs_goes : (more : ℕ) (next : Plan) → GoesUntilRefused moment IsEnd next
-      → GoesUntilRefused moment IsEnd (copies_runs moment more next)
-  unfolding copies_runs
+      → GoesUntilRefused moment IsEnd (copy_runs_plan moment more next)
+  unfolding copy_runs_plan
   copies_runs_goes zero next g = g
-  copies_runs_goes (suc more) next g = each_goes (in_event moment ∷ out_event moment ∷ []) (copies_runs moment more next)
+  copies_runs_goes (suc more) next g = each_goes (in_event moment ∷ out_event moment ∷ []) (copy_runs_plan moment more next)
       (tt, (tt, tt)) (copies_runs_goes more next g)
 
   copies_blocks_goes : (blocks : ℕ) (next : Plan) → GoesUntilRefused moment IsEnd next
-      → GoesUntilRefused moment IsEnd (copies_blocks moment blocks next)
+      → GoesUntilRefused moment IsEnd (copy_blocks_plan moment blocks next)
   copies_blocks_goes blocks next g = each_goes (list_events (blocks_at_once * 128)) _ (want_lists (blocks_at_once * 128))
       (copies_runs_goes (blocks / blocks_at_once) _ (each_goes (list_events 128) _ (want_lists 128)
       (copies_runs_goes (blocks % blocks_at_once) next g)))
 
   copies_last_goes : (n size : ℕ) (next : Plan) → GoesUntilRefused moment IsEnd next
-      → GoesUntilRefused moment IsEnd (copies_last moment n size next)
+      → GoesUntilRefused moment IsEnd (copy_last_plan moment n size next)
   copies_last_goes n size next g = sizes_goes n size
       (λ count. each moment (list_events count ++ useti_event moment n ∷ in_event moment ∷ out_event moment ∷ []) next)
       (λ count. each_goes (list_events count ++ useti_event moment n ∷ in_event moment ∷ out_event moment ∷ []) next
       (tt, (tt, (tt, (tt, (tt, tt))))) g)
 
   copies_body_goes : (blocks size : ℕ) (next : Plan) → GoesUntilRefused moment IsEnd next
-      → GoesUntilRefused moment IsEnd (copies_body moment blocks size next)
+      → GoesUntilRefused moment IsEnd (copy_body_plan moment blocks size next)
   copies_body_goes zero size next g = g
   copies_body_goes (suc more) size next g =
-      copies_blocks_goes more (copies_last moment (suc more) size next) (copies_last_goes (suc more) size next g)
+      copies_blocks_goes more (copy_last_plan moment (suc more) size next) (copies_last_goes (suc more) size next g)
 
   -- a file that is read
 
   types_runs_goes : (more count : ℕ) (next : List ℕ → Plan)
       → ((words : List ℕ) → GoesUntilRefused moment IsEnd (next words))
-      → GoesUntilRefused moment IsEnd (types_runs moment more count next)
-  unfolding types_runs
+      → GoesUntilRefused moment IsEnd (type_runs_plan moment more count next)
+  unfolding type_runs_plan
   types_runs_goes zero count next g = g []
   types_runs_goes (suc more) count next g = each_goes (in_event moment ∷ []) _ (tt, tt)
-      (fetches_goes count block_address (λ words. types_runs moment more count (λ others. next (words ++ others)))
+      (fetches_goes count block_address (λ words. type_runs_plan moment more count (λ others. next (words ++ others)))
       (λ words. types_runs_goes more count (λ others. next (words ++ others)) (λ others. g (words ++ others))))
 
   types_blocks_goes : (blocks : ℕ) (next : List ℕ → Plan)
       → ((words : List ℕ) → GoesUntilRefused moment IsEnd (next words))
-      → GoesUntilRefused moment IsEnd (types_blocks moment blocks next)
+      → GoesUntilRefused moment IsEnd (type_blocks_plan moment blocks next)
   types_blocks_goes blocks next g = each_goes (list_events (blocks_at_once * 128)) _ (want_lists (blocks_at_once * 128))
       (types_runs_goes (blocks / blocks_at_once) (blocks_at_once * 128) _
       (λ words. each_goes (list_events 128) _ (want_lists 128)
@@ -198,7 +198,7 @@ module _ (moment : Moment) (IsEnd : Plan → Type 0) where
 
   types_last_goes : (n size : ℕ) (next : List ℕ → Plan)
       → ((words : List ℕ) → GoesUntilRefused moment IsEnd (next words))
-      → GoesUntilRefused moment IsEnd (types_last moment n size next)
+      → GoesUntilRefused moment IsEnd (type_last_plan moment n size next)
   types_last_goes n size next g = sizes_goes n size
       (λ count. each moment (list_events count ++ useti_event moment n ∷ in_event moment ∷ [])
       (fetches moment count block_address next))
@@ -207,23 +207,23 @@ module _ (moment : Moment) (IsEnd : Plan → Type 0) where
 
   types_body_goes : (blocks size : ℕ) (next : List ℕ → Plan)
       → ((words : List ℕ) → GoesUntilRefused moment IsEnd (next words))
-      → GoesUntilRefused moment IsEnd (types_body moment blocks size next)
+      → GoesUntilRefused moment IsEnd (type_body_plan moment blocks size next)
   types_body_goes zero size next g = g []
   types_body_goes (suc more) size next g =
-      types_blocks_goes more (λ words. types_last moment (suc more) size (λ others. next (words ++ others)))
+      types_blocks_goes more (λ words. type_last_plan moment (suc more) size (λ others. next (words ++ others)))
       (λ words. types_last_goes (suc more) size (λ others. next (words ++ others)) (λ others. g (words ++ others)))
 
   -- a file that is put
 
   fills_parts_goes : (encoding : Encoding) (more : ℕ) (words : List ℕ) (next : Plan)
       → GoesUntilRefused moment IsEnd next
-      → GoesUntilRefused moment IsEnd (fills_parts moment encoding more words next)
-  unfolding fills_parts
+      → GoesUntilRefused moment IsEnd (fill_parts_plan moment encoding more words next)
+  unfolding fill_parts_plan
   fills_parts_goes encoding zero words next g = g
   fills_parts_goes encoding (suc more) words next g =
       let part = take (part_words encoding) words in
       each_goes (fill_events moment encoding part)
-      (fills_parts moment encoding more (drop (part_words encoding) words) next)
+      (fill_parts_plan moment encoding more (drop (part_words encoding) words) next)
       (all_append WantsDone (deposit_events (part_address encoding) part) (size_events moment encoding (length part))
       (want_deposits part (part_address encoding)) (want_announces moment encoding (length part)))
       (fills_parts_goes encoding more (drop (part_words encoding) words) next g)
@@ -234,23 +234,23 @@ abbrev closing : Moment → Plan
 closing moment = until_end moment (each moment (call_event moment (Close 2 0) ∷ []) (ends moment ok))
 
 pub copies_go_on : (moment : Moment) (to from : Spec)
-    → GoesUntilRefused moment (ClosesAtEnd moment) (copies moment to from)
+    → GoesUntilRefused moment (ClosesAtEnd moment) (copy_plan moment to from)
 copies_go_on moment to from = each_goes moment (ClosesAtEnd moment) (lookup_events moment from ++ enter_events moment to ++ list_events 128)
-    (examines moment (file_words + 3) (λ size. copies_body moment (blocks_said size) size (closing moment)))
+    (examines moment (file_words + 3) (λ size. copy_body_plan moment (blocks_said size) size (closing moment)))
     (all_append WantsDone (lookup_events moment from ++ enter_events moment to) (list_events 128)
     (all_append WantsDone (lookup_events moment from) (enter_events moment to) (want_finds moment from) (want_writes moment to))
     (want_lists 128))
     (examines_goes moment (ClosesAtEnd moment) (file_words + 3)
-    (λ size. copies_body moment (blocks_said size) size (closing moment))
+    (λ size. copy_body_plan moment (blocks_said size) size (closing moment))
     (λ size. copies_body_goes moment (ClosesAtEnd moment) (blocks_said size) size (closing moment) (inl refl)))
 
 pub reads_go_on : (moment : Moment) (encoding : Encoding) (spec : Spec)
-    → GoesUntilRefused moment (PrintsAtEnd moment encoding) (reads_file moment encoding spec)
+    → GoesUntilRefused moment (PrintsAtEnd moment encoding) (read_plan moment encoding spec)
 reads_go_on moment encoding spec = each_goes moment IsEnd (lookup_events moment spec ++ list_events 128)
-    (examines moment (file_words + 3) (λ size. types_body moment (blocks_said size) size printing))
+    (examines moment (file_words + 3) (λ size. type_body_plan moment (blocks_said size) size printing))
     (all_append WantsDone (lookup_events moment spec) (list_events 128) (want_finds moment spec) (want_lists 128))
     (examines_goes moment IsEnd (file_words + 3)
-    (λ size. types_body moment (blocks_said size) size printing)
+    (λ size. type_body_plan moment (blocks_said size) size printing)
     (λ size. types_body_goes moment IsEnd (blocks_said size) size printing (λ words. inl (words, refl))))
   where
     IsEnd : Plan → Type 0
@@ -260,24 +260,24 @@ reads_go_on moment encoding spec = each_goes moment IsEnd (lookup_events moment 
     printing words = until_end moment (ends moment (file_said encoding words))
 
 pub puts_go_on : (moment : Moment) (me : ℕ) (encoding : Encoding) (spec : Spec) (words : List ℕ)
-    → GoesUntilRefused moment (SaysOk moment) (keeps moment me encoding spec (Some words))
+    → GoesUntilRefused moment (SaysOk moment) (put_plan moment me encoding spec (Some words))
 puts_go_on moment me encoding spec words =
     let is = SaysOk moment in
     let close = each moment (call_event moment (Close 2 0) ∷ []) (ends moment ok) in
-    each_goes moment is (login_events me) (each moment (create_events moment encoding spec) (fills_all moment encoding words close))
+    each_goes moment is (login_events me) (each moment (create_events moment encoding spec) (fill_all_plan moment encoding words close))
     (tt, tt)
-    (each_goes moment is (create_events moment encoding spec) (fills_all moment encoding words close)
+    (each_goes moment is (create_events moment encoding spec) (fill_all_plan moment encoding words close)
     (want_creates moment encoding spec)
     (fills_parts_goes moment is encoding (parts_of encoding (length words)) words close
     (each_goes moment is (call_event moment (Close 2 0) ∷ []) (ends moment ok) (tt, tt) (inl refl))))
 
 pub gets_go_on : (moment : Moment) (me : ℕ) (encoding : Encoding) (spec : Spec)
-    → GoesUntilRefused moment (PrintsAtEnd moment encoding) (gets moment me encoding spec)
+    → GoesUntilRefused moment (PrintsAtEnd moment encoding) (get_plan moment me encoding spec)
 gets_go_on moment me encoding spec = each_goes moment (PrintsAtEnd moment encoding) (login_events me)
-    (reads_file moment encoding spec) (tt, tt) (reads_go_on moment encoding spec)
+    (read_plan moment encoding spec) (tt, tt) (reads_go_on moment encoding spec)
 
 pub lines_go_on : (moment : Moment) (me : ℕ) (command : Command)
-    → GoesUntilRefused moment (EndsSo moment me command) (begins moment me command)
+    → GoesUntilRefused moment (EndsSo moment me command) (line_plan moment me command)
 lines_go_on moment me (LoginLine owner) = refl
 lines_go_on moment me (DirectoryLine owner) = refl
 lines_go_on moment me (CopyLine to from) = copies_go_on moment to from
@@ -425,23 +425,23 @@ prints_at_end moment encoding plan acts said (words, is) led =
     (subst (λ p. RunsPlan p acts said) is led)
 
 pub read_refusals : (moment : Moment) (encoding : Encoding) (spec : Spec) (acts : List Act) (said : Spoken)
-    → RunsPlan (reads_file moment encoding spec) acts said
+    → RunsPlan (read_plan moment encoding spec) acts said
     → ((words : List ℕ) × (said ≡ file_said encoding words)) ⊎ IsRefusedAt moment acts said
 read_refusals moment encoding spec acts said led = acts_go_on moment (PrintsAtEnd moment encoding) (IsPrint encoding)
-    (prints_at_end moment encoding) (reads_file moment encoding spec) acts said (reads_go_on moment encoding spec) led
+    (prints_at_end moment encoding) (read_plan moment encoding spec) acts said (reads_go_on moment encoding spec) led
 
 pub put_refusals : (moment : Moment) (me : ℕ) (encoding : Encoding) (spec : Spec) (words : List ℕ) (acts : List Act)
-    (said : Spoken) → RunsPlan (keeps moment me encoding spec (Some words)) acts said
+    (said : Spoken) → RunsPlan (put_plan moment me encoding spec (Some words)) acts said
     → (said ≡ ok) ⊎ IsRefusedAt moment acts said
 put_refusals moment me encoding spec words acts said led = acts_go_on moment (SaysOk moment) (λ said. said ≡ ok)
-    (ok_at_end moment) (keeps moment me encoding spec (Some words)) acts said
+    (ok_at_end moment) (put_plan moment me encoding spec (Some words)) acts said
     (puts_go_on moment me encoding spec words) led
 
 pub get_refusals : (moment : Moment) (me : ℕ) (encoding : Encoding) (spec : Spec) (acts : List Act) (said : Spoken)
-    → RunsPlan (gets moment me encoding spec) acts said
+    → RunsPlan (get_plan moment me encoding spec) acts said
     → ((words : List ℕ) × (said ≡ file_said encoding words)) ⊎ IsRefusedAt moment acts said
 get_refusals moment me encoding spec acts said led = acts_go_on moment (PrintsAtEnd moment encoding) (IsPrint encoding)
-    (prints_at_end moment encoding) (gets moment me encoding spec) acts said
+    (prints_at_end moment encoding) (get_plan moment me encoding spec) acts said
     (gets_go_on moment me encoding spec) led
 
 shows_at_end : (moment : Moment) (me : ℕ) (owner : Option ℕ) (plan : Plan) (acts : List Act) (said : Spoken)
@@ -450,7 +450,7 @@ shows_at_end : (moment : Moment) (me : ℕ) (owner : Option ℕ) (plan : Plan) (
 shows_at_end moment me owner plan acts said is led =
     inl (by acts (subst (λ p. RunsPlan p acts said) is led))
   where
-    by : (acts : List Act) → RunsPlan (shows (unwrap_or owner me)) acts said → SaysSo me (DirectoryLine owner) said
+    by : (acts : List Act) → RunsPlan (directory_plan (unwrap_or owner me)) acts said → SaysSo me (DirectoryLine owner) said
     by [] led = let wrong = led in cc
     by (Asks event reply ∷ acts) led = absurd led
     by (Looks other answer ∷ []) (same, led) = (answer, let e = led in cc)
@@ -477,6 +477,6 @@ line_at_end moment me (MakeLine owner protection) = ok_at_end moment
 line_at_end moment me (QuotaLine owner blocks) = ok_at_end moment
 
 pub line_refusals : (moment : Moment) (me : ℕ) (command : Command) (acts : List Act) (said : Spoken)
-    → RunsPlan (begins moment me command) acts said → SaysSo me command said ⊎ IsRefusedAt moment acts said
+    → RunsPlan (line_plan moment me command) acts said → SaysSo me command said ⊎ IsRefusedAt moment acts said
 line_refusals moment me command acts said led = acts_go_on moment (EndsSo moment me command) (SaysSo me command)
-    (line_at_end moment me command) (begins moment me command) acts said (lines_go_on moment me command) led
+    (line_at_end moment me command) (line_plan moment me command) acts said (lines_go_on moment me command) led

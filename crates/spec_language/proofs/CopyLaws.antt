@@ -15,8 +15,8 @@ use Rattle.spec_machine.specs.Common.{longest, put_on, Service, Serving, Broken,
 use Rattle.spec_machine.specs.Common.{on_channel, of_job, call_of}
 use Rattle.spec_language.specs.Texts.{Spoken}
 use Rattle.spec_language.specs.Plans.{Plan, each, call_event, lookup_events, enter_events, list_events, in_event}
-use Rattle.spec_language.specs.Plans.{out_event, useti_event, copies_runs}
-use Rattle.spec_language.specs.Plans.{copies_blocks, copies_last, copies_body, copies, until_end, if_end, is_end}
+use Rattle.spec_language.specs.Plans.{out_event, useti_event, copy_runs_plan}
+use Rattle.spec_language.specs.Plans.{copy_blocks_plan, copy_last_plan, copy_body_plan, copy_plan, until_end, if_end, is_end}
 use Rattle.spec_language.specs.Plans.{fails, ends, ok, blocks_at_once, list_words, file_words, open_words, examines}
 use Rattle.spec_language.specs.Plans.{blocks_said}
 use Rattle.spec_language.specs.Copies.{Comes, IsJobReady, HasHalfwordExtension, AreShort, IsLineRefused, IsOneChange}
@@ -105,11 +105,11 @@ module _ (pack : Pack) (s : State) (j0 : SpecJob) (there : job_at s 1 ≡ Some j
   runs_copied : (me : ℕ) (from : Place) (v : SpecVersion) (to : Place) (kind : Kind) (file : File) (said : Spoken)
       (new : Service) (b count : ℕ) → 0 < b → b ≤ blocks_at_once → count ≡ b * 128 → (more k : ℕ) (next : Plan)
       (j : SpecJob) → Copying me from v to kind file k j → Lists count j.core → (k + more * b) * 128 ≤ length v.file.body
-      → Comes pack (Serving (at s j)) (copies_runs moment more next) said new
+      → Comes pack (Serving (at s j)) (copy_runs_plan moment more next) said new
       → IsLineRefused s.files said new
       ⊎ ((j' : SpecJob) × Copying me from v to kind file (k + more * b) j' × Lists count j'.core
       × Comes pack (Serving (at s j')) next said new)
-  unfolding copies_runs
+  unfolding copy_runs_plan
   runs_copied me from v to kind file said new b count some few size zero k next j is named fits c =
       let e : k ≡ k + zero * b = omega arith in
       inr (j, subst (λ n. Copying me from v to kind file n j) e is, named, c)
@@ -121,8 +121,8 @@ module _ (pack : Pack) (s : State) (j0 : SpecJob) (there : job_at s 1 ≡ Some j
       ⊎ ((j' : SpecJob) × Copying me from v to kind file n j' × Lists count j'.core
       × Comes pack (Serving (at s j')) next said new)) (next_blocks b more k)
       (runs_copied me from v to kind file said new b count some few size more (k + b) next d.0 d.2 d.3 left
-      (subst (λ u. Comes pack (Serving u) (copies_runs moment more next) said new) d.1 rest)))
-      (each_done pack (at s j) moment (in_event moment ∷ out_event moment ∷ []) (copies_runs moment more next) said new
+      (subst (λ u. Comes pack (Serving u) (copy_runs_plan moment more next) said new) d.1 rest)))
+      (each_done pack (at s j) moment (in_event moment ∷ out_event moment ∷ []) (copy_runs_plan moment more next) said new
       (tt, (tt, tt)) c)
 
   -- The command list names another number of words.
@@ -152,7 +152,7 @@ module _ (pack : Pack) (s : State) (j0 : SpecJob) (there : job_at s 1 ≡ Some j
   blocks_copied : (me : ℕ) (from : Place) (v : SpecVersion) (to : Place) (kind : Kind) (file : File) (next : Plan)
       (said : Spoken) (new : Service) (blocks : ℕ) (j : SpecJob) → Copying me from v to kind file 0 j
       → blocks * 128 ≤ length v.file.body
-      → Comes pack (Serving (at s j)) (copies_blocks moment blocks next) said new
+      → Comes pack (Serving (at s j)) (copy_blocks_plan moment blocks next) said new
       → IsLineRefused s.files said new
       ⊎ ((j' : SpecJob) × Copying me from v to kind file blocks j' × Lists 128 j'.core
       × Comes pack (Serving (at s j')) next said new)
@@ -170,19 +170,19 @@ module _ (pack : Pack) (s : State) (j0 : SpecJob) (there : job_at s 1 ≡ Some j
       (omega arith) (blocks / blocks_at_once) 0 (each moment (list_events 128) singles) (with_core j core1)
       (relisted me from v to kind file 0 j core1 is is1) named1 (omega (arith, runs_of blocks)) come1))
       (listed_anew me (blocks_at_once * 128)
-      (copies_runs moment (blocks / blocks_at_once) (each moment (list_events 128) singles)) said new j is.whole come)
+      (copy_runs_plan moment (blocks / blocks_at_once) (each moment (list_events 128) singles)) said new j is.whole come)
     where
       runs : ℕ
       runs = 0 + blocks / blocks_at_once * blocks_at_once
 
       singles : Plan
-      singles = copies_runs moment (blocks % blocks_at_once) next
+      singles = copy_runs_plan moment (blocks % blocks_at_once) next
 
   pub last_copied : (me : ℕ) (from : Place) (v : SpecVersion) (to : Place) (kind : Kind) (file : File) (more : ℕ)
       (next : Plan)
       (said : Spoken) (new : Service) (j : SpecJob) → Copying me from v to kind file more j → Lists 128 j.core
       → length v.file.body ≤ longest → more * 128 < length v.file.body → length v.file.body ≤ (more + 1) * 128
-      → Comes pack (Serving (at s j)) (copies_last moment (more + 1) (size_word (length v.file.body)) next) said new
+      → Comes pack (Serving (at s j)) (copy_last_plan moment (more + 1) (size_word (length v.file.body)) next) said new
       → IsLineRefused s.files said new
       ⊎ ((j' : SpecJob) × Copied me from v to kind file j' × Comes pack (Serving (at s j')) next said new)
   last_copied me from v to kind file more next said new j is named fits low high c =
@@ -342,7 +342,7 @@ module _ (pack : Pack) (s : State) (j0 : SpecJob) (there : job_at s 1 ≡ Some j
       (said : Spoken) (new : Service) (j : SpecJob) → IsJob me j → channel_at j 1 ≡ Some (reading from v 1)
       → channel_at j 2 ≡ Some (writing (side to kind (with_body file []) 1)) → Lists 128 j.core
       → length v.file.body ≤ longest → (blocks : ℕ) → blocks ≡ blocks_of (length v.file.body)
-      → Comes pack (Serving (at s j)) (copies_body moment blocks (size_word (length v.file.body)) next) said new
+      → Comes pack (Serving (at s j)) (copy_body_plan moment blocks (size_word (length v.file.body)) next) said new
       → IsLineRefused s.files said new
       ⊎ ((j' : SpecJob) × Copied me from v to kind file j' × Comes pack (Serving (at s j')) next said new)
   body_copied me from v to kind file next said new j is first second named fits zero count come =
@@ -362,9 +362,9 @@ module _ (pack : Pack) (s : State) (j0 : SpecJob) (there : job_at s 1 ≡ Some j
   body_copied me from v to kind file next said new j is first second named fits (suc more) count come = ⊎_elim inl
       (λ (j1, is1, named1, rest). last_copied me from v to kind file more next said new j1 is1 named1 fits
       (omega (arith, bounds)) (omega (arith, bounds))
-      (subst (λ n. Comes pack (Serving (at s j1)) (copies_last moment n (size_word (length v.file.body)) next) said new)
+      (subst (λ n. Comes pack (Serving (at s j1)) (copy_last_plan moment n (size_word (length v.file.body)) next) said new)
       one_more rest))
-      (blocks_copied me from v to kind file (copies_last moment (suc more) (size_word (length v.file.body)) next) said
+      (blocks_copied me from v to kind file (copy_last_plan moment (suc more) (size_word (length v.file.body)) next) said
       new more j (record { whole = is; first = first; second = second }) (omega (arith, bounds)) come)
     where
       one_more : suc more ≡ more + 1
@@ -389,7 +389,7 @@ at_home s j there = sym (ap (λ js. record s { jobs = js }) (set-slot s.jobs 1 j
 
 pub copies_are_exact : (pack : Pack) (moment : Moment) (me : ℕ) (s : State) (to from : Spec) (said : Spoken)
     (new : Service) → IsJobReady s me → HasHalfwordExtension to → HasHalfwordExtension from → AreShort s.files
-    → Comes pack (Serving s) (copies moment to from) said new
+    → Comes pack (Serving s) (copy_plan moment to from) said new
     → IsCopied moment me s to from said new ⊎ IsLineRefused s.files said new
 copies_are_exact pack moment me s to from said new ready to_is from_is short come = ⊎_elim inr
     (λ (t, all, same, rest). begun t all rest)
@@ -402,7 +402,7 @@ copies_are_exact pack moment me s to from said new ready to_is from_is short com
     closing = until_end moment (each moment (call_event moment (Close 2 0) ∷ []) (ends moment ok))
 
     rests : Plan
-    rests = examines moment (file_words + 3) (λ size. copies_body moment (blocks_said size) size closing)
+    rests = examines moment (file_words + 3) (λ size. copy_body_plan moment (blocks_said size) size closing)
 
     j0 : SpecJob
     j0 = ready.job
@@ -447,10 +447,10 @@ copies_are_exact pack moment me s to from said new ready to_is from_is short com
         ∙ spared f.job.core open_words (dump_mode ∷ disk ∷ 0 ∷ []) (file_words + 3) (inr (omega arith)) ∙ f.size in
         let fits : length v.file.body ≤ longest = short (place_of me from) v f.there in
         let examined = told pack s j0 there moment j (file_words + 3)
-        (λ size. copies_body moment (blocks_said size) size closing) said new (let l = is.core in omega arith)
+        (λ size. copy_body_plan moment (blocks_said size) size closing) said new (let l = is.core in omega arith)
         (subst (λ u. Comes pack (Serving u) rests said new) to_j rest) in
         let sized =
-        subst (λ n. Comes pack (Serving (at s j)) (copies_body moment (blocks_said n) n closing) said new) size
+        subst (λ n. Comes pack (Serving (at s j)) (copy_body_plan moment (blocks_said n) n closing) said new) size
         examined in
         ⊎_elim inr (λ (j', done, more). finished v f.there e.kind e.directory j' done more)
         (body_copied pack s j0 there moment me (place_of me from) v (place_of me to) e.kind

@@ -12,10 +12,10 @@ use Rattle.spec_machine.specs.Common.{first_free, rings_begin, SpecJob, State, j
 use Rattle.spec_machine.specs.Common.{Service, Serving, Steps}
 use Rattle.spec_language.specs.Texts.{Spoken}
 use Rattle.spec_language.specs.Transcripts.{core_words}
-use Rattle.spec_language.specs.Plans.{Plan, each, call_event, ends, ok, name_events, out_event, reads_file, new_words}
+use Rattle.spec_language.specs.Plans.{Plan, each, call_event, ends, ok, name_events, out_event, read_plan, new_words}
 use Rattle.spec_language.specs.Plans.{deposit_events}
 use Rattle.spec_language.specs.Plans.{open_words}
-use Rattle.spec_language.specs.Errands.{login_events, create_events, parts_of, fills_all, keeps, gets}
+use Rattle.spec_language.specs.Errands.{login_events, create_events, parts_of, fill_all_plan, put_plan, get_plan}
 use Rattle.spec_language.specs.Copies.{Comes, IsJobReady, IsLineRefused, HasHalfwordExtension, AreShort, IsPrinted}
 use Rattle.spec_language.specs.Copies.{IsPut, place_of, made, put_mode}
 use Rattle.spec_language.specs.declared.command.Spec.{Spec}
@@ -87,11 +87,11 @@ module _ (pack : Pack) (moment : Moment) (me : ℕ) (s : State) (said : Spoken) 
 
 pub gets_are_exact : (pack : Pack) (moment : Moment) (me : ℕ) (s : State) (encoding : Encoding) (spec : Spec)
     (said : Spoken) (new : Service) → 1 < length s.jobs → HasHalfwordExtension spec → AreShort s.files
-    → Comes pack (Serving s) (gets moment me encoding spec) said new
+    → Comes pack (Serving s) (get_plan moment me encoding spec) said new
     → IsPrinted me s encoding spec said new ⊎ IsLineRefused s.files said new
 gets_are_exact pack moment me s encoding spec said new there few short come = ⊎_elim inr
     (λ more. reads_are_exact pack moment me (logged s me) encoding spec said new (is_ready s me there) few short more)
-    (enters_done pack moment me s said new (reads_file moment encoding spec) come)
+    (enters_done pack moment me s said new (read_plan moment encoding spec) come)
 
 pub quiet_creates : (moment : Moment) (encoding : Encoding) (spec : Spec)
     → AllByRecursion IsQuiet (create_events moment encoding spec)
@@ -105,7 +105,7 @@ quiet_creates moment Octets spec = quiet_writes moment spec
 
 pub puts_are_exact : (pack : Pack) (moment : Moment) (me : ℕ) (s : State) (encoding : Encoding) (spec : Spec)
     (words : List ℕ) (said : Spoken) (new : Service) → 1 < length s.jobs → HasHalfwordExtension spec
-    → Comes pack (Serving s) (keeps moment me encoding spec (Some words)) said new
+    → Comes pack (Serving s) (put_plan moment me encoding spec (Some words)) said new
     → IsPut moment me s encoding spec words said new ⊎ IsLineRefused s.files said new
 puts_are_exact pack moment me s encoding spec words said new there few come = ⊎_elim inr
     (λ more. ⊎_elim inr (λ (t, all, same, rest). by encoding t all rest)
@@ -126,7 +126,7 @@ puts_are_exact pack moment me s encoding spec words said new there few come = �
     closing = each moment (call_event moment (Close 2 0) ∷ []) (ends moment ok)
 
     filling : Encoding → Plan
-    filling encoding = fills_all moment encoding words closing
+    filling encoding = fill_all_plan moment encoding words closing
 
     here : (encoding : Encoding) → File
     here encoding = made s.files (place_of me spec) (put_mode encoding) moment []

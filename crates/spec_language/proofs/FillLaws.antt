@@ -10,7 +10,7 @@ use Rattle.spec_machine.specs.Common.{after_writes, placed, SpecJob, State, Kind
 use Rattle.spec_machine.specs.Common.{Steps}
 use Rattle.spec_language.specs.Texts.{Spoken}
 use Rattle.spec_language.specs.Plans.{Plan, list_events, out_event, deposit_events, list_words, block_address}
-use Rattle.spec_language.specs.Errands.{fill_events, fills_parts, part_address, part_words, parts_of}
+use Rattle.spec_language.specs.Errands.{fill_events, fill_parts_plan, part_address, part_words, parts_of}
 use Rattle.spec_language.specs.Copies.{Comes, IsLineRefused}
 use Rattle.spec_language.specs.declared.encoding.Encoding.{Encoding}
 use Rattle.spec_language.specs.declared.encoding.Encoding.TheVariants.{Characters, Words, Octets}
@@ -83,10 +83,10 @@ module _ (pack : Pack) (s : State) (moment : Moment) (encoding : Encoding) (W : 
     (part_done : PartsAreDone pack s moment encoding W) where
   pub parts_done : (more k : ℕ) (done words : List ℕ) (next : Plan) (said : Spoken) (new : Service) (j : SpecJob)
       → more ≡ parts_of encoding (length words) → W k done j → (0 < length words → length done ≡ k * 128)
-      → Comes pack (Serving (at s j)) (fills_parts moment encoding more words next) said new
+      → Comes pack (Serving (at s j)) (fill_parts_plan moment encoding more words next) said new
       → IsLineRefused s.files said new
       ⊎ ((n : ℕ) × (j' : SpecJob) × W n (done ++ words) j' × Comes pack (Serving (at s j')) next said new)
-  unfolding fills_parts
+  unfolding fill_parts_plan
   parts_done zero k done words next said new j count is whole come =
       let none : words ≡ [] = empty words (no_words encoding (length words) count) in
       inr (k, j, subst (λ ws. W k ws j) (sym (append-nil done) ∙ ap (λ ws. done ++ ws) (sym none)) is, come)
@@ -104,8 +104,8 @@ module _ (pack : Pack) (s : State) (moment : Moment) (encoding : Encoding) (W : 
       (parts_done more (k + blocks_of (length part)) (done ++ part) behind next said new d.0
       (parts_left encoding more (length words) count ∙ ap (parts_of encoding) (sym (length-drop most words))) d.2
       (λ left. length-append done part ∙ edge left (whole some))
-      (subst (λ u. Comes pack (Serving u) (fills_parts moment encoding more behind next) said new) d.1 rest)))
-      (each_done pack (at s j) moment (fill_events moment encoding part) (fills_parts moment encoding more behind next) said
+      (subst (λ u. Comes pack (Serving u) (fill_parts_plan moment encoding more behind next) said new) d.1 rest)))
+      (each_done pack (at s j) moment (fill_events moment encoding part) (fill_parts_plan moment encoding more behind next) said
       new (quiet_fills moment encoding part) come)
     where
       most : ℕ

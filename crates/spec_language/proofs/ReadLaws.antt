@@ -10,8 +10,8 @@ use Rattle.spec_machine.specs.Common.{Service, Serving, Steps}
 use Rattle.spec_language.specs.Texts.{Spoken, file_said}
 use Rattle.spec_language.specs.Plans.{Plan, each, lookup_events, list_events, in_event, useti_event, fetches}
 use Rattle.spec_language.specs.Plans.{list_words, block_address}
-use Rattle.spec_language.specs.Plans.{file_words, blocks_at_once, types_runs, types_blocks, types_last, types_body}
-use Rattle.spec_language.specs.Plans.{reads_file, examines, blocks_said, until_end, ends}
+use Rattle.spec_language.specs.Plans.{file_words, blocks_at_once, type_runs_plan, type_blocks_plan, type_last_plan, type_body_plan}
+use Rattle.spec_language.specs.Plans.{read_plan, examines, blocks_said, until_end, ends}
 use Rattle.spec_language.specs.Copies.{Comes, IsJobReady, HasHalfwordExtension, AreShort, HasFiles, IsLineRefused}
 use Rattle.spec_language.specs.Copies.{IsPrinted, place_of}
 use Rattle.spec_language.specs.declared.command.Spec.{Spec}
@@ -96,11 +96,11 @@ module _ (pack : Pack) (s : State) (j0 : SpecJob) (there : job_at s 1 ≡ Some j
   runs_read : (me : ℕ) (place : Place) (v : SpecVersion) (said : Spoken) (new : Service) (b count : ℕ) → 0 < b → b ≤ 16
       → count ≡ b * 128 → (more k : ℕ) (next : List ℕ → Plan) (j : SpecJob) → Reads me place v (k + 1) count j
       → (k + more * b) * 128 ≤ length v.file.body
-      → Comes pack (Serving (at s j)) (types_runs moment more count next) said new
+      → Comes pack (Serving (at s j)) (type_runs_plan moment more count next) said new
       → IsLineRefused s.files said new
       ⊎ ((j' : SpecJob) × Reads me place v (k + more * b + 1) count j'
       × Comes pack (Serving (at s j')) (next (take (more * count) (drop (k * 128) v.file.body))) said new)
-  unfolding types_runs
+  unfolding type_runs_plan
   runs_read me place v said new b count some few size zero k next j is fits come =
       let e : k + 1 ≡ k + zero * b + 1 = omega arith in
       inr (
@@ -115,7 +115,7 @@ module _ (pack : Pack) (s : State) (j0 : SpecJob) (there : job_at s 1 ≡ Some j
       let d = blocks_taken me place v k b count j u is (omega arith) (omega arith) (whole_blocks b count size) (omega arith)
       steps in
       let words = take count (drop (k * 128) v.file.body) in
-      let behind : List ℕ → Plan = λ words. types_runs moment more count (λ others. next (words ++ others)) in
+      let behind : List ℕ → Plan = λ words. type_runs_plan moment more count (λ others. next (words ++ others)) in
       let got =
       fetched pack s j0 there moment count d.0 block_address behind said new
       (let l = d.2.whole.core in omega arith)
@@ -133,7 +133,7 @@ module _ (pack : Pack) (s : State) (j0 : SpecJob) (there : job_at s 1 ≡ Some j
       (runs_read me place v said new b count some few size more (k + b) (λ others. next (words ++ others)) d.0 d.2 left
       (subst (λ ws. Comes pack (Serving (at s d.0)) (behind ws) said new) d.3 got)))
       (each_done pack (at s j) moment (in_event moment ∷ []) (fetches moment count block_address
-      (λ words. types_runs moment more count (λ others. next (words ++ others)))) said new (tt, tt) come)
+      (λ words. type_runs_plan moment more count (λ others. next (words ++ others)))) said new (tt, tt) come)
 
   -- the command list names another number of words
   read_anew : (me : ℕ) (place : Place) (v : SpecVersion) (said : Spoken) (new : Service) (n was count : ℕ) (next : Plan)
@@ -147,7 +147,7 @@ module _ (pack : Pack) (s : State) (j0 : SpecJob) (there : job_at s 1 ≡ Some j
 
   blocks_read : (me : ℕ) (place : Place) (v : SpecVersion) (said : Spoken) (new : Service) (blocks : ℕ)
       (next : List ℕ → Plan) (j : SpecJob) → Reads me place v 1 128 j → blocks * 128 ≤ length v.file.body
-      → Comes pack (Serving (at s j)) (types_blocks moment blocks next) said new
+      → Comes pack (Serving (at s j)) (type_blocks_plan moment blocks next) said new
       → IsLineRefused s.files said new
       ⊎ ((j' : SpecJob) × Reads me place v (blocks + 1) 128 j'
       × Comes pack (Serving (at s j')) (next (take (blocks * 128) v.file.body)) said new)
@@ -163,11 +163,11 @@ module _ (pack : Pack) (s : State) (j0 : SpecJob) (there : job_at s 1 ≡ Some j
       (runs_read me place v said new 1 128 (omega arith) (omega arith) (omega arith) (blocks % blocks_at_once) runs
       (λ others. next (words ++ others)) j3 is3 (omega (arith, by_runs blocks)) come3))
       (read_anew me place v said new (runs + 1) (blocks_at_once * 128) 128
-      (types_runs moment (blocks % blocks_at_once) 128 (λ others. next (words ++ others))) j2 is2 come2))
+      (type_runs_plan moment (blocks % blocks_at_once) 128 (λ others. next (words ++ others))) j2 is2 come2))
       (runs_read me place v said new blocks_at_once (blocks_at_once * 128) (omega arith) (omega arith) (omega arith)
       (blocks / blocks_at_once) 0 behind j1 is1 (omega (arith, runs_of blocks)) come1))
       (read_anew me place v said new 1 128 (blocks_at_once * 128)
-      (types_runs moment (blocks / blocks_at_once) (blocks_at_once * 128) behind) j is come)
+      (type_runs_plan moment (blocks / blocks_at_once) (blocks_at_once * 128) behind) j is come)
     where
       runs : ℕ
       runs = 0 + blocks / blocks_at_once * blocks_at_once
@@ -177,7 +177,7 @@ module _ (pack : Pack) (s : State) (j0 : SpecJob) (there : job_at s 1 ≡ Some j
 
       behind : List ℕ → Plan
       behind words = each moment (list_events 128)
-          (types_runs moment (blocks % blocks_at_once) 128 (λ others. next (words ++ others)))
+          (type_runs_plan moment (blocks % blocks_at_once) 128 (λ others. next (words ++ others)))
 
       all_words : words ++ take (blocks % blocks_at_once * 128) (drop (runs * 128) v.file.body)
           ≡ take (blocks * 128) v.file.body
@@ -188,7 +188,7 @@ module _ (pack : Pack) (s : State) (j0 : SpecJob) (there : job_at s 1 ≡ Some j
   last_read : (me : ℕ) (place : Place) (v : SpecVersion) (said : Spoken) (new : Service) (more : ℕ) (next : List ℕ → Plan)
       (j : SpecJob) → Reads me place v (more + 1) 128 j → length v.file.body ≤ longest → more * 128 < length v.file.body
       → length v.file.body ≤ (more + 1) * 128
-      → Comes pack (Serving (at s j)) (types_last moment (more + 1) (size_word (length v.file.body)) next) said new
+      → Comes pack (Serving (at s j)) (type_last_plan moment (more + 1) (size_word (length v.file.body)) next) said new
       → IsLineRefused s.files said new
       ⊎ ((j' : SpecJob) × IsJob me j' × ((n : ℕ) × (channel_at j' 1 ≡ Some (reading place v n)))
       × Comes pack (Serving (at s j')) (next (drop (more * 128) v.file.body)) said new)
@@ -244,7 +244,7 @@ module _ (pack : Pack) (s : State) (j0 : SpecJob) (there : job_at s 1 ≡ Some j
   body_read : (me : ℕ) (place : Place) (v : SpecVersion) (said : Spoken) (new : Service) (blocks : ℕ)
       (next : List ℕ → Plan) (j : SpecJob) → Reads me place v 1 128 j → length v.file.body ≤ longest
       → blocks ≡ blocks_of (length v.file.body)
-      → Comes pack (Serving (at s j)) (types_body moment blocks (size_word (length v.file.body)) next) said new
+      → Comes pack (Serving (at s j)) (type_body_plan moment blocks (size_word (length v.file.body)) next) said new
       → IsLineRefused s.files said new
       ⊎ ((j' : SpecJob) × IsJob me j' × ((n : ℕ) × (channel_at j' 1 ≡ Some (reading place v n)))
       × Comes pack (Serving (at s j')) (next v.file.body) said new)
@@ -274,9 +274,9 @@ module _ (pack : Pack) (s : State) (j0 : SpecJob) (there : job_at s 1 ≡ Some j
       ))
       (last_read me place v said new more (λ others. next (take (more * 128) v.file.body ++ others)) j1 is1 fits
       (omega (arith, bounds)) (omega (arith, bounds))
-      (subst (λ n. Comes pack (Serving (at s j1)) (types_last moment n (size_word (length v.file.body))
+      (subst (λ n. Comes pack (Serving (at s j1)) (type_last_plan moment n (size_word (length v.file.body))
       (λ others. next (take (more * 128) v.file.body ++ others))) said new) one_more rest)))
-      (blocks_read me place v said new more (λ words. types_last moment (suc more) (size_word (length v.file.body))
+      (blocks_read me place v said new more (λ words. type_last_plan moment (suc more) (size_word (length v.file.body))
       (λ others. next (words ++ others))) j is (omega (arith, bounds)) come)
     where
       one_more : suc more ≡ more + 1
@@ -290,7 +290,7 @@ module _ (pack : Pack) (s : State) (j0 : SpecJob) (there : job_at s 1 ≡ Some j
 
 pub reads_are_exact : (pack : Pack) (moment : Moment) (me : ℕ) (s : State) (encoding : Encoding) (spec : Spec)
     (said : Spoken) (new : Service) → IsJobReady s me → HasHalfwordExtension spec → AreShort s.files
-    → Comes pack (Serving s) (reads_file moment encoding spec) said new
+    → Comes pack (Serving s) (read_plan moment encoding spec) said new
     → IsPrinted me s encoding spec said new ⊎ IsLineRefused s.files said new
 reads_are_exact pack moment me s encoding spec said new ready few short come = ⊎_elim inr
     (λ (t, all, same, rest). begun t all rest)
@@ -302,7 +302,7 @@ reads_are_exact pack moment me s encoding spec said new ready few short come = �
     closing words = until_end moment (ends moment (file_said encoding words))
 
     rests : Plan
-    rests = examines moment (file_words + 3) (λ size. types_body moment (blocks_said size) size closing)
+    rests = examines moment (file_words + 3) (λ size. type_body_plan moment (blocks_said size) size closing)
 
     j0 : SpecJob
     j0 = ready.job
@@ -342,10 +342,10 @@ reads_are_exact pack moment me s encoding spec said new ready few short come = �
         spared f.job.core list_words (list_pair 128) (file_words + 3) (inl (omega arith)) ∙ f.size in
         let fits : length v.file.body ≤ longest = short (place_of me spec) v f.there in
         let examined = told pack s j0 there moment j (file_words + 3)
-        (λ size. types_body moment (blocks_said size) size closing) said new (let l = is.core in omega arith)
+        (λ size. type_body_plan moment (blocks_said size) size closing) said new (let l = is.core in omega arith)
         (subst (λ u. Comes pack (Serving u) rests said new) to_j rest) in
         let sized =
-        subst (λ n. Comes pack (Serving (at s j)) (types_body moment (blocks_said n) n closing) said new) size
+        subst (λ n. Comes pack (Serving (at s j)) (type_body_plan moment (blocks_said n) n closing) said new) size
         examined in
         ⊎_elim inr (λ (j', is', reads', more). finished v f.there j' is' reads' more)
         (body_read pack s j0 there moment me (place_of me spec) v said new

@@ -9,7 +9,7 @@ use Rattle.spec_language.specs.Commands.{Says, Means}
 use Rattle.spec_language.specs.Scripts.{SaysEvent, MeansEvent}
 use Rattle.spec_language.specs.Texts.{Spoken, both_said}
 use Rattle.spec_image.specs.declared.entry.Entry.{Entry}
-use Rattle.spec_language.specs.Plans.{Plan, Ask, Show, Say, Act, Asks, Looks, Leads, begins}
+use Rattle.spec_language.specs.Plans.{Plan, Ask, Show, Say, Act, Asks, Looks, Leads, line_plan}
 use Rattle.spec_language.specs.Transcripts.{login_said, login_who, LogsIn, Acts, Speaks, IsTranscript, Orders}
 use Rattle.spec_language.specs.Transcripts.{Scripts, reports_reply, core_words, Served, Went}
 use Rattle.spec_language.specs.declared.command.Command.{Command}
@@ -136,7 +136,7 @@ module _ (pack : Pack) (moment : Moment) where
         (subst (Related s) (sym (subst (λ z. Served pack t z w) b.0 q)) r),
   )
   same_acts (Some me) command s t u w acts bcts one other x y r a b p q =
-      let h = same_conduct (begins moment me command) s t u w acts bcts one other r a.0 b.0 p q in
+      let h = same_conduct (line_plan moment me command) s t u w acts bcts one other r a.0 b.0 p q in
       (h.0, a.1 ∙ sym b.1, h.1)
 
   same_speech : (user : Option ℕ) (meant : Option Command) (s t u w : State) (acts bcts : List Act) (one other : Spoken)

@@ -6,7 +6,7 @@ use Rattle.words36.specs.declared.moment.Moment.{Moment}
 use Rattle.spec_language.specs.Texts.{Spoken, prints, typed, file_said, refuses, list_said}
 use Rattle.spec_language.specs.Plans.{Plan, Ask, Show, Say, Act, Asks, Looks, each, call_event, ends, fails, ok}
 use Rattle.spec_language.specs.Plans.{until_end}
-use Rattle.spec_language.specs.Plans.{in_event, is_end, shows}
+use Rattle.spec_language.specs.Plans.{in_event, is_end, directory_plan}
 use Rattle.spec_language.specs.declared.command.Command.{Command}
 use Rattle.spec_language.specs.declared.command.Command.TheVariants.{Login as LoginLine, Directory as DirectoryLine}
 use Rattle.spec_language.specs.declared.command.Command.TheVariants.{Copy as CopyLine, Rename as RenameLine}
@@ -69,7 +69,7 @@ TellingsHaveCauses =
 -- The end of each line. LOGIN asks nothing here, and DIRECTORY no event.
 abbrev pub EndsSo : Moment → ℕ → Command → Plan → Type 0
 EndsSo moment me (LoginLine owner) plan = plan ≡ Say (prints [])
-EndsSo moment me (DirectoryLine owner) plan = plan ≡ shows (unwrap_or owner me)
+EndsSo moment me (DirectoryLine owner) plan = plan ≡ directory_plan (unwrap_or owner me)
 EndsSo moment me (CopyLine to from) plan = ClosesAtEnd moment plan
 EndsSo moment me (RenameLine to from) plan = SaysOk moment plan
 EndsSo moment me (DeleteLine spec) plan = SaysOk moment plan

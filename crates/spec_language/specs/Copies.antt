@@ -10,14 +10,14 @@ use Rattle.spec_machine.specs.Common.{SpecOutput, SpecJob, State, job_at, own_if
 use Rattle.spec_machine.specs.Common.{Broken}
 use Rattle.spec_machine.specs.Common.{Steps, Answers, AnswersAll, IsStart, writes_at, dump_mode}
 use Rattle.spec_language.specs.Texts.{Spoken, prints, file_said, complains, refuses}
-use Rattle.spec_language.specs.Plans.{Plan, Act, RunsPlan, ok, copies, reads_file}
+use Rattle.spec_language.specs.Plans.{Plan, Act, RunsPlan, ok, copy_plan, read_plan}
 use Rattle.spec_language.specs.Transcripts.{Went, core_words}
 use Rattle.spec_machine.specs.declared.call.Event.{Event}
 use Rattle.spec_machine.specs.declared.call.Event.TheVariants.{Login, Deposit, Examine, Call as Calls}
 use Rattle.spec_machine.specs.declared.call.Reply.{Reply}
 use Rattle.spec_machine.specs.declared.call.Reply.TheVariants.{Done}
 use Rattle.spec_language.specs.declared.command.Spec.{Spec}
-use Rattle.spec_language.specs.Errands.{keeps, gets}
+use Rattle.spec_language.specs.Errands.{put_plan, get_plan}
 use Rattle.spec_language.specs.declared.encoding.Encoding.{Encoding}
 use Rattle.spec_language.specs.declared.encoding.Encoding.TheVariants.{Characters, Words, Octets}
 
@@ -94,7 +94,7 @@ abbrev pub CopiesAreExact : Type 0
 CopiesAreExact =
     (pack : Pack) (moment : Moment) (me : ℕ) (s : State) (to from : Spec) (said : Spoken) (new : Service)
     → IsJobReady s me → HasHalfwordExtension to → HasHalfwordExtension from → AreShort s.files
-    → Comes pack (Serving s) (copies moment to from) said new
+    → Comes pack (Serving s) (copy_plan moment to from) said new
     → IsCopied moment me s to from said new ⊎ IsLineRefused s.files said new
 
 -- A file that is read is printed, or its words are refused; the files stay.
@@ -117,7 +117,7 @@ abbrev pub ReadsAreExact : Type 0
 ReadsAreExact =
     (pack : Pack) (moment : Moment) (me : ℕ) (s : State) (encoding : Encoding) (spec : Spec) (said : Spoken)
     (new : Service) → IsJobReady s me → HasHalfwordExtension spec → AreShort s.files
-    → Comes pack (Serving s) (reads_file moment encoding spec) said new
+    → Comes pack (Serving s) (read_plan moment encoding spec) said new
     → IsPrinted me s encoding spec said new ⊎ IsLineRefused s.files said new
 
 -- Errands, for which job 1 logs in.
@@ -138,14 +138,14 @@ abbrev pub PutsAreExact : Type 0
 PutsAreExact =
     (pack : Pack) (moment : Moment) (me : ℕ) (s : State) (encoding : Encoding) (spec : Spec) (words : List ℕ)
     (said : Spoken) (new : Service) → 1 < length s.jobs → HasHalfwordExtension spec
-    → Comes pack (Serving s) (keeps moment me encoding spec (Some words)) said new
+    → Comes pack (Serving s) (put_plan moment me encoding spec (Some words)) said new
     → IsPut moment me s encoding spec words said new ⊎ IsLineRefused s.files said new
 
 abbrev pub GetsAreExact : Type 0
 GetsAreExact =
     (pack : Pack) (moment : Moment) (me : ℕ) (s : State) (encoding : Encoding) (spec : Spec) (said : Spoken)
     (new : Service) → 1 < length s.jobs → HasHalfwordExtension spec → AreShort s.files
-    → Comes pack (Serving s) (gets moment me encoding spec) said new
+    → Comes pack (Serving s) (get_plan moment me encoding spec) said new
     → IsPrinted me s encoding spec said new ⊎ IsLineRefused s.files said new
 
 -- What these laws require of a state holds for each state of a run that began with the files of a disk.

@@ -11,7 +11,7 @@ use Rattle.spec_language.specs.Spellings.{Are}
 use Rattle.spec_language.specs.Texts.{Spoken, line, silent, both_said, complains, refuses, list_said}
 use Rattle.spec_language.specs.Plans.{Plan, Show, Say, each, call_event, deposit_events, name_events, enter_events}
 use Rattle.spec_language.specs.Plans.{list_events, out_event}
-use Rattle.spec_language.specs.Plans.{reads_file, ends, ok, open_words, new_words, block_address, blocks_at_once}
+use Rattle.spec_language.specs.Plans.{read_plan, ends, ok, open_words, new_words, block_address, blocks_at_once}
 use Rattle.spec_language.specs.Transcripts.{core_words}
 use Rattle.spec_machine.specs.declared.call.Call.TheVariants.{Open, Enter, Outbuf, Close}
 use Rattle.spec_machine.specs.declared.call.Event.{Event}
@@ -31,26 +31,26 @@ abbrev pub login_events : ℕ → List Event
 login_events owner = Login 1 owner core_words ∷ []
 
 -- A file is got: it is read whole, and then printed or refused.
-abbrev pub gets : Moment → ℕ → Encoding → Spec → Plan
-gets moment owner encoding spec = each moment (login_events owner) (reads_file moment encoding spec)
+abbrev pub get_plan : Moment → ℕ → Encoding → Spec → Plan
+get_plan moment owner encoding spec = each moment (login_events owner) (read_plan moment encoding spec)
 
 -- Directories are listed, one after the other, by the job that may look into all of them.
 
 abbrev pub operator : ℕ
 operator = join 1 2
 
-unfoldable pub shows_all : Style → List ℕ → Spoken → Plan
-shows_all style [] said = Say said
-shows_all style (owner ∷ owners) said =
-    Show owner (λ answer. shows_all style owners (both_said said (list_said style owner answer)))
+unfoldable pub directories_plan : Style → List ℕ → Spoken → Plan
+directories_plan style [] said = Say said
+directories_plan style (owner ∷ owners) said =
+    Show owner (λ answer. directories_plan style owners (both_said said (list_said style owner answer)))
 
-abbrev pub surveys : Moment → Style → List ℕ → Plan
-surveys moment style owners = each moment (login_events operator) (shows_all style owners silent)
+abbrev pub list_plan : Moment → Style → List ℕ → Plan
+list_plan moment style owners = each moment (login_events operator) (directories_plan style owners silent)
 
 -- the same, after it was asked which directories there are
-abbrev pub surveys_of : Moment → Style → Result (List ℕ) Reply → Plan
-surveys_of moment style (Ok owners) = surveys moment style owners
-surveys_of moment style (Err reply) = Say (refuses reply)
+abbrev pub list_plan_of : Moment → Style → Result (List ℕ) Reply → Plan
+list_plan_of moment style (Ok owners) = list_plan moment style owners
+list_plan_of moment style (Err reply) = Say (refuses reply)
 
 -- A file is put. Its bytes determine which words it has, or that they make no words: a character is a byte from 1 to
 -- 127, since a null would be lost, and a word has 36 bits. Any bytes of eight bits make words.
@@ -117,21 +117,21 @@ abbrev pub parts_of : Encoding → ℕ → ℕ
 parts_of encoding count = (count + part_words encoding - 1) / part_words encoding
 
 -- words are put in parts, the last of which may be shorter
-unfoldable pub fills_parts : Moment → Encoding → ℕ → List ℕ → Plan → Plan
-fills_parts moment encoding zero words next = next
-fills_parts moment encoding (suc more) words next = each moment
+unfoldable pub fill_parts_plan : Moment → Encoding → ℕ → List ℕ → Plan → Plan
+fill_parts_plan moment encoding zero words next = next
+fill_parts_plan moment encoding (suc more) words next = each moment
     (fill_events moment encoding (take (part_words encoding) words))
-    (fills_parts moment encoding more (drop (part_words encoding) words) next)
+    (fill_parts_plan moment encoding more (drop (part_words encoding) words) next)
 
-abbrev pub fills_all : Moment → Encoding → List ℕ → Plan → Plan
-fills_all moment encoding words next = fills_parts moment encoding (parts_of encoding (length words)) words next
+abbrev pub fill_all_plan : Moment → Encoding → List ℕ → Plan → Plan
+fill_all_plan moment encoding words next = fill_parts_plan moment encoding (parts_of encoding (length words)) words next
 
 -- nothing is asked if a file can't have these bytes
-abbrev pub keeps : Moment → ℕ → Encoding → Spec → Option (List ℕ) → Plan
-keeps moment owner encoding spec None = Say (complains (unfit encoding))
-keeps moment owner encoding spec (Some words) =
+abbrev pub put_plan : Moment → ℕ → Encoding → Spec → Option (List ℕ) → Plan
+put_plan moment owner encoding spec None = Say (complains (unfit encoding))
+put_plan moment owner encoding spec (Some words) =
     each moment (login_events owner) (each moment (create_events moment encoding spec)
-    (fills_all moment encoding words (each moment (call_event moment (Close 2 0) ∷ []) (ends moment ok))))
+    (fill_all_plan moment encoding words (each moment (call_event moment (Close 2 0) ∷ []) (ends moment ok))))
 
 -- What is printed for a volume: the number of its blocks, and the number of those that are left, which may be below 0.
 abbrev pub volume_line : ℕ → ℤ → List ℕ

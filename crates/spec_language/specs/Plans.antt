@@ -206,79 +206,79 @@ abbrev pub blocks_at_once : ℕ
 blocks_at_once = 16
 
 -- INs, each followed by an OUT of the words that it moved
-unfoldable pub copies_runs : Moment → ℕ → Plan → Plan
-copies_runs moment zero next = next
-copies_runs moment (suc more) next = each moment (in_event moment ∷ out_event moment ∷ []) (copies_runs moment more next)
+unfoldable pub copy_runs_plan : Moment → ℕ → Plan → Plan
+copy_runs_plan moment zero next = next
+copy_runs_plan moment (suc more) next = each moment (in_event moment ∷ out_event moment ∷ []) (copy_runs_plan moment more next)
 
 -- whole blocks: in runs, and those that make no run one by one
-abbrev pub copies_blocks : Moment → ℕ → Plan → Plan
-copies_blocks moment blocks next = each moment (list_events (blocks_at_once * 128))
-    (copies_runs moment (blocks / blocks_at_once) (each moment (list_events 128)
-    (copies_runs moment (blocks % blocks_at_once) next)))
+abbrev pub copy_blocks_plan : Moment → ℕ → Plan → Plan
+copy_blocks_plan moment blocks next = each moment (list_events (blocks_at_once * 128))
+    (copy_runs_plan moment (blocks / blocks_at_once) (each moment (list_events 128)
+    (copy_runs_plan moment (blocks % blocks_at_once) next)))
 
-abbrev pub copies_last : Moment → ℕ → ℕ → Plan → Plan
-copies_last moment n size next = sizes moment n size
+abbrev pub copy_last_plan : Moment → ℕ → ℕ → Plan → Plan
+copy_last_plan moment n size next = sizes moment n size
     (λ count. each moment (list_events count ++ useti_event moment n ∷ in_event moment ∷ out_event moment ∷ []) next)
 
-abbrev pub copies_body : Moment → ℕ → ℕ → Plan → Plan
-copies_body moment zero size next = next
-copies_body moment (suc more) size next = copies_blocks moment more (copies_last moment (suc more) size next)
+abbrev pub copy_body_plan : Moment → ℕ → ℕ → Plan → Plan
+copy_body_plan moment zero size next = next
+copy_body_plan moment (suc more) size next = copy_blocks_plan moment more (copy_last_plan moment (suc more) size next)
 
-abbrev pub copies : Moment → Spec → Spec → Plan
-copies moment to from =
+abbrev pub copy_plan : Moment → Spec → Spec → Plan
+copy_plan moment to from =
     each moment (lookup_events moment from ++ enter_events moment to ++ list_events 128)
-    (examines moment (file_words + 3) (λ size. copies_body moment (blocks_said size) size
+    (examines moment (file_words + 3) (λ size. copy_body_plan moment (blocks_said size) size
     (until_end moment (each moment (call_event moment (Close 2 0) ∷ []) (ends moment ok)))))
 
 -- the list of one directory
-abbrev pub shows : ℕ → Plan
-shows owner = Show owner (λ answer. Say (list_said Columns owner answer))
+abbrev pub directory_plan : ℕ → Plan
+directory_plan owner = Show owner (λ answer. Say (list_said Columns owner answer))
 
 -- Typing: the words of whole blocks, then those of the last.
 
 -- a number of INs, each of which moves `count` words
-unfoldable pub types_runs : Moment → ℕ → ℕ → (List ℕ → Plan) → Plan
-types_runs moment zero count next = next []
-types_runs moment (suc more) count next = each moment (in_event moment ∷ [])
-    (fetches moment count block_address (λ words. types_runs moment more count (λ others. next (words ++ others))))
+unfoldable pub type_runs_plan : Moment → ℕ → ℕ → (List ℕ → Plan) → Plan
+type_runs_plan moment zero count next = next []
+type_runs_plan moment (suc more) count next = each moment (in_event moment ∷ [])
+    (fetches moment count block_address (λ words. type_runs_plan moment more count (λ others. next (words ++ others))))
 
 -- `blocks` whole blocks: in runs, and those that make no run one by one
-abbrev pub types_blocks : Moment → ℕ → (List ℕ → Plan) → Plan
-types_blocks moment blocks next = each moment (list_events (blocks_at_once * 128))
-    (types_runs moment (blocks / blocks_at_once) (blocks_at_once * 128) (λ words. each moment (list_events 128)
-    (types_runs moment (blocks % blocks_at_once) 128 (λ others. next (words ++ others)))))
+abbrev pub type_blocks_plan : Moment → ℕ → (List ℕ → Plan) → Plan
+type_blocks_plan moment blocks next = each moment (list_events (blocks_at_once * 128))
+    (type_runs_plan moment (blocks / blocks_at_once) (blocks_at_once * 128) (λ words. each moment (list_events 128)
+    (type_runs_plan moment (blocks % blocks_at_once) 128 (λ others. next (words ++ others)))))
 
-abbrev pub types_last : Moment → ℕ → ℕ → (List ℕ → Plan) → Plan
-types_last moment n size next = sizes moment n size
+abbrev pub type_last_plan : Moment → ℕ → ℕ → (List ℕ → Plan) → Plan
+type_last_plan moment n size next = sizes moment n size
     (λ count. each moment (list_events count ++ useti_event moment n ∷ in_event moment ∷ [])
     (fetches moment count block_address next))
 
-abbrev pub types_body : Moment → ℕ → ℕ → (List ℕ → Plan) → Plan
-types_body moment zero size next = next []
-types_body moment (suc more) size next = types_blocks moment more
-    (λ words. types_last moment (suc more) size (λ others. next (words ++ others)))
+abbrev pub type_body_plan : Moment → ℕ → ℕ → (List ℕ → Plan) → Plan
+type_body_plan moment zero size next = next []
+type_body_plan moment (suc more) size next = type_blocks_plan moment more
+    (λ words. type_last_plan moment (suc more) size (λ others. next (words ++ others)))
 
 -- a file is read whole, and then printed
-abbrev pub reads_file : Moment → Encoding → Spec → Plan
-reads_file moment encoding spec =
+abbrev pub read_plan : Moment → Encoding → Spec → Plan
+read_plan moment encoding spec =
     each moment (lookup_events moment spec ++ list_events 128)
-    (examines moment (file_words + 3) (λ size. types_body moment (blocks_said size) size
+    (examines moment (file_words + 3) (λ size. type_body_plan moment (blocks_said size) size
     (λ words. until_end moment (ends moment (file_said encoding words)))))
 
-abbrev pub types : Moment → Spec → Plan
-types moment spec = reads_file moment Characters spec
+abbrev pub type_plan : Moment → Spec → Plan
+type_plan moment spec = read_plan moment Characters spec
 
 -- the plan of a line, in a session that is logged in as `me`
-abbrev pub begins : Moment → ℕ → Command → Plan
-begins moment me (LoginLine owner) = Say (prints [])
-begins moment me (DirectoryLine owner) = shows (unwrap_or owner me)
-begins moment me (CopyLine to from) = copies moment to from
-begins moment me (RenameLine to from) = each moment (rename_events moment to from) (ends moment ok)
-begins moment me (DeleteLine spec) = each moment (delete_events moment spec) (ends moment ok)
-begins moment me (TypeLine spec) = types moment spec
-begins moment me (ProtectLine spec protection) = each moment (protect_events moment spec protection) (ends moment ok)
-begins moment me (MakeLine owner protection) = each moment (make_dir_events moment owner protection) (ends moment ok)
-begins moment me (QuotaLine owner blocks) = each moment (quota_events moment owner blocks) (ends moment ok)
+abbrev pub line_plan : Moment → ℕ → Command → Plan
+line_plan moment me (LoginLine owner) = Say (prints [])
+line_plan moment me (DirectoryLine owner) = directory_plan (unwrap_or owner me)
+line_plan moment me (CopyLine to from) = copy_plan moment to from
+line_plan moment me (RenameLine to from) = each moment (rename_events moment to from) (ends moment ok)
+line_plan moment me (DeleteLine spec) = each moment (delete_events moment spec) (ends moment ok)
+line_plan moment me (TypeLine spec) = type_plan moment spec
+line_plan moment me (ProtectLine spec protection) = each moment (protect_events moment spec protection) (ends moment ok)
+line_plan moment me (MakeLine owner protection) = each moment (make_dir_events moment owner protection) (ends moment ok)
+line_plan moment me (QuotaLine owner blocks) = each moment (quota_events moment owner blocks) (ends moment ok)
 
 -- What is asked of the service, with the answer.
 pub data Act : Type 0 where

@@ -8,7 +8,7 @@ use Rattle.spec_language.specs.Commands.{Means}
 use Rattle.spec_language.specs.Scripts.{MeansEvent, words_given, wrong}
 use Rattle.spec_language.specs.Texts.{Spoken, both_said, silent, prints, complains, refuses, greeting, is_broken}
 use Rattle.spec_language.specs.Texts.{line}
-use Rattle.spec_language.specs.Plans.{Act, Asks, Looks, RunsPlan, begins}
+use Rattle.spec_language.specs.Plans.{Act, Asks, Looks, RunsPlan, line_plan}
 use Rattle.spec_language.specs.declared.command.Command.{Command}
 use Rattle.spec_language.specs.declared.command.Command.TheVariants.{Login as LoginLine}
 use Rattle.spec_machine.specs.declared.call.Event.{Event}
@@ -40,7 +40,7 @@ LogsIn user owner acts said then_who = (reply : Reply) × (acts ≡ Asks (Login 
 abbrev pub Acts : Moment → Option ℕ → Command → List Act → Spoken → Option ℕ → Type 0
 Acts moment None command acts said then_who = (acts ≡ []) × (said ≡ complains (codes "?Not logged in"))
     × (then_who ≡ None)
-Acts moment (Some me) command acts said then_who = RunsPlan (begins moment me command) acts said × (then_who ≡ Some me)
+Acts moment (Some me) command acts said then_who = RunsPlan (line_plan moment me command) acts said × (then_who ≡ Some me)
 
 -- What a line of this meaning asks and prints, and who is logged in after it.
 abbrev pub Speaks : Moment → Option ℕ → Option Command → List Act → Spoken → Option ℕ → Type 0

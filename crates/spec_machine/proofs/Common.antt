@@ -1,5 +1,5 @@
 -- The lemmas that other crates cite, passed on from one place. Declares nothing.
-pub use Rattle.spec_machine.proofs.PlayedEvents.{at_start, bar, foo, foo_of, fresh, play, small, ten_twenty}
+pub use Rattle.spec_machine.proofs.EventRuns.{at_start, bar, foo, foo_of, fresh, run_events, small, ten_twenty}
 pub use Rattle.spec_machine.proofs.SlotLaws.{filter_map-set, none_some, set-slot, slot-empty, slot-set_cases}
 pub use Rattle.spec_machine.proofs.SlotLaws.{slot-set_other, slot-set_same}
 pub use Rattle.spec_machine.proofs.SideLaws.{none_passes, or_false, version_of_all}

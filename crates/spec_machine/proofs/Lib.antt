@@ -1,4 +1,4 @@
-pub mod PlayedEvents
+pub mod EventRuns
 pub mod Rows
 pub mod SlotLaws
 pub mod SideLaws

@@ -1,7 +1,7 @@
 //! Puts that the device stops.
 use crate::service::start;
 use blockdisk::{Disk, MemDisk, NoMemory};
-use commands::{Encoding, Existing, Monitor, NewFile, get, put};
+use commands::{Encoding, Existing, Monitor, PutFile, get, put};
 use std::alloc::Global;
 use std::process::Abort;
 use std::test::Fail;
@@ -27,7 +27,7 @@ fn put_foo(
     printed: &[u8],
 ) {
     let moment = Moment::new(0, 0).unwrap();
-    let file = NewFile {
+    let file = PutFile {
         owner: owner(),
         name: foo(),
         encoding: Encoding::Characters,

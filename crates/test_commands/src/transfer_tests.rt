@@ -2,7 +2,7 @@
 use crate::service::{drop_monitor, started};
 use blockdisk::MemDisk;
 use commands::{
-    Encoding, Existing, Export, Exported, Import, Monitor, NewFile, encoding_of, entries, export,
+    Encoding, Existing, Export, Exported, Import, Monitor, PutFile, encoding_of, entries, export,
     import, put,
 };
 use std::alloc::Global;
@@ -47,7 +47,7 @@ fn expect_put(
     rt: &impl Abort,
     alloc: Global,
     monitor: &mut Service,
-    file: &NewFile,
+    file: &PutFile,
     bytes: &[u8],
     printed: &[u8],
 ) {
@@ -128,13 +128,13 @@ fn expect_entries(rt: &impl Abort, alloc: Global, monitor: &mut Service, count: 
 
 /// Checks that a file is put if there is none of its name, and that an existing one is replaced only on request.
 fn check_existing(rt: &impl Abort, alloc: Global, monitor: &mut Service) {
-    let new = NewFile {
+    let new = PutFile {
         owner: owner(),
         name: bar(),
         encoding: Encoding::Characters,
         existing: Existing::Refuse,
     };
-    let old = NewFile {
+    let old = PutFile {
         owner: owner(),
         name: bar(),
         encoding: Encoding::Characters,

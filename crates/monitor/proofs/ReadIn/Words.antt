@@ -64,34 +64,34 @@ module _ (live : List (Option LiveVersion)) (job : Job) (number : ℕ) (c : Open
   next_first has = has.each number c there i side
 
 -- The version that it reads: what its output side writes while that is open, else the one that is pinned.
-module _ (core : MemoryMap) (job : Job) (number : ℕ) (c : OpenChannel) (there : slot job.channels number ≡ Some c)
+module _ (map : MemoryMap) (job : Job) (number : ℕ) (c : OpenChannel) (there : slot job.channels number ≡ Some c)
     (i : Input) (side : c.input ≡ Some i)
-    (held : (key : ℕ) → times key (pins_of (readers_in (Some job))) ≤ readers_of (version_at core.live key))
-    (live : (key : ℕ) → times key (keys_of (sides_in (Some job))) ≤ present (pending_at core.pending key)) where
-  pub is_readable : IsReadable core (handle_read c.output i)
+    (held : (key : ℕ) → times key (pins_of (readers_in (Some job))) ≤ readers_of (version_at map.live key))
+    (live : (key : ℕ) → times key (keys_of (sides_in (Some job))) ≤ present (pending_at map.pending key)) where
+  pub is_readable : IsReadable map (handle_read c.output i)
   is_readable = by c.output refl
     where
-      by : (o : Option Output) → c.output ≡ o → IsReadable core (handle_read o i)
-      by None none = version_held core.live job number c there i side held
-      by (Some o) writes = version_there core.pending job number c there o writes live
+      by : (o : Option Output) → c.output ≡ o → IsReadable map (handle_read o i)
+      by None none = version_held map.live job number c there i side held
+      by (Some o) writes = version_there map.pending job number c there o writes live
 
 -- a version has no more words than a file
-pub few_words : (size : ℕ) (core : MemoryMap) (handle : VersionHandle) → IsWholeMemory size core → (v : VersionState)
-    → version_under core handle ≡ Some v → v.words ≤ most_blocks * 128
-few_words size core (Pinned pin) whole v there = by (version_at core.live pin.key) refl there
+pub few_words : (size : ℕ) (map : MemoryMap) (handle : VersionHandle) → IsWholeMemory size map → (v : VersionState)
+    → version_under map handle ≡ Some v → v.words ≤ most_blocks * 128
+few_words size map (Pinned pin) whole v there = by (version_at map.live pin.key) refl there
   where
-    by : (was : Option LiveVersion) → version_at core.live pin.key ≡ was → option_map (λ x. x.version) was ≡ Some v
+    by : (was : Option LiveVersion) → version_at map.live pin.key ≡ was → option_map (λ x. x.version) was ≡ Some v
         → v.words ≤ most_blocks * 128
     by None at is = absurd (some_none (sym is))
     by (Some x) at is = subst (λ (y : VersionState). y.words ≤ most_blocks * 128) (some_same is)
-        (all_at (λ y. IsWholeVersion (as_known y)) core.live pin.key x whole.standing at).few
-few_words size core (Pending pending) whole v there = by (pending_at core.pending pending.key) refl there
+        (all_at (λ y. IsWholeVersion (as_known y)) map.live pin.key x whole.standing at).few
+few_words size map (Pending pending) whole v there = by (pending_at map.pending pending.key) refl there
   where
-    by : (was : Option PendingVersion) → pending_at core.pending pending.key ≡ was
+    by : (was : Option PendingVersion) → pending_at map.pending pending.key ≡ was
         → option_map (λ x. x.version) was ≡ Some v → v.words ≤ most_blocks * 128
     by None at is = absurd (some_none (sym is))
     by (Some x) at is = subst (λ (y : VersionState). y.words ≤ most_blocks * 128) (some_same is)
-        (all_at (IsWholePending size) core.pending pending.key x whole.waiting at).whole.few
+        (all_at (IsWholePending size) map.pending pending.key x whole.waiting at).whole.few
 
 -- what is read of a body ends at a block with a number
 pub read_fits : (words next n : ℕ) → 0 < next → next < 2 ^ 32 → words ≤ most_blocks * 128 → n ≤ words - block_start next

@@ -29,9 +29,9 @@ called_late pack d map failed jobs n call moment serves past keyed reading =
 
 -- The monitor of these parts.
 abbrev pub all_of : {D : Type 0} → D → MemoryMap → Bool → List (Option Job) → Layout → MonitorState D
-all_of disk core failed jobs layout = record {
+all_of disk map failed jobs layout = record {
   disk = disk;
-  map = core;
+  map = map;
   failed = failed;
   jobs = jobs;
   layout = layout;

@@ -10,8 +10,8 @@ use Rattle.spec_language.specs.Lines.{Bytes, TooLong, lines}
 use Rattle.spec_language.specs.Texts.{Spoken, both_said, silent, prints, day_text, entry_text, listing, row_text}
 use Rattle.spec_language.specs.Texts.{table}
 use Rattle.spec_language.specs.Plans.{Plan, Ask, Show, Say, each, fetches, lookup_events, list_events, counts}
-use Rattle.spec_language.specs.Plans.{copies_runs}
-use Rattle.spec_language.specs.Plans.{types_runs, begins}
+use Rattle.spec_language.specs.Plans.{copy_runs_plan}
+use Rattle.spec_language.specs.Plans.{type_runs_plan, line_plan}
 use Rattle.spec_language.specs.Transcripts.{login_said, core_words}
 use Rattle.spec_language.specs.Scripts.{words_given}
 use Rattle.spec_image.specs.declared.entry.Entry.{Entry}
@@ -25,7 +25,7 @@ use Rattle.spec_machine.specs.declared.call.Event.{Event}
 use Rattle.spec_machine.specs.declared.call.Call.{Call}
 use Rattle.spec_machine.specs.declared.call.Call.TheVariants.{Open, Lookup, In, Reset}
 use Rattle.spec_machine.specs.declared.call.Event.TheVariants.{Login, Deposit, Examine, Call as Calls}
-use Rattle.spec_machine.proofs.Common.{play, small, ten_twenty, fresh, foo, bar, foo_of, at_start}
+use Rattle.spec_machine.proofs.Common.{run_events, small, ten_twenty, fresh, foo, bar, foo_of, at_start}
 
 -- A line's plan, played.
 
@@ -36,7 +36,7 @@ conduct pack serial s (Ask event next) = let r = step pack serial s event in con
 
 abbrev speak : Pack → State → Command → Spoken × State
 speak pack s (LoginLine owner) = let r = step pack 0 s (Login 1 owner core_words) in (login_said owner r.0, r.1)
-speak pack s command = conduct pack 1000 s (begins at_start ten_twenty command)
+speak pack s command = conduct pack 1000 s (line_plan at_start ten_twenty command)
 
 abbrev talk : Pack → State → List Command → Spoken × State
 talk pack s [] = (silent, s)
@@ -84,7 +84,7 @@ session : (talk small hello (LoginLine ten_twenty ∷ CopyLine bar_spec foo_spec
       refused = true;
       broke = false;
     }
-unfolding empty insert get remove entries size dump_list areas_from each fetches copies_runs types_runs
+unfolding empty insert get remove entries size dump_list areas_from each fetches copy_runs_plan type_runs_plan
     entry_text listing digits conduct
 session = refl
 
@@ -98,7 +98,7 @@ types : (talk small hello (LoginLine ten_twenty ∷ TypeLine foo_spec ∷ TypeLi
       refused = true;
       broke = false;
     }
-unfolding empty insert get remove entries size dump_list areas_from each fetches copies_runs types_runs
+unfolding empty insert get remove entries size dump_list areas_from each fetches copy_runs_plan type_runs_plan
     entry_text listing digits conduct
 types = refl
 
@@ -111,14 +111,14 @@ names_change : (talk small hello (LoginLine ten_twenty ∷ MakeLine ten_twenty 0
     ∷ codes "?No such directory" ∷ codes "OK" ∷ codes "OK" ∷ codes "?File not found"
     ∷ codes "?Protection failure" ∷ codes "BAR    TXT     1  <155>   4-Jan-1975"
     ∷ codes "Total 1 blocks in 1 files [10,20]" ∷ []) true
-unfolding empty insert get remove entries size dump_list areas_from each fetches copies_runs types_runs
+unfolding empty insert get remove entries size dump_list areas_from each fetches copy_runs_plan type_runs_plan
     entry_text listing digits conduct
 names_change = refl
 
 -- An empty directory.
 no_files : (talk small fresh (LoginLine ten_twenty ∷ DirectoryLine None ∷ [])).0
     ≡ two_lines (codes "Job 1 [10,20]" ∷ codes "No files [10,20]" ∷ []) false
-unfolding empty insert get remove entries size dump_list areas_from each fetches copies_runs types_runs
+unfolding empty insert get remove entries size dump_list areas_from each fetches copy_runs_plan type_runs_plan
     entry_text listing digits conduct
 no_files = refl
 
@@ -128,7 +128,7 @@ copies_all : (copied : Spoken × State) → copied
     → (copied.0 ≡ two_lines (codes "Job 1 [10,20]" ∷ codes "OK" ∷ codes "BAR    TXT     3  <057>   1-Jan-1964"
     ∷ codes "FOO    TXT     3  <057>   1-Jan-1964" ∷ codes "Total 6 blocks in 2 files [10,20]" ∷ []) false)
     × (room small copied.1 ≡ pos 39)
-unfolding empty insert get remove entries size dump_list areas_from each fetches copies_runs types_runs
+unfolding empty insert get remove entries size dump_list areas_from each fetches copy_runs_plan type_runs_plan
     entry_text listing digits conduct
 copies_all copied e = (ap (λ (c : Spoken × State). c.0) e, ap (λ (c : Spoken × State). room small c.1) e)
 
@@ -137,7 +137,7 @@ no_room : (copied : Spoken × State) → copied
     → (copied.0 ≡ two_lines (codes "Job 1 [10,20]" ∷ codes "?No room" ∷ codes "FOO    TXT    24  <057>   1-Jan-1964"
     ∷ codes "Total 24 blocks in 1 files [10,20]" ∷ []) true)
     × (room small copied.1 ≡ pos 22)
-unfolding empty insert get remove entries size dump_list areas_from each fetches copies_runs types_runs
+unfolding empty insert get remove entries size dump_list areas_from each fetches copy_runs_plan type_runs_plan
     entry_text listing digits conduct
 no_room copied e = (ap (λ (c : Spoken × State). c.0) e, ap (λ (c : Spoken × State). room small c.1) e)
 
@@ -148,7 +148,7 @@ copies_by_runs : (copied : Spoken × State) → copied
     → (copied.0 ≡ two_lines (codes "Job 1 [10,20]" ∷ codes "OK" ∷ codes "BAR    TXT    18  <057>   1-Jan-1964"
     ∷ codes "FOO    TXT    18  <057>   1-Jan-1964" ∷ codes "Total 36 blocks in 2 files [10,20]" ∷ []) false)
     × (room small copied.1 ≡ pos 9)
-unfolding empty insert get remove entries size dump_list areas_from each fetches copies_runs types_runs
+unfolding empty insert get remove entries size dump_list areas_from each fetches copy_runs_plan type_runs_plan
     entry_text listing digits conduct
 copies_by_runs copied e = (ap (λ (c : Spoken × State). c.0) e, ap (λ (c : Spoken × State). room small c.1) e)
 
@@ -157,7 +157,7 @@ no_room_for_run : (copied : Spoken × State) → copied
     → (copied.0 ≡ two_lines (codes "Job 1 [10,20]" ∷ codes "?No room" ∷ codes "FOO    TXT    30  <057>   1-Jan-1964"
     ∷ codes "Total 30 blocks in 1 files [10,20]" ∷ []) true)
     × (room small copied.1 ≡ pos 16)
-unfolding empty insert get remove entries size dump_list areas_from each fetches copies_runs types_runs
+unfolding empty insert get remove entries size dump_list areas_from each fetches copy_runs_plan type_runs_plan
     entry_text listing digits conduct
 no_room_for_run copied e = (ap (λ (c : Spoken × State). c.0) e, ap (λ (c : Spoken × State). room small c.1) e)
 
@@ -186,7 +186,7 @@ script =
     ∷ Examine 1 0o500 ∷ own (In 1 0o400)
     ∷ Deposit 1 0o1000 1 ∷ own (In 3 0o400) ∷ Calls 2 Reset at_start ∷ []
 
-scripted : map words_given (play small 1000 hello script).0
+scripted : map words_given (run_events small 1000 hello script).0
     ≡ codes "DONE" ∷ codes "DONE" ∷ codes "DONE" ∷ codes "DONE" ∷ codes "DONE" ∷ codes "DONE" ∷ codes "DONE"
     ∷ codes "VALUE 057000007777" ∷ codes "VALUE 777776000000" ∷ codes "DONE" ∷ codes "DONE"
     ∷ codes "VALUE 442131446236" ∷ codes "STOPPED 020017" ∷ codes "ADDRESS" ∷ codes "NOCHANNEL" ∷ codes "NOJOB" ∷ []

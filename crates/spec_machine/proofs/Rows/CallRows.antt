@@ -10,9 +10,9 @@ use Rattle.spec_machine.specs.declared.call.Call.TheVariants.{MakeDir}
 use Rattle.spec_machine.specs.declared.call.Event.TheVariants.{Deposit, Examine, Call as Calls}
 use Rattle.spec_machine.specs.declared.call.Reply.TheVariants.{Done, Value, Refused, Stopped, NoChannel, AddressCheck}
 use Rattle.spec_machine.specs.declared.call.Reply.TheVariants.{NoJob, DateRange}
-use Rattle.spec_machine.proofs.PlayedEvents.{play, small, ten_twenty, fresh, no_files, foo, bar, foo_of, parts, at, by}
-use Rattle.spec_machine.proofs.PlayedEvents.{deposits, ready, ready_with, named, words_at_500, enters, looks_up, out}
-use Rattle.spec_machine.proofs.PlayedEvents.{takes, close}
+use Rattle.spec_machine.proofs.EventRuns.{run_events, small, ten_twenty, fresh, no_files, foo, bar, foo_of, parts, at, by}
+use Rattle.spec_machine.proofs.EventRuns.{deposits, ready, ready_with, named, words_at_500, enters, looks_up, out}
+use Rattle.spec_machine.proofs.EventRuns.{takes, close}
 
 -- The last date of twelve bits, and the one after it.
 last_day : date_number 1975 1 4 ≡ 4095
@@ -121,7 +121,7 @@ directories : parts small 1000 no_files (
 unfolding empty insert get remove entries size dump_list areas_from
 directories = refl
 
-listed : list (play small 1000 (foo_of 0o057 300) (ready 1)).1 1 ten_twenty
+listed : list (run_events small 1000 (foo_of 0o057 300) (ready 1)).1 1 ten_twenty
     ≡ Ok (record {
       name = record { name = foo; ext = 0o647064 };
       protection = 0o057;

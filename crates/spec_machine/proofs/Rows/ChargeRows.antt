@@ -5,9 +5,9 @@ use Rattle.spec_machine.specs.CommandLists.{dump_list, areas_from}
 use Rattle.spec_image.specs.Common.{name_cmp, FinMap, get, insert, remove, empty, entries, size, SpecVersion}
 use Rattle.spec_machine.specs.Jobs.{State, no_jobs}
 use Rattle.spec_machine.specs.declared.call.Event.{Event}
-use Rattle.spec_machine.proofs.PlayedEvents.{play, small, ten_twenty, foo, bar, ready, enters, looks_up, words_at_500}
-use Rattle.spec_machine.proofs.PlayedEvents.{out}
-use Rattle.spec_machine.proofs.PlayedEvents.{close}
+use Rattle.spec_machine.proofs.EventRuns.{run_events, small, ten_twenty, foo, bar, ready, enters, looks_up, words_at_500}
+use Rattle.spec_machine.proofs.EventRuns.{out}
+use Rattle.spec_machine.proofs.EventRuns.{close}
 
 -- [10,20] with a quota
 abbrev pub limited : ℕ → FinMap name_cmp SpecVersion → State
@@ -20,7 +20,7 @@ limited quota files = record {
 abbrev charges : ℕ → State → List (List Event) → List ℕ
 charges serial s [] = []
 charges serial s (events ∷ more) =
-    let after = (play small serial s events).1 in charge after ten_twenty ∷ charges (serial + 100) after more
+    let after = (run_events small serial s events).1 in charge after ten_twenty ∷ charges (serial + 100) after more
 
 -- A file of two blocks is created; job 2 reads it, and job 1 supersedes it by an empty one. The version that job 2 pins
 -- isn't charged then, and one that is being written is charged besides the current one.

@@ -3,7 +3,7 @@ use Rattle.std.proofs.Common.{◌≡◌, ℕ, ◌*◌, List, length, refl, pos}
 use Rattle.spec_image.specs.Common.{FinMap, get, insert, empty, entries, size, name_cmp, SpecVersion, Pack}
 use Rattle.spec_machine.specs.Jobs.{State, no_jobs}
 use Rattle.spec_machine.specs.Room.{room}
-use Rattle.spec_machine.proofs.PlayedEvents.{ten_twenty, fresh, foo, bar}
+use Rattle.spec_machine.proofs.EventRuns.{ten_twenty, fresh, foo, bar}
 
 abbrev large : Pack
 large = record { layout = 1; blocks = 512 }

@@ -11,9 +11,9 @@ use Rattle.spec_machine.specs.declared.call.Event.{Event}
 use Rattle.spec_machine.specs.declared.call.Event.TheVariants.{Examine}
 use Rattle.spec_machine.specs.declared.call.Reply.{Reply}
 use Rattle.spec_machine.specs.declared.call.Reply.TheVariants.{Done, Value, Refused, Stopped, AddressCheck}
-use Rattle.spec_machine.proofs.PlayedEvents.{play, told, small, ten_twenty, fresh, foo, bar, by, repeated, deposits}
-use Rattle.spec_machine.proofs.PlayedEvents.{ready}
-use Rattle.spec_machine.proofs.PlayedEvents.{ready_with, words_at_500, enters, looks_up, out, close}
+use Rattle.spec_machine.proofs.EventRuns.{run_events, shown_replies, small, ten_twenty, fresh, foo, bar, by, repeated, deposits}
+use Rattle.spec_machine.proofs.EventRuns.{ready}
+use Rattle.spec_machine.proofs.EventRuns.{ready_with, words_at_500, enters, looks_up, out, close}
 use Rattle.spec_machine.proofs.Rows.ChargeRows.{limited, many}
 
 -- a disk of 64 blocks in layout 2
@@ -30,8 +30,8 @@ operator = join 1 2
 abbrev charged : Pack → ℕ → ℕ → State → List (List Event) → List (List Reply × (ℤ × ℕ))
 charged pack ppn serial s [] = []
 charged pack ppn serial s (events ∷ more) =
-    let p = play pack serial s events in
-    (told events p.0, (room pack p.1, charge p.1 ppn)) ∷ charged pack ppn (serial + 100) p.1 more
+    let p = run_events pack serial s events in
+    (shown_replies events p.0, (room pack p.1, charge p.1 ppn)) ∷ charged pack ppn (serial + 100) p.1 more
 
 -- job n gives a directory a quota
 abbrev limits : ℕ → ℕ → ℕ → List Event

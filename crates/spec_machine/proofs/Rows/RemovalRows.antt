@@ -12,10 +12,10 @@ use Rattle.spec_machine.specs.declared.call.Event.{Event}
 use Rattle.spec_machine.specs.declared.call.Event.TheVariants.{Examine}
 use Rattle.spec_machine.specs.declared.call.Reply.{Reply}
 use Rattle.spec_machine.specs.declared.call.Reply.TheVariants.{Done, Value, Refused}
-use Rattle.spec_machine.proofs.PlayedEvents.{play, small, ten_twenty, fresh, foo, bar, foo_of, parts, by, deposits}
-use Rattle.spec_machine.proofs.PlayedEvents.{ready}
-use Rattle.spec_machine.proofs.PlayedEvents.{ready_with, named, names_words, words_at_500, enters, looks_up, takes}
-use Rattle.spec_machine.proofs.PlayedEvents.{close}
+use Rattle.spec_machine.proofs.EventRuns.{run_events, small, ten_twenty, fresh, foo, bar, foo_of, parts, by, deposits}
+use Rattle.spec_machine.proofs.EventRuns.{ready}
+use Rattle.spec_machine.proofs.EventRuns.{ready_with, named, names_words, words_at_500, enters, looks_up, takes}
+use Rattle.spec_machine.proofs.EventRuns.{close}
 
 -- job n names a file of [10,20] at 300, with a protection in bits 0 to 8, and renames what channel 1 looked up
 abbrev protected : ℕ → ℕ → ℕ → List Event
@@ -132,7 +132,7 @@ count_names (Ok names) = length names
 count_names (Err reply) = 0
 
 abbrev names_after : State → List Event → ℕ
-names_after s events = count_names (list (play small 1000 s events).1 1 ten_twenty)
+names_after s events = count_names (list (run_events small 1000 s events).1 1 ten_twenty)
 
 full_directory : parts small 1000 fresh (
     (ready 1 ++ enter_names 42)

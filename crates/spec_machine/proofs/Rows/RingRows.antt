@@ -10,8 +10,8 @@ use Rattle.spec_machine.specs.declared.call.Call.TheVariants.{Releas, Getsts}
 use Rattle.spec_machine.specs.declared.call.Event.{Event}
 use Rattle.spec_machine.specs.declared.call.Event.TheVariants.{Login, Deposit, Examine}
 use Rattle.spec_machine.specs.declared.call.Reply.TheVariants.{Done, Value, Refused, Stopped, AddressCheck}
-use Rattle.spec_machine.proofs.PlayedEvents.{small, ten_twenty, fresh, foo, bar, foo_of, parts, by, deposits, named}
-use Rattle.spec_machine.proofs.PlayedEvents.{close}
+use Rattle.spec_machine.proofs.EventRuns.{small, ten_twenty, fresh, foo, bar, foo_of, parts, by, deposits, named}
+use Rattle.spec_machine.proofs.EventRuns.{close}
 
 -- Job n of [10,20] logs in with a core of 2000 words and opens channel 1 in a mode, with headers for output and
 -- input, by words at 200.

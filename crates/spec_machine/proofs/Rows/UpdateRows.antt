@@ -7,8 +7,8 @@ use Rattle.spec_machine.specs.declared.call.Call.TheVariants.{Useti, Useto}
 use Rattle.spec_machine.specs.declared.call.Event.{Event}
 use Rattle.spec_machine.specs.declared.call.Event.TheVariants.{Deposit, Examine}
 use Rattle.spec_machine.specs.declared.call.Reply.TheVariants.{Done, Value, Refused, Stopped}
-use Rattle.spec_machine.proofs.PlayedEvents.{small, ten_twenty, foo, bar, foo_of, parts, by, ready_with, names_words}
-use Rattle.spec_machine.proofs.PlayedEvents.{words_at_500, looks_up, enters, out, takes, close}
+use Rattle.spec_machine.proofs.EventRuns.{small, ten_twenty, foo, bar, foo_of, parts, by, ready_with, names_words}
+use Rattle.spec_machine.proofs.EventRuns.{words_at_500, looks_up, enters, out, takes, close}
 
 -- job n looks the file up on its channel 1, and enters it there
 abbrev updates : ℕ → ℕ → List Event

@@ -8,9 +8,9 @@ use Rattle.spec_machine.specs.declared.call.Call.TheVariants.{Open, Enter}
 use Rattle.spec_machine.specs.declared.call.Event.{Event}
 use Rattle.spec_machine.specs.declared.call.Event.TheVariants.{Deposit, Examine}
 use Rattle.spec_machine.specs.declared.call.Reply.TheVariants.{Done, Value, Refused, Stopped}
-use Rattle.spec_machine.proofs.PlayedEvents.{play, small, ten_twenty, no_files, fresh, foo, bar, foo_of, parts, by}
-use Rattle.spec_machine.proofs.PlayedEvents.{repeated, ready, named, names_words, words_at_500, enters, looks_up, out}
-use Rattle.spec_machine.proofs.PlayedEvents.{takes, close}
+use Rattle.spec_machine.proofs.EventRuns.{run_events, small, ten_twenty, no_files, fresh, foo, bar, foo_of, parts, by}
+use Rattle.spec_machine.proofs.EventRuns.{repeated, ready, named, names_words, words_at_500, enters, looks_up, out}
+use Rattle.spec_machine.proofs.EventRuns.{takes, close}
 
 -- The smallest disk: room 48, 47 with one directory, and no files in that.
 bare : room small no_files ≡ pos 48
@@ -21,7 +21,7 @@ smallest : room small fresh ≡ pos 47
 unfolding empty insert get entries size
 smallest = refl
 
-no_names : list (play small 1000 fresh (ready 1)).1 1 ten_twenty ≡ Ok []
+no_names : list (run_events small 1000 fresh (ready 1)).1 1 ten_twenty ≡ Ok []
 unfolding empty insert get entries
 no_names = refl
 

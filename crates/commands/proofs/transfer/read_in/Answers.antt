@@ -1,7 +1,7 @@
 use Rattle.std.proofs.Common.{◌≤◌, ℕ, List, length, Ok, subst, arith}
 use Rattle.std.proofs.lemmas.Result.{err_from_is_err_and}
 use Rattle.spec_language.specs.Common.{own_file}
-use Rattle.commands.specs.Common.{keeps_as, HasWords, IsTooLong, most_bytes, words_said}
+use Rattle.commands.specs.Common.{put_plan_as, HasWords, IsTooLong, most_bytes, words_said}
 use Rattle.commands.proofs.ErrandLaws.{carried, errand_done, errand_cut, delivered, undelivered, unread_by, excessive}
 use Rattle.commands.proofs.ErrandLaws.{memory_unread, tells_excess, tells_fitting, words_are}
 use Rattle.commands.proofs.InputLaws.{not_longer}
@@ -10,7 +10,7 @@ use Rattle.commands.proofs.transfer.read_in.Goals as goal
 pub returns-in_err-bytes : goal.returns-in_err-bytes
 returns-in_err-bytes g c =
     let file = c.args.file.now in
-    let keeps = keeps_as file.existing c.args.moment file.owner file.encoding (own_file file.name) in
+    let keeps = put_plan_as file.existing c.args.moment file.owner file.encoding (own_file file.name) in
     let p = err_from_is_err_and c.from_residual.result c.from_residual.ensures.1 in
     undelivered g.S.FileService.machine g.met.S.FileService.stands _ _ _ _ file.encoding
     keeps c.from_residual.result c.in_err-bytes.ensures.taken.0
@@ -19,7 +19,7 @@ returns-in_err-bytes g c =
 pub returns-in_default : goal.returns-in_default
 returns-in_default g c =
     let file = c.args.file.now in
-    let keeps = keeps_as file.existing c.args.moment file.owner file.encoding (own_file file.name) in
+    let keeps = put_plan_as file.existing c.args.moment file.owner file.encoding (own_file file.name) in
     undelivered g.S.FileService.machine g.met.S.FileService.stands _ _ _ _ file.encoding
     keeps _ c.in_ok-bytes.bytes.items
     c.in_ok-bytes.ensures.ok memory_unread
@@ -27,7 +27,7 @@ returns-in_default g c =
 pub returns-in_err-said : goal.returns-in_err-said
 returns-in_err-said g c =
     let file = c.args.file.now in
-    let keeps = keeps_as file.existing c.args.moment file.owner file.encoding (own_file file.name) in
+    let keeps = put_plan_as file.existing c.args.moment file.owner file.encoding (own_file file.name) in
     let long : IsTooLong file.encoding c.in_ok-bytes.bytes.items =
     omega (arith, c.in_ok-bytes.bytes.ok, c.len.ensures, c.most_bytes-most.ensures, c.if-len-most.true) in
     let p = err_from_is_err_and c.from_residual-in_err-said.result c.from_residual-in_err-said.ensures.1 in
@@ -38,7 +38,7 @@ returns-in_err-said g c =
 pub returns-then-len-most : goal.returns-then-len-most
 returns-then-len-most g c =
     let file = c.args.file.now in
-    let keeps = keeps_as file.existing c.args.moment file.owner file.encoding (own_file file.name) in
+    let keeps = put_plan_as file.existing c.args.moment file.owner file.encoding (own_file file.name) in
     let long : IsTooLong file.encoding c.in_ok-bytes.bytes.items =
     omega (arith, c.in_ok-bytes.bytes.ok, c.len.ensures, c.most_bytes-most.ensures, c.if-len-most.true) in
     excessive g.S.FileService.machine _ _ _ _ _ _ file.encoding
@@ -49,7 +49,7 @@ returns-then-len-most g c =
 pub returns-in_err-print : goal.returns-in_err-print
 returns-in_err-print g c =
     let file = c.args.file.now in
-    let keeps = keeps_as file.existing c.args.moment file.owner file.encoding (own_file file.name) in
+    let keeps = put_plan_as file.existing c.args.moment file.owner file.encoding (own_file file.name) in
     let few : length c.in_ok-bytes.bytes.items ≤ most_bytes file.encoding =
     omega (arith, c.in_ok-bytes.bytes.ok, c.len.ensures, c.most_bytes-most.ensures, c.if-len-most.false) in
     let p = err_from_is_err_and c.from_residual-in_err-print.result c.from_residual-in_err-print.ensures.1 in
@@ -70,7 +70,7 @@ returns-in_err-print g c =
 pub returns : goal.returns
 returns g c =
     let file = c.args.file.now in
-    let keeps = keeps_as file.existing c.args.moment file.owner file.encoding (own_file file.name) in
+    let keeps = put_plan_as file.existing c.args.moment file.owner file.encoding (own_file file.name) in
     let few : length c.in_ok-bytes.bytes.items ≤ most_bytes file.encoding =
     omega (arith, c.in_ok-bytes.bytes.ok, c.len.ensures, c.most_bytes-most.ensures, c.if-len-most.false) in
     let words = words_said (λ v. v.items) c.in-Ok.words in

@@ -1,6 +1,6 @@
 use Rattle.std.proofs.Common.{◌≡◌, ◌-◌, ℕ, suc, sym, ◌∙◌, subst, arith}
 use Rattle.std.proofs.lemmas.Result.{err_from_is_err_and}
-use Rattle.spec_language.specs.Common.{types_body}
+use Rattle.spec_language.specs.Common.{type_body_plan}
 use Rattle.commands.specs.Common.{HasTyped}
 use Rattle.commands.proofs.TypeLaws.{handed_on, read_nothing, no_body, read_body}
 use Rattle.commands.proofs.type_line.type_body.Goals as goal
@@ -14,7 +14,7 @@ returns-in_err-type_blocks g c =
     let p = err_from_is_err_and c.from_residual.result c.from_residual.ensures.1 in
     let more : c.blocks_said-blocks.result ≡ suc (c.blocks_said-blocks.result - 1) = omega arith in
     subst (λ (n : ℕ). HasTyped g.S.FileService.machine c.args.service.now c.type_blocks.new.service c.args.moment
-    (types_body c.args.moment n c.args.size) c.from_residual.result c.args.typed.now c.type_blocks.new.typed)
+    (type_body_plan c.args.moment n c.args.size) c.from_residual.result c.args.typed.now c.type_blocks.new.typed)
     c.blocks_said-blocks.ensures.value
     (no_body g.S.FileService.machine _ _ c.args.moment c.blocks_said-blocks.result
     (c.blocks_said-blocks.result - 1) c.args.size _ _ c.type_blocks.result _ c.in_err-type_blocks.field-0.0
@@ -24,7 +24,7 @@ pub returns : goal.returns
 returns g c =
     let more : c.blocks_said-blocks.result ≡ suc (c.blocks_said-blocks.result - 1) = omega arith in
     subst (λ (n : ℕ). HasTyped g.S.FileService.machine c.args.service.now c.type_last.new.service c.args.moment
-    (types_body c.args.moment n c.args.size) c.type_last.result c.args.typed.now c.type_last.new.typed)
+    (type_body_plan c.args.moment n c.args.size) c.type_last.result c.args.typed.now c.type_last.new.typed)
     c.blocks_said-blocks.ensures.value
     (read_body g.S.FileService.machine _ _ _ c.args.moment c.blocks_said-blocks.result
     (c.blocks_said-blocks.result - 1) c.args.size _ _ _ _ _ more c.in_ok-type_blocks.ensures c.type_last.ensures)

@@ -1,6 +1,6 @@
 use Rattle.std.proofs.Common.{◌≡◌, ◌-◌, ◌+◌, ℕ, suc, zero, arith, subst}
 use Rattle.std.proofs.lemmas.Result.{err_from_is_err_and}
-use Rattle.spec_language.specs.Common.{types_runs}
+use Rattle.spec_language.specs.Common.{type_runs_plan}
 use Rattle.commands.proofs.TypeLaws.{Ran, handed_on, one_made, asked_done, asked_failed, read_none, no_run}
 use Rattle.commands.proofs.TypeLaws.{no_words, read_run, read_runs}
 use Rattle.commands.proofs.type_line.type_runs.Goals as goal
@@ -11,7 +11,7 @@ loop-init g c =
     subst (λ (n : ℕ). Ran g.S.FileService.machine c.args.moment c.args.runs c.args.count c.args.service.now
     c.args.service.now n c.args.typed.now c.args.typed.now) same
     (read_none g.S.FileService.machine g.met.S.FileService.stands c.args.service.now
-    (types_runs c.args.moment c.args.runs c.args.count) c.args.typed.now)
+    (type_runs_plan c.args.moment c.args.runs c.args.count) c.args.typed.now)
 
 pub returns-in_err-ask_all : goal.returns-in_err-ask_all
 returns-in_err-ask_all g c =

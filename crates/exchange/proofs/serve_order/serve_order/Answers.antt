@@ -17,12 +17,12 @@ returns-in-Deposit g c header words is told = obeyed_deposit g.S.FileService.mac
 
 pub returns-in-Examine : goal.returns-in-Examine
 returns-in-Examine g c header words is told = obeyed_examine g.S.FileService.machine _ _ _ _ words _ _ _ _ _ _ _
-    c.in-Examine.is c.requires.empty told c.tell_areas.ensures
+    c.in-Examine.is c.requires.empty told c.push_areas.ensures
 
 pub returns-in-Call : goal.returns-in-Call
 returns-in-Call g c header words is told = obeyed_call g.S.FileService.machine g.met.S.FileService.stands _ _ _ _ _
     words _ _ _ _ _ _ _ _ c.in-Call.is c.requires.empty told (rw c.into-in-Call.ensures at c.event-reply.ensures)
-    c.tell_areas-in-Call.ensures
+    c.push_areas-in-Call.ensures
 
 pub returns-in-Room : goal.returns-in-Room
 returns-in-Room g c header words is told = obeyed_room g.S.FileService.machine g.met.S.FileService.stands _ _ _

@@ -15,9 +15,9 @@ returns-in-Ok-clause-ran g c = (
     c.args.right,
     refl,
     λ h k. on_ok c.copy-copied.result.0 c.in-Ok.field-0 _ c.in-Ok.is (c.copy-copied.ensures.copied h k),
-    subst (λ n. IsLine (g.W.Write.contents c.args.writer.now) (g.W.Write.contents c.tell_converted.new.writer)
-        c.tell_converted.result 0 (converted_text n))
-        (c.blocks-in-Ok.ensures ∙ c.copy-copied.ensures.same_source.size) c.tell_converted.ensures.told,
+    subst (λ n. IsLine (g.W.Write.contents c.args.writer.now) (g.W.Write.contents c.report_converted.new.writer)
+        c.report_converted.result 0 (converted_text n))
+        (c.blocks-in-Ok.ensures ∙ c.copy-copied.ensures.same_source.size) c.report_converted.ensures.told,
   ),
 )
 

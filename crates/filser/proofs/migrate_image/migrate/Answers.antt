@@ -8,7 +8,7 @@ returns-in-Ok-clause-ran g c =
     inl (
       migration _ _ c.in-Ok.field-0 p.disk.same (p.disk.served (λ e. cc)) p.stood p.files p.settled p.crash p.done
           p.already,
-      c.tell_layout.ensures.told,
+      c.report_layout.ensures.told,
     )
 
 pub returns-in-Err-clause-ran : goal.returns-in-Err-clause-ran

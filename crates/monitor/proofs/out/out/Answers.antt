@@ -217,7 +217,7 @@ pub returns-in-Err-Refused-clause-keeps : goal.returns-in-Err-Refused-clause-kee
 returns-in-Err-Refused-clause-keeps g c alive =
     let same = c.put_words.ensures.refused c.in-Err-Refused.field-0-0
     (c.in-Err-Refused.is ∙ ap Err c.in-Err-Refused.field-0-is) in
-    subst (λ (core : MemoryMap). KeepsSides c.args.volume.now.map.pending core.pending c.args.job.now
+    subst (λ (map : MemoryMap). KeepsSides c.args.volume.now.map.pending map.pending c.args.job.now
     c.stop-in-Err-Refused.new.job) (sym same.1)
     (keeps_status c.args.job.now c.args.number 0 c.in-Some.channel (sym c.channel.ensures ∙ c.in-Some.is)
     c.args.volume.now.map.pending c.stop-in-Err-Refused.new.job _ c.stop-in-Err-Refused.ensures.kept)
@@ -232,7 +232,7 @@ pub returns-in-Err-NoMemory-put_words-clause-keeps : goal.returns-in-Err-NoMemor
 returns-in-Err-NoMemory-put_words-clause-keeps g c alive =
     let same = c.put_words.ensures.memory
     (c.in-Err-NoMemory-put_words.is ∙ ap Err c.in-Err-NoMemory-put_words.field-0-is) in
-    subst (λ (core : MemoryMap). KeepsSides c.args.volume.now.map.pending core.pending c.args.job.now c.args.job.now)
+    subst (λ (map : MemoryMap). KeepsSides c.args.volume.now.map.pending map.pending c.args.job.now c.args.job.now)
     (sym same.1)
     (keeps_same c.args.volume.now.map.pending c.args.job.now)
 

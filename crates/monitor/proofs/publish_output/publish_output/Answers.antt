@@ -33,14 +33,14 @@ returns-then-is_barred-clause-whatever g c words found = record {
 pub returns-in-Ok-publish-clause-answered : goal.returns-in-Ok-publish-clause-answered
 returns-in-Ok-publish-clause-answered g c =
     let size = (g.D.Disk.state c.args.volume.now.disk).size in
-    let core = c.args.volume.now.map in
+    let map = c.args.volume.now.map in
     let n = length c.in-Ok.words.now in
     answered_done (g.D.Disk.state c.args.volume.now.disk) (g.D.Disk.state c.publish.new.self.disk)
     c.args.volume.now.map c.publish.new.self.map c.args.volume.now.failed c.publish.new.self.failed
     c.args.channel.now c.args.output _ c.in-Ok.words.now c.in-Ok.ensures.words c.publish.result c.requires.serves
     c.publish.ensures.answer.still c.publish.ensures.answer.served _ c.in-Ok-publish.is
     (record {
-      fits = λ p at. finds_place size core p c.args.output n
+      fits = λ p at. finds_place size map p c.args.output n
           (λ lacks. let none = (c.publish.ensures.room c.requires.serves p at).1 lacks in
           let ok = c.in-Ok-publish.is in cc)
           (λ barred. both_ways c.is_barred.result c.if-is_barred.false ((c.is_barred.ensures p at).1 barred));
@@ -54,14 +54,14 @@ returns-in-Ok-publish-clause-answered g c =
 pub returns-in-Err-clause-answered : goal.returns-in-Err-clause-answered
 returns-in-Err-clause-answered g c =
     let size = (g.D.Disk.state c.args.volume.now.disk).size in
-    let core = c.args.volume.now.map in
+    let map = c.args.volume.now.map in
     let n = length c.in-Ok.words.now in
     answered_error (g.D.Disk.state c.args.volume.now.disk) (g.D.Disk.state c.publish.new.self.disk)
     c.args.volume.now.map c.publish.new.self.map c.args.volume.now.failed c.publish.new.self.failed
     c.args.channel.now c.args.output _ c.in-Ok.words.now c.in-Ok.ensures.words c.publish.result c.requires.serves
     c.publish.ensures.answer.still c.publish.ensures.answer.served
-    (λ p at is. lacks_room size core p c.args.output n ((c.publish.ensures.room c.requires.serves p at).0 is))
-    (λ p at other. finds_place size core p c.args.output n
+    (λ p at is. lacks_room size map p c.args.output n ((c.publish.ensures.room c.requires.serves p at).0 is))
+    (λ p at other. finds_place size map p c.args.output n
     (λ lacks. other ((c.publish.ensures.room c.requires.serves p at).1 lacks))
     (λ barred. both_ways c.is_barred.result c.if-is_barred.false ((c.is_barred.ensures p at).1 barred)))
     c.publish.ensures.codes c.publish.ensures.given_up c.publish.ensures.answer.device

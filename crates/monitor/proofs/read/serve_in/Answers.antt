@@ -33,20 +33,20 @@ returns-clause-serving g c = λ moment timely jobs n among.
     let job = c.args.job.now in
     let job' = c.read.new.job in
     let jobs' = slice_set jobs n (Some job') in
-    let core = c.read.ensures.map in
+    let same_map = c.read.ensures.map in
     record {
-      keyed = λ serves. subst (λ m. AreKeyed m.pending jobs') (sym core)
+      keyed = λ serves. subst (λ m. AreKeyed m.pending jobs') (sym same_map)
           (in_keyed (state old.disk) (state new.disk) map false jobs n c.args.channel c.args.address moment refl
           timely among.keyed among.reading job job' among.there jobs' refl c.read.result c.read.ensures.outcome);
-      placed = λ serves. subst ArePlaced (sym core) c.requires.ready.placed;
-      reading = λ serves. subst (λ m. AreReading m.live jobs') (sym core)
+      placed = λ serves. subst ArePlaced (sym same_map) c.requires.ready.placed;
+      reading = λ serves. subst (λ m. AreReading m.live jobs') (sym same_map)
           (in_reading (state old.disk) (state new.disk) map false jobs n c.args.channel c.args.address moment refl
           timely among.keyed among.reading job job' among.there jobs' refl c.read.result c.read.ensures.outcome);
       others = λ m other. slot-set_other jobs n m (Some job') other;
       answered = λ h.
           in_answered (state old.disk) (state new.disk) map false jobs n c.args.channel c.args.address
           moment refl timely among.keyed among.reading job job' among.there jobs' refl
-          h (c.read.ensures.same.was_honest h) map' new.failed core (c.read.ensures.only_reads h)
+          h (c.read.ensures.same.was_honest h) map' new.failed same_map (c.read.ensures.only_reads h)
           (c.read.ensures.rests h) c.read.result
           c.read.ensures.outcome c.read.ensures.failed;
       crash = quiet_crashes (state old.disk) (state new.disk) map jobs n (In c.args.channel c.args.address) moment
@@ -54,17 +54,17 @@ returns-clause-serving g c = λ moment timely jobs n among.
           (λ contents left. g.met.D.Disk.only_now old.disk contents (c.read.ensures.same.was_honest h) left));
       idle = c.read.ensures.idle;
       light = λ light. absurd light;
-      kept = λ kept. core;
+      kept = λ kept. same_map;
       memory = λ none.
           let is = c.read.ensures.memory none in (
             is.0,
-            core,
+            same_map,
             still_serves false new.failed c.read.result refl c.read.ensures.failed none,
             unchanged jobs jobs' n job job' among.there refl is.1,
           );
       decided = λ decided. (
         c.read.ensures.idle (decided_idle c.read.result decided),
-        core,
+        same_map,
         decided_serves false new.failed c.read.result refl c.read.ensures.failed decided,
         unchanged jobs jobs' n job job' among.there refl
             (in_decided (state old.disk) (state new.disk) map job job' c.args.channel c.args.address c.read.result

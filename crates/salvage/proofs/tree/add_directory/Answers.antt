@@ -40,7 +40,7 @@ returns-in-Err-clause-read g c h directories word named new r =
     let layout = layout_number c.args.layout in
     let ensures = c.load_chain.ensures in
     directory_told_on s.size layout s.contents directories c.args.files.now.items c.args.findings.now.items
-    c.tell_refusal.new.findings.items (master_view e) c.in-Err.refusal c.tell_refusal.result r
+    c.report_refusal.new.findings.items (master_view e) c.in-Err.refusal c.report_refusal.result r
     (directory_refused s.size layout s.contents e.ppn word e.first c.load_chain.result c.in-Err.refusal c.in-Err.is
     named ensures.only (ensures.bad h) (ensures.twice h) ensures.named)
-    c.tell_refusal.ensures.told c.tell_refusal.ensures.fault
+    c.report_refusal.ensures.told c.report_refusal.ensures.fault

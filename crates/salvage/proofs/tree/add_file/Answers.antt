@@ -29,8 +29,8 @@ returns-in-Err-clause-read g c h directories names named new_directory new_name 
     let s = g.D.Disk.state c.args.disk.now in
     let e = c.args.entry.now in
     file_told_on s.size (layout_number c.args.layout) s.contents directories c.args.ppn names c.args.files.now.items
-    c.args.findings.now.items c.tell_refusal.new.findings.items (file_view e) c.in-Err.refusal c.tell_refusal.result r
+    c.args.findings.now.items c.report_refusal.new.findings.items (file_view e) c.in-Err.refusal c.report_refusal.result r
     (file_refused s.size (layout_number c.args.layout) s.contents c.args.ppn e.name e.prime c.read_named.result
     c.in-Err.refusal c.in-Err.is c.requires.inside named c.read_named.ensures.only (c.read_named.ensures.bad_version h)
     c.read_named.ensures.named)
-    c.tell_refusal.ensures.told c.tell_refusal.ensures.fault
+    c.report_refusal.ensures.told c.report_refusal.ensures.fault

@@ -2,7 +2,7 @@ use Rattle.std.proofs.Common.{arith, sym, subst, ◌+◌}
 use Rattle.std.proofs.lemmas.Result.{err_from_is_err_and}
 use Rattle.collection.specs.Common.{IsFindingDone}
 use Rattle.collection.proofs.EachLaws.{Done, done_none, done_more, done_cut, done_all}
-use Rattle.collection.proofs.save_files.tell_findings.Goals as goal
+use Rattle.collection.proofs.save_files.report_findings.Goals as goal
 
 pub loop-finding-init : goal.loop-finding-init
 loop-finding-init g c = subst (λ t. Done (IsFindingDone c.args.task.now) c.args.findings.now
@@ -12,7 +12,7 @@ loop-finding-init g c = subst (λ t. Done (IsFindingDone c.args.task.now) c.args
 pub loop-finding-preserved : goal.loop-finding-preserved
 loop-finding-preserved g c = subst (λ t. Done (IsFindingDone c.args.task.now) c.args.findings.now
     (g.W.Write.contents c.args.writer.now) tt (c.loop-finding.finding-index + 1) t
-    (g.W.Write.contents c.tell_finding.new.writer) tt) (sym c.added-tally.ensures)
+    (g.W.Write.contents c.report_finding.new.writer) tt) (sym c.added-tally.ensures)
     (done_more (IsFindingDone c.args.task.now) c.args.findings.now (g.W.Write.contents c.args.writer.now) tt
     c.loop-finding.finding-index c.loop-finding.tally _ _ tt tt c.finding-item.result c.loop-finding-test.true
     c.finding-item.is c.loop-finding.invariant c.in_ok-one.one c.in_ok-one.ensures)

@@ -1,6 +1,6 @@
 use Rattle.std.proofs.Common.{ap, ◌∙◌, [], ◌∷◌, ◌++◌}
 use Rattle.exchange.proofs.ReplyLaws.{told_one, told_read, untold_one}
-use Rattle.exchange.proofs.reply_words.tell_word.Goals as goal
+use Rattle.exchange.proofs.reply_words.push_word.Goals as goal
 
 pub returns-in-Value-clause-told : goal.returns-in-Value-clause-told
 returns-in-Value-clause-told g c = told_read g.S.FileService.machine _ _ _ _ _ _

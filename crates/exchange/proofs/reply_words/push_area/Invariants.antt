@@ -1,7 +1,7 @@
 use Rattle.std.proofs.Common.{◌≡◌, ◌+◌, ◌≤◌, vec_len, vec_capacity}
 use Rattle.std.specs.List.{range_with_len}
 use Rattle.exchange.proofs.ReplyLaws.{HasTold}
-use Rattle.exchange.proofs.reply_words.tell_area.Given as goal
+use Rattle.exchange.proofs.reply_words.push_area.Given as goal
 
 abbrev pub invariant-loop-place : goal.invariant-loop-place
 invariant-loop-place g l = record {

@@ -8,7 +8,7 @@ use Rattle.exchange.specs.Turns.{addresses}
 use Rattle.exchange.specs.Exchanges.{HasRead}
 use Rattle.exchange.proofs.ListLaws.{addresses_more, addresses_around, count_more, count_within}
 use Rattle.exchange.proofs.ReplyLaws.{HasTold, told_none, told_more, told_read, read_told, read_until}
-use Rattle.exchange.proofs.reply_words.tell_areas.Goals as goal
+use Rattle.exchange.proofs.reply_words.push_areas.Goals as goal
 
 pub loop-area-init : goal.loop-area-init
 loop-area-init g c = record {
@@ -17,8 +17,8 @@ loop-area-init g c = record {
   capacity = search rules;
 }
 
-pub tell_area-requires-clause-room : goal.tell_area-requires-clause-room
-tell_area-requires-clause-room g c =
+pub push_area-requires-clause-room : goal.push_area-requires-clause-room
+push_area-requires-clause-room g c =
     let inside = count_within c.args.areas.now c.loop-area.area-index c.area-item.result c.loop-area-test.true
     c.area-item.is in
     omega arith
@@ -26,13 +26,13 @@ tell_area-requires-clause-room g c =
 pub returns-in-Some : goal.returns-in-Some
 returns-in-Some g c =
     let count = length-range_with_len c.area-item.result.first c.area-item.result.count in
-    let short : length c.tell_area.new.groups.items < length c.loop-area.groups.items
+    let short : length c.push_area.new.groups.items < length c.loop-area.groups.items
     + length (range_with_len c.area-item.result.first c.area-item.result.count)
     = omega (arith, c.in-Some.ensures.stopped) in
-    read_until g.S.FileService.machine c.args.service.now c.loop-area.service c.tell_area.new.service c.args.job
+    read_until g.S.FileService.machine c.args.service.now c.loop-area.service c.push_area.new.service c.args.job
     (addresses (take c.loop-area.area-index c.args.areas.now))
     (range_with_len c.area-item.result.first c.area-item.result.count) c.args.groups.now.items
-    c.loop-area.groups.items c.tell_area.new.groups.items c.in-Some.reply c.loop-area.invariant.told
+    c.loop-area.groups.items c.push_area.new.groups.items c.in-Some.reply c.loop-area.invariant.told
     c.in-Some.ensures.untold short _ _
     (addresses_around c.args.areas.now c.loop-area.area-index c.area-item.result c.loop-area-test.true
     c.area-item.is)
@@ -44,8 +44,8 @@ loop-area-preserved g c =
     c.area-item.is in
     record {
       told = subst
-          (λ (l : List ℕ). HasTold g.S.FileService.machine c.args.service.now c.tell_area.new.service c.args.job l
-          c.args.groups.now.items c.tell_area.new.groups.items)
+          (λ (l : List ℕ). HasTold g.S.FileService.machine c.args.service.now c.push_area.new.service c.args.job l
+          c.args.groups.now.items c.push_area.new.groups.items)
           (sym (addresses_more c.args.areas.now c.loop-area.area-index c.area-item.result c.loop-area-test.true
           c.area-item.is))
           (told_more g.S.FileService.machine _ _ _ _ _ _ _ _ _ c.loop-area.invariant.told

@@ -1,4 +1,4 @@
--- Lists of events played from a state, for worked rows.
+-- Lists of events run from a state, for worked rows.
 use Rattle.std.proofs.Common.{ℕ, zero, suc, ◌+◌, ◌-◌, ◌^◌, ◌≤◌, List, [], ◌∷◌, ◌++◌, ℤ, replicate, arith}
 use Rattle.words36.specs.Common.{join}
 use Rattle.words36.specs.declared.moment.Moment.{Moment}
@@ -13,28 +13,28 @@ use Rattle.spec_machine.specs.declared.call.Event.TheVariants.{Login, Deposit, E
 use Rattle.spec_machine.specs.declared.call.Reply.{Reply}
 
 -- the replies and the state after them, with a new serial for each event
-abbrev pub play : Pack → ℕ → State → List Event → List Reply × State
-play pack serial s [] = ([], s)
-play pack serial s (event ∷ events) =
+abbrev pub run_events : Pack → ℕ → State → List Event → List Reply × State
+run_events pack serial s [] = ([], s)
+run_events pack serial s (event ∷ events) =
     let r = step pack serial s event in
-    let rest = play pack (suc serial) r.1 events in (r.0 ∷ rest.0, rest.1)
+    let rest = run_events pack (suc serial) r.1 events in (r.0 ∷ rest.0, rest.1)
 
 -- the replies to calls and to words examined
-abbrev pub told : List Event → List Reply → List Reply
-told [] replies = []
-told (event ∷ events) [] = []
-told (Login n ppn words ∷ events) (reply ∷ replies) = told events replies
-told (Deposit n address word ∷ events) (reply ∷ replies) = told events replies
-told (Examine n address ∷ events) (reply ∷ replies) = reply ∷ told events replies
-told (Calls n c moment ∷ events) (reply ∷ replies) = reply ∷ told events replies
+abbrev pub shown_replies : List Event → List Reply → List Reply
+shown_replies [] replies = []
+shown_replies (event ∷ events) [] = []
+shown_replies (Login n ppn words ∷ events) (reply ∷ replies) = shown_replies events replies
+shown_replies (Deposit n address word ∷ events) (reply ∷ replies) = shown_replies events replies
+shown_replies (Examine n address ∷ events) (reply ∷ replies) = reply ∷ shown_replies events replies
+shown_replies (Calls n c moment ∷ events) (reply ∷ replies) = reply ∷ shown_replies events replies
 
 -- for each part of a run the replies in it, and the room after it
 abbrev pub parts : Pack → ℕ → State → List (List Event) → List (List Reply × ℤ)
 parts pack serial s [] = []
 parts pack serial s (events ∷ more) =
-    let p = play pack serial s events in
+    let p = run_events pack serial s events in
     let rest = parts pack (serial + 100) p.1 more in
-    (told events p.0, room pack p.1) ∷ rest
+    (shown_replies events p.0, room pack p.1) ∷ rest
 
 -- A disk of 64 blocks in layout 1, [10,20] and its directory.
 

@@ -1,7 +1,7 @@
 use Rattle.std.proofs.Common.{◌≡◌, ◌+◌, ◌≤◌, length, take, vec_len, vec_capacity}
 use Rattle.exchange.specs.Turns.{addresses}
 use Rattle.exchange.proofs.ReplyLaws.{HasTold}
-use Rattle.exchange.proofs.reply_words.tell_areas.Given as goal
+use Rattle.exchange.proofs.reply_words.push_areas.Given as goal
 
 abbrev pub invariant-loop-area : goal.invariant-loop-area
 invariant-loop-area g l = record {
