@@ -17,7 +17,8 @@ same_key : (n m : ℕ) → nat_eq n m ≡ true → m ≡ n
 same_key n m e = grind (arith, nat_tests)
 
 -- what a look-up finds is what the contents hold
-pub held_found : (entries : List (ℕ × List ℕ)) (contents : Contents) (n : ℕ) (words : List ℕ) → AreCached entries contents
+pub held_found : (entries : List (ℕ × List ℕ)) (contents : Contents) (n : ℕ) (words : List ℕ)
+    → AreCached entries contents
     → lookup (nat_eq n) entries ≡ Some words → contents n ≡ Some words
 held_found entries contents n words held found =
     let at = Contains-lookup (nat_eq n) entries words found in
@@ -47,7 +48,8 @@ held_used kept contents n held e is = held e (Contains-promoted (nat_eq n) kept.
 -- Puts
 
 -- each entry after a put was there, or is the one put
-put_entry : (kept : CachedBlocks) (n : ℕ) (words : List ℕ) (e : ℕ × List ℕ) → Contains (put_entries nat_eq kept n words) e
+put_entry : (kept : CachedBlocks) (n : ℕ) (words : List ℕ) (e : ℕ × List ℕ)
+    → Contains (put_entries nat_eq kept n words) e
     → Contains kept.entries e ⊎ ((e.0 ≡ n) × (e.1 ≡ words))
 put_entry kept n words e is = elim (Contains-put_entries nat_eq kept n words e is) [
   | inl there ↦ inl there
@@ -67,7 +69,8 @@ held_put kept contents n words held here e is = elim (put_entry kept n words e i
 pub held_kept : (kept new : CachedBlocks) (contents : Contents) (n : ℕ) (words : List ℕ) → IsCached n words kept new
     → AreCached kept.entries contents → contents n ≡ Some words → AreCached new.entries contents
 held_kept kept new contents n words is held here = ⊎_elim
-    (λ put. subst (λ (c : CachedBlocks). AreCached c.entries contents) (sym put) (held_put kept contents n words held here))
+    (λ put. subst (λ (c : CachedBlocks). AreCached c.entries contents) (sym put)
+        (held_put kept contents n words held here))
     (λ same. subst (λ (c : CachedBlocks). AreCached c.entries contents) (sym same) held) is
 
 -- a put changes the cache, or is refused and changes nothing
@@ -133,7 +136,8 @@ none_without m n (f ∷ es) none = (elim (nat_eq m f.0) as (λ b. nat_eq m f.0 �
     ]) refl
 
 -- what is cached of other blocks is still right, whatever happens to those of a set of blocks
-pub held_outside : (In : ℕ → Type 0) (entries : List (ℕ × List ℕ)) (contents now : Contents) → AreCached entries contents
+pub held_outside : (In : ℕ → Type 0) (entries : List (ℕ × List ℕ)) (contents now : Contents)
+    → AreCached entries contents
     → ((n : ℕ) → In n → lookup (nat_eq n) entries ≡ None) → SameOutside In contents now → AreCached entries now
 held_outside In entries contents now held none others e is =
     others e.0 (λ within. found_somewhere e.0 entries e is refl (none e.0 within)) ∙ held e is

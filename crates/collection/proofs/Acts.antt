@@ -25,7 +25,8 @@ module _ {S : Type 0} (machine : S → Machine) (stands : AlwaysStands machine) 
   -- no call was made
   pub same_goes : (old new : S) → new ≡ old → Goes machine old new
   same_goes old new same =
-      record { acts = []; goes = subst (λ (s : S). GoesBy machine old s []) (sym same) (goes_nowhere machine stands old) }
+      record { acts = []; goes = subst (λ (s : S). GoesBy machine old s []) (sym same) (goes_nowhere machine stands old)
+          }
 
   pub then_goes : (old mid new : S) → Goes machine old mid → Goes machine mid new → Goes machine old new
   then_goes old mid new one next = record {
@@ -53,7 +54,8 @@ module _ {S : Type 0} (machine : S → Machine) (stands : AlwaysStands machine) 
       record { acts = done.imported.acts; goes = done.imported.goes }
   import_goes facts task path sink full old new result
       (inl (text, name, named, inl (source, read, inr (inl (dated, undated, (same, line)))))) = same_goes old new same
-  import_goes facts task path sink full old new result (inl (text, name, named, inl (source, read, inr (inr unnamed)))) =
+  import_goes facts task path sink full old new result
+      (inl (text, name, named, inl (source, read, inr (inr unnamed)))) =
       same_goes old new unnamed.same
   import_goes facts task path sink full old new result (inl (text, name, named, inr (error, read, (same, line)))) =
       same_goes old new same

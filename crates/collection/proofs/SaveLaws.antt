@@ -13,7 +13,8 @@ use Rattle.collection.specs.declared.task.ExportTask.{ExportTask}
 pub size_stays : {D : Type 0} (facts : FileFacts) (state : D → DiskState) (task : ExportTask) (file : SavedFile)
     (sink full : Option (List ℕ)) (old new : D) (result : Result Tally SessionError)
     → IsFileDone facts state task file sink full old new result → (state new).size ≡ (state old).size
-size_stays facts state task file sink full old new result (inl (wanted, inl (lists, folder, saved))) = saved.is.same.size
+size_stays facts state task file sink full old new result (inl (wanted, inl (lists, folder, saved))) =
+    saved.is.same.size
 size_stays facts state task file sink full old new result (inl (wanted, inr (inl (lists, none)))) =
     ap (λ disk. (state disk).size) none.same
 size_stays facts state task file sink full old new result (inl (wanted, inr (inr (inl (lists, listed))))) =

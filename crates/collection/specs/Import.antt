@@ -59,7 +59,8 @@ abbrev pub IsSourcePut : {S : Type 0} → (S → Machine) → ImportTask → Lis
     → Option (List ℕ) → Option (List ℕ) → S → S → Result Tally SessionError → Type 0
 IsSourcePut machine task path text name source sink full old new result =
     IsImported machine task path text name source sink full old new result
-    ⊎ ((task.dated ≡ true) × (source.changed ≡ None) × IsTurnedDown path sink full old new (codes "?Date out of range") result)
+    ⊎ ((task.dated ≡ true) × (source.changed ≡ None) × IsTurnedDown path sink full old new (codes "?Date out of range")
+        result)
     ⊎ IsUnnamed sink full old new result
 
 -- What the host returned for a file that gets this name, which a text spells, and what became of it.
@@ -92,7 +93,8 @@ pub record HasMade {S : Type 0} (machine : S → Machine) (old new : S) (owner :
     : Type 0 where
   pub at : Moment
   pub first : at_first at
-  pub led : (next : Plan) → FollowsPlan machine old new (each at (login_events owner) (each at (make_dir_events at owner 0) next))
+  pub led : (next : Plan)
+      → FollowsPlan machine old new (each at (login_events owner) (each at (make_dir_events at owner 0) next))
       (followed at made (λ unit. next))
 
 -- The directory was made, or exists; or it does neither, and a line states this: whose it is, and why.

@@ -82,7 +82,8 @@ module _ {S : Type 0} (machine : S → Machine) (first size word : ℕ) where
     fills_more unit ok moment next =
         subst (λ (r : Result (Unit {0}) Reply).
         FollowsPlan machine a c (each moment (deposit_events first (replicate size word)) next)
-        (followed moment r (λ unit. each moment (deposit_events (first + (i + 1)) (replicate (size - (i + 1)) word)) next)))
+        (followed moment r (λ unit. each moment (deposit_events (first + (i + 1)) (replicate (size - (i + 1)) word))
+            next)))
         ok (fills_then moment next)
 
     pub fills_broken : (reply : Reply) → result ≡ Err reply → (moment : Moment) (next : Plan)
@@ -90,7 +91,8 @@ module _ {S : Type 0} (machine : S → Machine) (first size word : ℕ) where
     fills_broken reply err moment next =
         subst (λ (r : Result (Unit {0}) Reply).
         FollowsPlan machine a c (each moment (deposit_events first (replicate size word)) next)
-        (followed moment r (λ unit. each moment (deposit_events (first + (i + 1)) (replicate (size - (i + 1)) word)) next)))
+        (followed moment r (λ unit. each moment (deposit_events (first + (i + 1)) (replicate (size - (i + 1)) word))
+            next)))
         err (fills_then moment next)
 
   pub fills_all : (a b : S) (i : ℕ) → size ≤ i → Fills a b i → (moment : Moment) (next : Plan)
@@ -220,14 +222,16 @@ module _ {S : Type 0} (machine : S → Machine) (moment : Moment) (first size n 
   Over next = each moment (deposit_events first (replicate size word) ++ then_taken) (fetches moment size first next)
 
   module _ (a b : S) (filled : Result (Unit {0}) Reply) (fills : (at : Moment) (next : Plan)
-      → FollowsPlan machine a b (each at (deposit_events first (replicate size word)) next) (followed at filled (λ unit. next))) where
+      → FollowsPlan machine a b (each at (deposit_events first (replicate size word)) next)
+          (followed at filled (λ unit. next))) where
     over_filled : (next : List ℕ → Plan)
         → FollowsPlan machine a b (Over next)
         (followed moment filled (λ unit. each moment then_taken (fetches moment size first next)))
     over_filled next =
         subst (λ (p : Plan). FollowsPlan machine a b p
         (followed moment filled (λ unit. each moment then_taken (fetches moment size first next))))
-        (sym (each_append moment (deposit_events first (replicate size word)) then_taken (fetches moment size first next)))
+        (sym (each_append moment (deposit_events first (replicate size word)) then_taken
+            (fetches moment size first next)))
         (fills moment (each moment then_taken (fetches moment size first next)))
 
     pub over_unfilled : (reply : Reply) → filled ≡ Err reply → (next : List ℕ → Plan)
@@ -273,7 +277,8 @@ module _ {S : Type 0} (machine : S → Machine) (moment : Moment) (first size n 
       pub over_all : (one : Unit {0}) → asked ≡ Ok one → (d : S) (fetched : Result (List ℕ) Reply)
           → ((block : List ℕ) → fetched ≡ Ok block → length block ≡ size)
           → ((at : Moment) (next : List ℕ → Plan)
-          → FollowsPlan machine c d (fetches at size first next) (followed at fetched (λ block. next (take size block))))
+          → FollowsPlan machine c d (fetches at size first next)
+              (followed at fetched (λ block. next (take size block))))
           → (next : List ℕ → Plan) → FollowsPlan machine a d (Over next) (followed moment fetched next)
       over_all one done d (Ok block) long led next = over_fetched one done d block next (omega (arith, long block refl))
           (led moment next)
@@ -317,7 +322,8 @@ module _ {S : Type 0} (machine : S → Machine) (moment : Moment) (n size : ℕ)
 
       pub first_failed : (reply : Reply) → first ≡ Err reply → (next : ℕ → Plan)
           → FollowsPlan machine a b (sizes moment n size next) (fails moment reply)
-      first_failed reply err next = subst (λ (r : Result (List ℕ) Reply). FollowsPlan machine a b (sizes moment n size next)
+      first_failed reply err next =
+          subst (λ (r : Result (List ℕ) Reply). FollowsPlan machine a b (sizes moment n size next)
           (followed moment r (λ zeros. takes_over moment n 1 (λ ones. next (same_words zeros ones))))) err
           (first_taken next)
 
@@ -325,7 +331,8 @@ module _ {S : Type 0} (machine : S → Machine) (moment : Moment) (n size : ℕ)
           ≡ 1) (second : Result (List ℕ) Reply) (again : (next : List ℕ → Plan)
           → FollowsPlan machine b c (takes_over moment n one next) (followed moment second next)) where
         second_taken : (next : ℕ → Plan)
-            → FollowsPlan machine a c (sizes moment n size next) (followed moment second (λ ones. next (same_words zeros ones)))
+            → FollowsPlan machine a c (sizes moment n size next)
+                (followed moment second (λ ones. next (same_words zeros ones)))
         second_taken next =
             led_on machine a b c _ _ _
             (subst (λ (r : Result (List ℕ) Reply). FollowsPlan machine a b (sizes moment n size next)
@@ -337,7 +344,8 @@ module _ {S : Type 0} (machine : S → Machine) (moment : Moment) (n size : ℕ)
 
         pub second_failed : (reply : Reply) → second ≡ Err reply → (next : ℕ → Plan)
             → FollowsPlan machine a c (sizes moment n size next) (fails moment reply)
-        second_failed reply err next = subst (λ (r : Result (List ℕ) Reply). FollowsPlan machine a c (sizes moment n size next)
+        second_failed reply err next =
+            subst (λ (r : Result (List ℕ) Reply). FollowsPlan machine a c (sizes moment n size next)
             (followed moment r (λ ones. next (same_words zeros ones)))) err (second_taken next)
 
         pub size_counted : (ones : List ℕ) → second ≡ Ok ones → (count : ℕ) → count ≡ same_words zeros ones

@@ -4,7 +4,8 @@ use Rattle.std.proofs.Common.{◌∙◌, ap, subst, arith}
 use Rattle.words36.specs.declared.moment.Moment.{Moment}
 use Rattle.spec_language.specs.Common.{Plan, each, examines, fails, lookup_events, enter_events, list_events, in_event}
 use Rattle.spec_language.specs.Common.{out_event, call_event}
-use Rattle.spec_language.specs.Common.{copy_runs_plan, copy_blocks_plan, copy_last_plan, copy_body_plan, until_end, blocks_said}
+use Rattle.spec_language.specs.Common.{copy_runs_plan, copy_blocks_plan, copy_last_plan, copy_body_plan, until_end}
+use Rattle.spec_language.specs.Common.{blocks_said}
 use Rattle.spec_language.specs.Common.{file_words, blocks_at_once}
 use Rattle.spec_language.specs.declared.command.Spec.{Spec}
 use Rattle.spec_machine.specs.declared.call.Call.TheVariants.{Close}
@@ -41,7 +42,8 @@ one_before : (more : ℕ) → more ≡ suc more - 1
 one_before more = omega arith
 
 body_copied : (moment : Moment) (blocks size : ℕ) (next : Plan) → 0 < blocks
-    → copy_body_plan moment blocks size next ≡ copy_blocks_plan moment (blocks - 1) (copy_last_plan moment blocks size next)
+    → copy_body_plan moment blocks size next ≡ copy_blocks_plan moment (blocks - 1)
+        (copy_last_plan moment blocks size next)
 body_copied moment zero size next h = absurd (omega arith)
 body_copied moment (suc more) size next h = ap
     (λ (k : ℕ). copy_blocks_plan moment k (copy_last_plan moment (suc more) size next)) (one_before more)
@@ -53,8 +55,10 @@ none_in_body moment blocks size next e = ap (λ (k : ℕ). copy_body_plan moment
 module _ {S : Type 0} (machine : S → Machine) where
   -- the events of a plan that begins with these
   pub led_each : (a b : S) (moment : Moment) (asked : List Event) (events : List Event) (next rest : Plan)
-      → asked ≡ events → FollowsPlan machine a b (each moment asked next) rest → FollowsPlan machine a b (each moment events next) rest
-  led_each a b moment asked events next rest e p = subst (λ (l : List Event). FollowsPlan machine a b (each moment l next) rest)
+      → asked ≡ events → FollowsPlan machine a b (each moment asked next) rest
+          → FollowsPlan machine a b (each moment events next) rest
+  led_each a b moment asked events next rest e p = subst
+      (λ (l : List Event). FollowsPlan machine a b (each moment l next) rest)
       e p
 
   -- the same if others come after them
@@ -70,7 +74,8 @@ module _ {S : Type 0} (machine : S → Machine) where
       ≡ in_event moment ∷ out_event moment ∷ []) (h : i < count)
       (before : (next : Plan)
       → FollowsPlan machine a b (copy_runs_plan moment count next) (copy_runs_plan moment (count - i) next)) where
-    run_led : (next rest : Plan) → FollowsPlan machine b c (each moment asked (copy_runs_plan moment (count - (i + 1)) next))
+    run_led : (next rest : Plan) → FollowsPlan machine b c
+        (each moment asked (copy_runs_plan moment (count - (i + 1)) next))
         rest → FollowsPlan machine a c (copy_runs_plan moment count next) rest
     run_led next rest p =
         led_on machine a b c (copy_runs_plan moment count next) (copy_runs_plan moment (count - i) next) rest
@@ -78,7 +83,8 @@ module _ {S : Type 0} (machine : S → Machine) where
         (subst (λ (l : Plan). FollowsPlan machine b c l rest)
         (sym (ap (λ (k : ℕ). copy_runs_plan moment k next) (one_less count i h)
         ∙ run_copied moment (count - (i + 1)) next))
-        (led_each b c moment asked (in_event moment ∷ out_event moment ∷ []) (copy_runs_plan moment (count - (i + 1)) next)
+        (led_each b c moment asked (in_event moment ∷ out_event moment ∷ [])
+            (copy_runs_plan moment (count - (i + 1)) next)
         rest is_asked p))
 
     pub runs_more : ((next : Plan) → FollowsPlan machine b c (each moment asked next) next) → (next : Plan)
@@ -86,14 +92,17 @@ module _ {S : Type 0} (machine : S → Machine) where
     runs_more p next = run_led next (copy_runs_plan moment (count - (i + 1)) next)
         (p (copy_runs_plan moment (count - (i + 1)) next))
 
-    pub runs_fail : (reply : Reply) → ((next : Plan) → FollowsPlan machine b c (each moment asked next) (fails moment reply))
+    pub runs_fail : (reply : Reply)
+        → ((next : Plan) → FollowsPlan machine b c (each moment asked next) (fails moment reply))
         → (next : Plan) → FollowsPlan machine a c (copy_runs_plan moment count next) (fails moment reply)
     runs_fail reply p next = run_led next (fails moment reply) (p (copy_runs_plan moment (count - (i + 1)) next))
 
   pub runs_all : (a b : S) (moment : Moment) (count i : ℕ) → count ≤ i
-      → ((next : Plan) → FollowsPlan machine a b (copy_runs_plan moment count next) (copy_runs_plan moment (count - i) next))
+      → ((next : Plan) → FollowsPlan machine a b (copy_runs_plan moment count next)
+          (copy_runs_plan moment (count - i) next))
       → (next : Plan) → FollowsPlan machine a b (copy_runs_plan moment count next) next
-  runs_all a b moment count i h p next = subst (λ (l : Plan). FollowsPlan machine a b (copy_runs_plan moment count next) l)
+  runs_all a b moment count i h p next =
+      subst (λ (l : Plan). FollowsPlan machine a b (copy_runs_plan moment count next) l)
       (ap (λ (k : ℕ). copy_runs_plan moment k next) (all_less count i h) ∙ none_copied moment next) (p next)
 
   pub runs_none : AlwaysStands machine → (a : S) (moment : Moment) (count : ℕ) (next : Plan)
@@ -130,7 +139,8 @@ module _ {S : Type 0} (machine : S → Machine) (moment : Moment) where
   pub third_led : (a b c d : S) (first second third : List Event) (f s t : List Event) (next rest : Plan)
       → first ≡ f → second ≡ s → third ≡ t
       → ((then : Plan) → FollowsPlan machine a b (each moment first then) then)
-      → ((then : Plan) → FollowsPlan machine b c (each moment second then) then) → FollowsPlan machine c d (each moment third next) rest
+      → ((then : Plan) → FollowsPlan machine b c (each moment second then) then)
+          → FollowsPlan machine c d (each moment third next) rest
       → FollowsPlan machine a d (each moment (f ++ (s ++ t)) next) rest
   third_led a b c d first second third f s t next rest is_first is_second is_third p q r =
       led_on machine a b d (each moment (f ++ (s ++ t)) next) (each moment (s ++ t) next) rest
@@ -157,7 +167,8 @@ abbrev pub closed_then : Moment → Plan → Plan
 closed_then moment next = each moment (call_event moment (Close 2 0) ∷ []) next
 
 abbrev pub copied_then : Moment → Plan → ℕ → Plan
-copied_then moment next size = copy_body_plan moment (blocks_said size) size (until_end moment (closed_then moment next))
+copied_then moment next size = copy_body_plan moment (blocks_said size) size
+    (until_end moment (closed_then moment next))
 
 abbrev pub copied_all : Moment → Spec → Spec → Plan → Plan
 copied_all moment to from next = each moment (lookup_events moment from ++ enter_events moment to ++ list_events 128)

@@ -69,7 +69,8 @@ seeking_job me j spec is =
     (job_open me (with_core j (opening j)) 1 open_channel (opened_job me j is))
     (writes_length j1.core (placed file_words (named_words spec)))
 
-seeking_free : (j : SpecJob) (spec : Spec) → slice_index (seeking j spec).core first_free ≡ slice_index j.core first_free
+seeking_free : (j : SpecJob) (spec : Spec) → slice_index (seeking j spec).core first_free ≡ slice_index j.core
+    first_free
 seeking_free j spec = spared (opening j) file_words (named_words spec) first_free (inr (omega arith))
     ∙ spared j.core open_words dump_words first_free (inr (omega arith))
 
@@ -171,7 +172,8 @@ module _ (pack : Pack) (s : State) (j0 : SpecJob) (there : job_at s 1 ≡ Some j
       job_core me j2 (with_right j2.core (file_words + 1) 0) (seeking_job me j spec is)
       (length-set j2.core (file_words + 1) _)
 
-  missed_free : (j : SpecJob) (spec : Spec) → slice_index (missed j spec).core first_free ≡ slice_index j.core first_free
+  missed_free : (j : SpecJob) (spec : Spec) → slice_index (missed j spec).core first_free ≡ slice_index j.core
+      first_free
   missed_free j spec = get_or-set_other (seeking j spec).core (file_words + 1) first_free _ 0 (λ e. cc)
       ∙ seeking_free j spec
 
@@ -259,7 +261,8 @@ module _ (pack : Pack) (s : State) (j0 : SpecJob) (there : job_at s 1 ≡ Some j
       (if_absent moment (put_then moment encoding spec words))) said new
       → (IsPut moment me s encoding spec words said new × IsFree me s spec) ⊎ IsLineRefused s.files said new
   sought encoding j is free come =
-      by (asked pack (Serving (at s (seeking j spec))) (call_event moment (Lookup 1 file_words)) (if_absent moment next) said
+      by (asked pack (Serving (at s (seeking j spec))) (call_event moment (Lookup 1 file_words)) (if_absent moment next)
+          said
       new come)
     where
       next : Plan
@@ -272,7 +275,8 @@ module _ (pack : Pack) (s : State) (j0 : SpecJob) (there : job_at s 1 ≡ Some j
       by (reply, mid, answers, more) = ⊎_elim
           (λ none.
           let st = refused_steps (at s (seeking j spec)) (call_event moment (Lookup 1 file_words)) mid
-          (subst (λ r. Answers pack (Serving (at s (seeking j spec))) (call_event moment (Lookup 1 file_words)) r mid) none
+          (subst (λ r. Answers pack (Serving (at s (seeking j spec))) (call_event moment (Lookup 1 file_words)) r mid)
+              none
           answers) in
           let m = misses pack s j0 there moment me j spec st.0 is few st.2 in
           let rest = subst (λ (p : Plan). Comes pack (Serving st.0) p said new) (ap (if_absent moment next) none)
@@ -283,7 +287,8 @@ module _ (pack : Pack) (s : State) (j0 : SpecJob) (there : job_at s 1 ≡ Some j
           (subst (λ (u : State). Comes pack (Serving u) next said new) m.0 rest)))
           (λ (other, is). inr (failed pack s.files mid moment other said new
           (answered_files pack (at s (seeking j spec)) (call_event moment (Lookup 1 file_words)) reply mid
-          (λ t steps. quiet_files pack (at s (seeking j spec)) (call_event moment (Lookup 1 file_words)) reply t tt steps)
+          (λ t steps. quiet_files pack (at s (seeking j spec)) (call_event moment (Lookup 1 file_words)) reply t tt
+              steps)
           answers)
           (subst (λ (p : Plan). Comes pack mid p said new) is more)))
           (reply_says next reply)

@@ -7,7 +7,8 @@ use Rattle.std.specs.declared.alloc.AllocError.{AllocError}
 use Rattle.words36.specs.Common.{word_bytes, IsWord}
 use Rattle.words36.specs.declared.moment.Moment.{Moment}
 use Rattle.spec_language.specs.Common.{AreShort, HasFiles, IsLineRefused, IsPrinted, HasHalfwordExtension}
-use Rattle.spec_language.specs.Common.{IsRefusedAt, AreWords, get_plan, put_plan, operator, unfit, Act, Say, RunsPlan, ok}
+use Rattle.spec_language.specs.Common.{IsRefusedAt, AreWords, get_plan, put_plan, operator, unfit, Act, Say, RunsPlan}
+use Rattle.spec_language.specs.Common.{ok}
 use Rattle.spec_language.specs.Common.{Spoken, complains, prints, refuses, Went}
 use Rattle.spec_image.specs.Common.{Files, SpecVersion, Pack}
 use Rattle.spec_machine.specs.Common.{State, Service, Serving}

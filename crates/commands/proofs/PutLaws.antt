@@ -4,7 +4,8 @@ use Rattle.std.proofs.Common.{drop, length, get_or, min, arith, Bool, true, fals
 use Rattle.std.proofs.lemmas.Bool.Decides.{nat_tests}
 use Rattle.std.proofs.lemmas.List.{drop_more, drop_all, take_all, length-drop}
 use Rattle.words36.specs.declared.moment.Moment.{Moment}
-use Rattle.spec_language.specs.Common.{create_events, fill_events, fill_parts_plan, fill_all_plan, size_events, part_address}
+use Rattle.spec_language.specs.Common.{create_events, fill_events, fill_parts_plan, fill_all_plan, size_events}
+use Rattle.spec_language.specs.Common.{part_address}
 use Rattle.spec_language.specs.Common.{part_words}
 use Rattle.spec_language.specs.Common.{parts_of, Plan, each, fails, deposit_events, call_event}
 use Rattle.spec_machine.specs.declared.call.Call.TheVariants.{Close}
@@ -43,7 +44,8 @@ module _ {S : Type 0} (machine : S → Machine) (first : ℕ) (words : List ℕ)
   pub deposits_none : AlwaysStands machine → (a : S) → Deposits a a 0
   deposits_none stands a moment next =
       let place : first ≡ first + 0 = omega arith in
-      subst (λ (n : ℕ). FollowsPlan machine a a (each moment (deposit_events first words) next) (each moment (deposit_events n words) next))
+      subst (λ (n : ℕ). FollowsPlan machine a a (each moment (deposit_events first words) next)
+          (each moment (deposit_events n words) next))
       place (led_still machine stands a (each moment (deposit_events first words) next))
 
   module _ (a b c : S) (i word : ℕ) (h : i < length words) (at : word ≡ get_or words i word) (p : Deposits a b i)
@@ -63,7 +65,8 @@ module _ {S : Type 0} (machine : S → Machine) (first : ℕ) (words : List ℕ)
         (asked moment (each moment (deposit_events (first + (i + 1)) (drop (i + 1) words)) next))
 
     pub deposits_broken : (reply : Reply)
-        → ((moment : Moment) (next : Plan) → FollowsPlan machine b c (each moment (event ∷ []) next) (fails moment reply))
+        → ((moment : Moment) (next : Plan) → FollowsPlan machine b c (each moment (event ∷ []) next)
+            (fails moment reply))
         → (moment : Moment) (next : Plan)
         → FollowsPlan machine a c (each moment (deposit_events first words) next) (fails moment reply)
     deposits_broken reply asked moment next = deposit_then moment next (fails moment reply)
@@ -108,7 +111,8 @@ first_part moment encoding words part rest next h is_part is_rest =
     ∙ ap (λ (n : ℕ). suc (parts_of encoding n)) (sym (length-drop (part_words encoding) words)) in
     ap (λ (n : ℕ). fill_parts_plan moment encoding n words next) count
     ∙ part_filled moment encoding (parts_of encoding (length behind)) words next
-    ∙ (λ i. each moment (fill_events moment encoding (sym is_part i)) (fill_all_plan moment encoding (sym is_rest i) next))
+    ∙ (λ i. each moment (fill_events moment encoding (sym is_part i))
+        (fill_all_plan moment encoding (sym is_rest i) next))
 
 pub no_part : (moment : Moment) (encoding : Encoding) (words : List ℕ) (next : Plan) → length words ≡ 0
     → fill_all_plan moment encoding words next ≡ next
@@ -153,27 +157,31 @@ module _ {S : Type 0} (machine : S → Machine) (moment : Moment) (encoding : En
       (is_part : part ≡ take (part_words encoding) rest) (is_after : after ≡ drop (part_words encoding) rest)
       (p : Filled a b rest) where
     part_then : (next end : Plan)
-        → FollowsPlan machine b c (each moment (fill_events moment encoding part) (fill_all_plan moment encoding after next)) end
+        → FollowsPlan machine b c
+            (each moment (fill_events moment encoding part) (fill_all_plan moment encoding after next)) end
         → FollowsPlan machine a c (fill_all_plan moment encoding words next) end
     part_then next end q = led_on machine a b c (fill_all_plan moment encoding words next)
         (fill_all_plan moment encoding rest next) end (p next)
         (subst (λ (l : Plan). FollowsPlan machine b c l end)
         (sym (first_part moment encoding rest part after next h is_part is_after)) q)
 
-    pub filled_more : ((next : Plan) → FollowsPlan machine b c (each moment (fill_events moment encoding part) next) next)
+    pub filled_more : ((next : Plan) → FollowsPlan machine b c (each moment (fill_events moment encoding part) next)
+        next)
         → Filled a c after
     filled_more filled next = part_then next (fill_all_plan moment encoding after next)
         (filled (fill_all_plan moment encoding after next))
 
     pub filled_broken : (reply : Reply)
-        → ((next : Plan) → FollowsPlan machine b c (each moment (fill_events moment encoding part) next) (fails moment reply))
+        → ((next : Plan) → FollowsPlan machine b c (each moment (fill_events moment encoding part) next)
+            (fails moment reply))
         → (next : Plan) → FollowsPlan machine a c (fill_all_plan moment encoding words next) (fails moment reply)
     filled_broken reply broken next = part_then next (fails moment reply)
         (broken (fill_all_plan moment encoding after next))
 
   pub filled_all : (a b : S) (rest : List ℕ) → length rest ≡ 0 → Filled a b rest → (next : Plan)
       → FollowsPlan machine a b (fill_all_plan moment encoding words next) next
-  filled_all a b rest none p next = subst (λ (l : Plan). FollowsPlan machine a b (fill_all_plan moment encoding words next) l)
+  filled_all a b rest none p next =
+      subst (λ (l : Plan). FollowsPlan machine a b (fill_all_plan moment encoding words next) l)
       (no_part moment encoding rest next none) (p next)
 
 -- A file: the rest after the job has logged in, after the file is entered, after its words are put.
@@ -193,18 +201,23 @@ module _ {S : Type 0} (machine : S → Machine) (moment : Moment) (encoding : En
   pub part_deposited : (a b : S) (address : ℕ) → address ≡ part_address encoding → (reply : Reply)
       → ((moment : Moment) (next : Plan) → FollowsPlan machine a b (each moment (deposit_events address part) next)
       (fails moment reply))
-      → (next : Plan) → FollowsPlan machine a b (each moment (fill_events moment encoding part) next) (fails moment reply)
+      → (next : Plan) → FollowsPlan machine a b (each moment (fill_events moment encoding part) next)
+          (fails moment reply)
   part_deposited a b address is reply failed next = led_first machine a b moment (deposit_events address part)
-      (deposit_events (part_address encoding) part) (size_events moment encoding (length part)) next (fails moment reply)
-      (ap (λ (n : ℕ). deposit_events n part) is) (failed moment (each moment (size_events moment encoding (length part)) next))
+      (deposit_events (part_address encoding) part) (size_events moment encoding (length part)) next
+          (fails moment reply)
+      (ap (λ (n : ℕ). deposit_events n part) is)
+          (failed moment (each moment (size_events moment encoding (length part)) next))
 
   pub part_announced : (a b c : S) (address : ℕ) → address ≡ part_address encoding
       → (result : Result (Unit {0}) Reply)
-      → ((moment : Moment) (next : Plan) → FollowsPlan machine a b (each moment (deposit_events address part) next) next)
+      → ((moment : Moment) (next : Plan) → FollowsPlan machine a b (each moment (deposit_events address part) next)
+          next)
       → ((next : Plan) → FollowsPlan machine b c (each moment (size_events moment encoding (length part)) next)
       (followed moment result (λ unit. next)))
       → (next : Plan)
-      → FollowsPlan machine a c (each moment (fill_events moment encoding part) next) (followed moment result (λ unit. next))
+      → FollowsPlan machine a c (each moment (fill_events moment encoding part) next)
+          (followed moment result (λ unit. next))
   part_announced a b c address is result deposited announced next =
       let behind = each moment (size_events moment encoding (length part)) next in
       led_on machine a b c (each moment (fill_events moment encoding part) next) behind _

@@ -112,7 +112,8 @@ module _ (language : Language) (moment : Moment) where
       let a : next ≡ acts ++ next = ap (λ (l : List Act). l ++ next) (sym p.0) in
       let s : here ≡ both_said said here = joined-silent said here p.1 in
       let r : later ≡ refused ++ later = ap (λ (l : List ℕ). l ++ later) (sym p.3) in
-      subst (λ (v : List ℕ). IsNumberedTranscript language moment user more (acts ++ next) (both_said said here) after v)
+      subst (λ (v : List ℕ). IsNumberedTranscript language moment user more (acts ++ next) (both_said said here) after
+          v)
       r
       (subst (λ (v : Option ℕ). IsNumberedTranscript language moment v more (acts ++ next) (both_said said here) after
       later) w
@@ -155,7 +156,8 @@ module _ (language : Language) (moment : Moment) where
   no_line user n acts said after p = (p.0, p.1, p.2, ap (λ (v : Spoken). mark v.refused n) p.1)
 
   -- the parsed line is the one that has the number
-  pub refusals_parsed : (user : Option ℕ) (n : ℕ) (lines : List Line) (parsed : ParsedLine) (acts : List Act) (said : Spoken)
+  pub refusals_parsed : (user : Option ℕ) (n : ℕ) (lines : List Line) (parsed : ParsedLine) (acts : List Act)
+      (said : Spoken)
       (after : Option ℕ) → IsParsedLine language moment lines parsed → LineActs moment user parsed acts said after
       → IsNumberedTranscript language moment user (with_number n lines) acts said after (mark said.refused n)
   refusals_parsed user n [] parsed acts said after h p =

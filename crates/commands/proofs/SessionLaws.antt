@@ -33,8 +33,10 @@ pub record Streams {S : Type 0} (language : Language) (source left sink full : O
   pub waits : session.waiting.items ≡ []
 
 pub stream_starts : {S : Type 0} (language : Language) (machine : S
-    → Machine) (stands : AlwaysStands machine) (source sink : Option (List ℕ)) (m : S) (moment : Moment) (session : SessionState)
-    → IsPartialLine session.held [] → session.line ≡ 1 → session.user ≡ None → session.tally ≡ fresh → session.waiting.items ≡ []
+    → Machine) (stands : AlwaysStands machine) (source sink : Option (List ℕ)) (m : S) (moment : Moment)
+        (session : SessionState)
+    → IsPartialLine session.held [] → session.line ≡ 1 → session.user ≡ None → session.tally ≡ fresh
+        → session.waiting.items ≡ []
     → Streams language source source sink sink machine m m moment session
 stream_starts language machine stands source sink m moment session held line user tally waits = record {
   read = [];
@@ -61,10 +63,12 @@ stream_starts language machine stands source sink m moment session held line use
 
 pub stream_more : {S : Type 0} (language : Language) (machine : S
     → Machine) (source left rest sink full over : Option (List ℕ)) (old now new : S) (moment : Moment)
-    (session after : SessionState) (bytes : List ℕ) → Streams language source left sink full machine old now moment session
+    (session after : SessionState) (bytes : List ℕ) → Streams language source left sink full machine old now moment
+        session
     → Consumes left rest bytes → StepsOn language machine now new full over moment session after bytes
     → after.waiting.items ≡ [] → Streams language source rest sink over machine old new moment after
-stream_more language machine source left rest sink full over old now new moment session after bytes s c t waits = record {
+stream_more language machine source left rest sink full over old now new moment session after bytes s c t waits =
+    record {
   read = s.read ++ bytes;
   written = s.written ++ t.written;
   acts = s.acts ++ t.acts;
@@ -156,7 +160,8 @@ stream_breaks language machine at_end source left rest sink full over old now ne
     }
 
 pub stream_ends : {S : Type 0} (language : Language) (machine : S
-    → Machine) (source left rest sink full over : Option (List ℕ)) (old now new : S) (moment : Moment) (session : SessionState)
+    → Machine) (source left rest sink full over : Option (List ℕ)) (old now new : S) (moment : Moment)
+        (session : SessionState)
     (result : Result Tally SessionError) → Streams language source left sink full machine old now moment session
     → Consumes left rest [] → IsAtEnd rest
     → IfOk result (λ tally. EndsWell language machine now new full over moment session tally)
@@ -194,7 +199,8 @@ served_session pack moment read written acts tally first last f w =
       transcript = f.transcript;
       went = parts.1;
       answer = f.closes.0;
-      reset = subst (λ (s : Service). Answers pack parts.0 (call_event moment Reset) f.closes.0 s) (sym parts.2.2) parts.2.1;
+      reset = subst (λ (s : Service). Answers pack parts.0 (call_event moment Reset) f.closes.0 s) (sym parts.2.2)
+          parts.2.1;
     }
 
 -- or a call script

@@ -38,7 +38,8 @@ use Rattle.spec_machine.specs.declared.call.Call.TheVariants as played
 -- Steps one after another.
 
 pub steps_none : {S : Type 0} (language : Language) (machine : S
-    → Machine) (stands : AlwaysStands machine) (m : S) (sink : Option (List ℕ)) (moment : Moment) (session : SessionState)
+    → Machine) (stands : AlwaysStands machine) (m : S) (sink : Option (List ℕ)) (moment : Moment)
+        (session : SessionState)
     → StepsOn language machine m m sink sink moment session session []
 steps_none language machine stands m sink moment session = record {
   acts = [];
@@ -159,7 +160,8 @@ steps_all language machine a c p r moment x z piece i h s = subst
 
 -- A byte that is no line feed.
 pub step_byte : {S : Type 0} (language : Language) (machine : S
-    → Machine) (stands : AlwaysStands machine) (m : S) (sink : Option (List ℕ)) (moment : Moment) (session : SessionState)
+    → Machine) (stands : AlwaysStands machine) (m : S) (sink : Option (List ℕ)) (moment : Moment)
+        (session : SessionState)
     (held : PartialLine) (b : ℕ) → b ≢ 10
     → ((seen : List ℕ) → IsPartialLine session.held seen → IsPartialLine held (seen ++ b ∷ []))
     → StepsOn language machine m m sink sink moment session (record session { held = held }) (b ∷ [])
@@ -184,7 +186,8 @@ step_byte language machine stands m sink moment session held b other keeps = rec
     refuses = subst (λ (l : List Act). IsNumberedTranscript language moment None (numbered so.front) l
         (spoken ((past ++ []) ++ session.waiting.items) session.tally) session.user so.refused) (sym (append-nil done))
         (subst (λ (l : List ℕ). IsNumberedTranscript language moment None (numbered so.front) done
-        (spoken (l ++ session.waiting.items) session.tally) session.user so.refused) (sym (append-nil past)) so.refuses);
+        (spoken (l ++ session.waiting.items) session.tally) session.user so.refused) (sym (append-nil past))
+            so.refuses);
     reason = so.reason;
   };
 }
@@ -206,7 +209,8 @@ transcript_more language moment session user counted parsed read past done so he
     (spoken (past ++ session.waiting.items) session.tally) said session.user user so.transcript
     (transcript_parsed language moment session.user here parsed acts said user line_acts says))
 
-refusals_more : (language : Language) (moment : Moment) (session : SessionState) (user : Option ℕ) (counted : Tally) (parsed : ParsedLine)
+refusals_more : (language : Language) (moment : Moment) (session : SessionState) (user : Option ℕ) (counted : Tally)
+    (parsed : ParsedLine)
     (read past : List ℕ) (done : List Act) (so : SoFar language moment session read past done) (here : List Line)
     (acts : List Act) (said : Spoken) (text : List ℕ) → (past ++ session.waiting.items) ++ said.text ≡ text
     → counted.refused ≡ session.tally.refused || said.refused
@@ -236,7 +240,8 @@ pub step_feed : {S : Type 0} (language : Language) (machine : S
     → after.line ≡ min (session.line + 1) (2 ^ 64 - 1)
     → ((seen : List ℕ) → IsPartialLine session.held seen
     → IsParsedLine language moment (fitting seen (without_return seen)) parsed)
-    → ReplyWritten result machine a b p q moment session.user after.user session.tally after.tally session.line parsed session.waiting.items
+    → ReplyWritten result machine a b p q moment session.user after.user session.tally after.tally session.line parsed
+        session.waiting.items
     after.waiting.items
     → OnOk result (StepsOn language machine a b p q moment session after (byte ∷ []))
 step_feed language machine (Err error) a b p q moment session after parsed byte feed none next line_acts t = tt
@@ -288,11 +293,13 @@ record Last (language : Language) (at_end : Type 0) (moment : Moment) (parsed : 
 
 -- It broke off there.
 module _ {S : Type 0} (language : Language) (machine : S → Machine) (at_end : Type 0) (a b : S)
-    (p q : Option (List ℕ)) (moment : Moment) (session after : SessionState) (parsed : ParsedLine) (waits bytes : List ℕ) where
+    (p q : Option (List ℕ)) (moment : Moment) (session after : SessionState) (parsed : ParsedLine)
+        (waits bytes : List ℕ) where
   breaks_last : (error : SessionError) → ((read past : List ℕ) (done : List Act)
       → (so : SoFar language moment session read past done)
       → Last language at_end moment parsed so.front (read ++ bytes))
-      → ReplyWritten (Err error) machine a b p q moment session.user after.user session.tally after.tally session.line parsed
+      → ReplyWritten (Err error) machine a b p q moment session.user after.user session.tally after.tally session.line
+          parsed
       session.waiting.items waits
       → BreaksOff language at_end machine a b p q moment session error bytes
   breaks_last Read ends t = absurd t.adds
@@ -313,8 +320,10 @@ module _ {S : Type 0} (language : Language) (machine : S → Machine) (at_end : 
           user = after.user;
           transcript = subst (λ (k : List Line). IsServedTranscript language moment None k (done ++ t.acts)
               (spoken text after.tally) after.user) (sym l.same)
-              (transcript_more language moment session after.user after.tally parsed read past done so l.here t.acts t.said
-              text (said_on past session.waiting.items t.said.text t.adds.0 t.adds.1 t.adds.3) t.refused t.broke l.line_acts
+              (transcript_more language moment session after.user after.tally parsed read past done so l.here t.acts
+                  t.said
+              text (said_on past session.waiting.items t.said.text t.adds.0 t.adds.1 t.adds.3) t.refused t.broke
+                  l.line_acts
               t.line_acts);
           unwritten = t.adds.1;
           parts = refl;
@@ -328,7 +337,8 @@ module _ {S : Type 0} (language : Language) (machine : S → Machine) (at_end : 
     appended = t.adds;
     breaks = λ read past done so.
         let l = ends read past done so in
-        let k = parsed_line language moment session.user l.here parsed t.acts t.said after.user (t.line refl) l.line_acts t.line_acts in
+        let k = parsed_line language moment session.user l.here parsed t.acts t.said after.user (t.line refl)
+            l.line_acts t.line_acts in
         record {
           front = read ++ bytes;
           behind = [];
@@ -355,7 +365,8 @@ pub break_feed : {S : Type 0} (language : Language) (machine : S
     (session after : SessionState) (parsed : ParsedLine) (byte : ℕ) → byte ≡ 10
     → ((seen : List ℕ) → IsPartialLine session.held seen
     → IsParsedLine language moment (fitting seen (without_return seen)) parsed)
-    → ReplyWritten result machine a b p q moment session.user after.user session.tally after.tally session.line parsed session.waiting.items
+    → ReplyWritten result machine a b p q moment session.user after.user session.tally after.tally session.line parsed
+        session.waiting.items
     after.waiting.items
     → IfErr result (λ error. BreaksOff language ⊥ machine a b p q moment session error (byte ∷ []))
 break_feed language machine (Ok v) a b p q moment session after parsed byte feed line_acts t = tt
@@ -407,7 +418,8 @@ steps_flushed language machine a b p q r moment session mid after (Ok unit) byte
 }
 
 pub steps_unwritten : {S : Type 0} (language : Language) (machine : S → Machine) (a b : S) (p q r : Option (List ℕ))
-    (moment : Moment) (session mid : SessionState) (waits : List ℕ) (result : Result (Unit {0}) SessionError) (bytes : List ℕ)
+    (moment : Moment) (session mid : SessionState) (waits : List ℕ) (result : Result (Unit {0}) SessionError)
+        (bytes : List ℕ)
     → StepsOn language machine a b p q moment session mid bytes → IsFlushed q r mid.waiting.items waits result
     → IfErr result (λ error. BreaksOff language ⊥ machine a b p r moment session error bytes)
 steps_unwritten language machine a b p q r moment session mid waits (Ok unit) bytes s f = tt
@@ -473,7 +485,8 @@ module _ {S : Type 0} (machine : S → Machine) (a b : S) (p q r : Option (List 
 pub break_end : {S : Type 0} (language : Language) (machine : S → Machine) (error : SessionError) (a b : S)
     (p q : Option (List ℕ)) (moment : Moment) (session after : SessionState) (parsed : ParsedLine) (waits : List ℕ)
     → ((seen : List ℕ) → IsPartialLine session.held seen → IsParsedLine language moment (fitting seen seen) parsed)
-    → ReplyWritten (Err error) machine a b p q moment session.user after.user session.tally after.tally session.line parsed
+    → ReplyWritten (Err error) machine a b p q moment session.user after.user session.tally after.tally session.line
+        parsed
     session.waiting.items waits
     → BreaksOff language (Unit {0}) machine a b p q moment session error []
 break_end language machine error a b p q moment session after parsed waits line_acts t =
@@ -488,7 +501,8 @@ break_end language machine error a b p q moment session after parsed waits line_
 pub end_well : {S : Type 0} (language : Language) (machine : S → Machine) (a b c : S)
     (p q : Option (List ℕ)) (moment : Moment) (session after : SessionState) (parsed : ParsedLine) (waits : List ℕ)
     → ((seen : List ℕ) → IsPartialLine session.held seen → IsParsedLine language moment (fitting seen seen) parsed)
-    → ReplyWritten (Ok tt) machine a b p q moment session.user after.user session.tally after.tally session.line parsed session.waiting.items
+    → ReplyWritten (Ok tt) machine a b p q moment session.user after.user session.tally after.tally session.line parsed
+        session.waiting.items
     waits → waits ≡ [] → Closed language machine b c moment
     → EndsWell language machine a c p q moment session after.tally
 end_well language machine a b c p q moment session after parsed waits line_acts t none end = record {
@@ -507,12 +521,14 @@ end_well language machine a b c p q moment session after parsed waits line_acts 
             (spoken text after.tally) after.user)
             (sym (lines_ended read so.front so.seen so.parted so.ended so.unended))
             (transcript_more language moment session after.user after.tally parsed read past done so
-            (fitting so.seen so.seen) t.acts t.said text whole t.refused t.broke (line_acts so.seen so.held) t.line_acts);
+            (fitting so.seen so.seen) t.acts t.said text whole t.refused t.broke (line_acts so.seen so.held)
+                t.line_acts);
         refused = so.refused ++ mark t.said.refused (feeds so.front + 1);
         refuses = subst (λ (l : List (ℕ × Line)). IsNumberedTranscript language moment None l (done ++ t.acts)
             (spoken text after.tally) after.user (so.refused ++ mark t.said.refused (feeds so.front + 1)))
             (sym (numbered_ended read so.front so.seen so.parted so.ended so.unended))
-            (refusals_more language moment session after.user after.tally parsed read past done so (fitting so.seen so.seen)
+            (refusals_more language moment session after.user after.tally parsed read past done so
+                (fitting so.seen so.seen)
             t.acts t.said text whole t.refused t.broke (line_acts so.seen so.held) t.line_acts);
         reason = t.reason ∙ ap (λ (n : ℕ). counts session.tally.reason n t.said.refused) so.line
             ∙ reason_more so.refused (feeds so.front + 1) t.said.refused session.tally.reason so.reason;
@@ -543,7 +559,8 @@ closed_still machine stands language a moment e = subst (λ (l : Language). Clos
 
 pub told_nothing : {S : Type 0} (machine : S → Machine) (stands : AlwaysStands machine) (m : S) (sink : Option (List ℕ))
     (moment : Moment) (user : Option ℕ) (tally : Tally) (number : ℕ) (parsed : ParsedLine) (waiting : List ℕ)
-    → parsed ≡ NoLine → ReplyWritten (Ok tt) machine m m sink sink moment user user tally tally number parsed waiting waiting
+    → parsed ≡ NoLine → ReplyWritten (Ok tt) machine m m sink sink moment user user tally tally number parsed waiting
+        waiting
 told_nothing machine stands m sink moment user tally number parsed waiting e = record {
   acts = [];
   said = silent;

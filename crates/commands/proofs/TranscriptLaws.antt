@@ -108,7 +108,8 @@ module _ (language : Language) (moment : Moment) where
   pub transcript_parsed : (user : Option ℕ) (lines : List Line) (parsed : ParsedLine) (acts : List Act) (said : Spoken)
       (after : Option ℕ) → IsParsedLine language moment lines parsed → LineActs moment user parsed acts said after
       → IsServedTranscript language moment user lines acts said after
-  transcript_parsed user [] parsed acts said after h p = subst (λ (x : ParsedLine). LineActs moment user x acts said after) h p
+  transcript_parsed user [] parsed acts said after h p =
+      subst (λ (x : ParsedLine). LineActs moment user x acts said after) h p
   transcript_parsed user (line ∷ lines) NoLine acts said after h p = absurd h
   transcript_parsed user (line ∷ lines) (CommandLine meant) acts said after h p =
       subst (λ (l : List Line). IsServedTranscript language moment user (line ∷ l) acts said after) (sym h.2)

@@ -11,7 +11,8 @@ use Rattle.words36.specs.declared.moment.Moment.{Moment}
 use Rattle.spec_language.specs.Common.{Plan, Say, each, examines, fetches, sizes, lookup_events, list_events, in_event}
 use Rattle.spec_language.specs.Common.{useti_event, ends}
 use Rattle.spec_language.specs.Common.{fails, file_words, block_address, blocks_said, type_blocks_plan, type_last_plan}
-use Rattle.spec_language.specs.Common.{type_body_plan, until_end, read_plan, blocks_at_once, type_runs_plan, Spoken, typed}
+use Rattle.spec_language.specs.Common.{type_body_plan, until_end, read_plan, blocks_at_once, type_runs_plan, Spoken}
+use Rattle.spec_language.specs.Common.{typed}
 use Rattle.spec_language.specs.Common.{file_said, refuses, refusal, is_broken, line}
 use Rattle.words36.specs.Common.{word_bytes, block_bytes}
 use Rattle.spec_language.specs.declared.encoding.Encoding.{Encoding}
@@ -84,7 +85,8 @@ pub two_made : {a b c d : Event} → a ≡ b → c ≡ d → a ∷ c ∷ [] ≡ 
 two_made p q = λ i. p i ∷ q i ∷ []
 
 module _ {S : Type 0} (machine : S → Machine) where
-  led_then : {a b c : S} {p q r : Plan} → FollowsPlan machine a b p q → FollowsPlan machine b c q r → FollowsPlan machine a c p r
+  led_then : {a b c : S} {p q r : Plan} → FollowsPlan machine a b p q → FollowsPlan machine b c q r
+      → FollowsPlan machine a c p r
   led_then {a = a} {b = b} {c = c} {p = p} {q = q} {r = r} x y = led_on machine a b c p q r x y
 
   -- The events that were served, as the list that was made of them.
@@ -92,7 +94,8 @@ module _ {S : Type 0} (machine : S → Machine) where
   pub asked_done : {a b : S} (moment : Moment) {events made : List Event} → events ≡ made
       → ((m : Moment) (next : Plan) → FollowsPlan machine a b (each m events next) next) → (next : Plan)
       → FollowsPlan machine a b (each moment made next) next
-  asked_done {a = a} {b = b} moment e done next = subst (λ (l : List Event). FollowsPlan machine a b (each moment l next) next)
+  asked_done {a = a} {b = b} moment e done next =
+      subst (λ (l : List Event). FollowsPlan machine a b (each moment l next) next)
       e (done moment next)
 
   pub asked_failed : {a b : S} (moment : Moment) {events made : List Event} (reply : Reply) → events ≡ made
@@ -270,7 +273,8 @@ module _ {S : Type 0} (machine : S → Machine) where
   module _ (moment : Moment) (runs count : ℕ) where
     -- the rest of a plan when this many INs are left
     abbrev pub Ran : S → S → ℕ → Typed → Typed → Type 0
-    Ran a b left before after = HasRead a b (type_runs_plan moment runs count) (type_runs_plan moment left count) before after
+    Ran a b left before after = HasRead a b (type_runs_plan moment runs count) (type_runs_plan moment left count) before
+        after
 
     module _ (a b c : S) (left more : ℕ) (before mid : Typed) (is_more : left ≡ suc more)
         (p : Ran a b left before mid) where
@@ -301,7 +305,8 @@ module _ {S : Type 0} (machine : S → Machine) where
             let q = subst (λ (r : Result Y Reply). HasTyped machine c d moment (fetches moment count block_address) r
             mid after) was words in
             let was_read = next_run in
-            subst (λ (r : Result X Reply). HasTyped machine a d moment (type_runs_plan moment runs count) r before after)
+            subst (λ (r : Result X Reply). HasTyped machine a d moment (type_runs_plan moment runs count) r before
+                after)
             (sym is) (record {
               words = was_read.words ++ q.words;
               types = put_more before mid after was_read.words q.words was_read.types q.types;
@@ -348,7 +353,8 @@ module _ {S : Type 0} (machine : S → Machine) where
         → HasTyped machine b c moment (type_runs_plan moment runs count) result before after
         → HasTyped machine a c moment types_listed result before after
     read_listed a b c before after result listed p = typed_behind a b c moment types_listed
-        (type_runs_plan moment runs count) before after result (λ next. listed (type_runs_plan moment runs count next)) p
+        (type_runs_plan moment runs count) before after result (λ next. listed (type_runs_plan moment runs count next))
+            p
 
   module _ (moment : Moment) (blocks : ℕ) where
     abbrev by_runs : (List ℕ → Plan) → Plan
@@ -405,12 +411,15 @@ module _ {S : Type 0} (machine : S → Machine) where
       no_list result reply e failed =
           failed_at a c moment (type_last_plan moment n size) t result reply e
           (λ next. led_then (last_at next)
-          (failed (each moment (useti_event moment n ∷ in_event moment ∷ []) (fetches moment count block_address next))))
+          (failed (each moment (useti_event moment n ∷ in_event moment ∷ [])
+              (fetches moment count block_address next))))
 
-      module _ (listed : (next : Plan) → FollowsPlan machine b c (each moment (list_events count) next) next) (d : S) where
+      module _ (listed : (next : Plan) → FollowsPlan machine b c (each moment (list_events count) next) next)
+          (d : S) where
         pub no_last : {X : Type 0} (result : Result X Reply) (reply : Reply) → result ≡ Err reply
             → ((next : Plan)
-            → FollowsPlan machine c d (each moment (useti_event moment n ∷ in_event moment ∷ []) next) (fails moment reply))
+            → FollowsPlan machine c d (each moment (useti_event moment n ∷ in_event moment ∷ []) next)
+                (fails moment reply))
             → HasTyped machine a d moment (type_last_plan moment n size) result t t
         no_last result reply e failed =
             failed_at a d moment (type_last_plan moment n size) t result reply e
@@ -418,7 +427,8 @@ module _ {S : Type 0} (machine : S → Machine) where
             (led_then (listed (each moment (useti_event moment n ∷ in_event moment ∷ [])
             (fetches moment count block_address next))) (failed (fetches moment count block_address next))))
 
-        module _ (took : (next : Plan) → FollowsPlan machine c d (each moment (useti_event moment n ∷ in_event moment ∷ []) next) next)
+        module _ (took : (next : Plan) → FollowsPlan machine c d
+            (each moment (useti_event moment n ∷ in_event moment ∷ []) next) next)
             (e : S) where
           last_fetches : (next : List ℕ → Plan)
               → FollowsPlan machine a d (type_last_plan moment n size next) (fetches moment count block_address next)
@@ -449,7 +459,8 @@ module _ {S : Type 0} (machine : S → Machine) where
   read_body a b c moment blocks more size before mid after y result e p q =
       let last = subst (λ n. HasTyped machine b c moment (type_last_plan moment n size) result mid after) e q in
       subst (λ n. HasTyped machine a c moment (type_body_plan moment n size) result before after) (sym e)
-      (typed_both a b c moment (type_blocks_plan moment more) (type_last_plan moment (suc more) size) before mid after y result
+      (typed_both a b c moment (type_blocks_plan moment more) (type_last_plan moment (suc more) size) before mid after y
+          result
       p last)
 
   pub no_body : {X Y : Type 0} (a b : S) (moment : Moment) (blocks : ℕ) (more : ℕ) (size : ℕ) (before after : Typed)
@@ -473,8 +484,10 @@ module _ {S : Type 0} (machine : S → Machine) where
     behind size next = type_body_plan moment (blocks_said size) size (λ words. until_end moment (next words))
 
     opened_at : (next : ℕ → Plan)
-        → plan next ≡ each moment (lookup_events moment spec) (each moment (list_events 128) (examines moment (file_words + 3) next))
-    opened_at next = each_append moment (lookup_events moment spec) (list_events 128) (examines moment (file_words + 3) next)
+        → plan next ≡ each moment (lookup_events moment spec)
+            (each moment (list_events 128) (examines moment (file_words + 3) next))
+    opened_at next = each_append moment (lookup_events moment spec) (list_events 128)
+        (examines moment (file_words + 3) next)
 
     pub not_found : {X : Type 0} (result : Result X Reply) (reply : Reply) → result ≡ Err reply
         → ((next : Plan) → FollowsPlan machine a b (each moment (lookup_events moment spec) next) (fails moment reply))
@@ -484,7 +497,8 @@ module _ {S : Type 0} (machine : S → Machine) where
         (subst (λ (p : Plan). FollowsPlan machine a b p (fails moment reply)) (sym (opened_at then))
         (failed (each moment (list_events 128) (examines moment (file_words + 3) then))))
 
-    module _ (found : (next : Plan) → FollowsPlan machine a b (each moment (lookup_events moment spec) next) next) (c : S) where
+    module _ (found : (next : Plan) → FollowsPlan machine a b (each moment (lookup_events moment spec) next) next)
+        (c : S) where
       pub not_listed : {X : Type 0} (result : Result X Reply) (reply : Reply) → result ≡ Err reply
           → ((next : Plan) → FollowsPlan machine b c (each moment (list_events 128) next) (fails moment reply))
           → (next : X → Plan) (then : ℕ → Plan) → FollowsPlan machine a c (plan then) (followed moment result next)

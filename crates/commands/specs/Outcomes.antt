@@ -5,7 +5,8 @@ use Rattle.std.specs.Io.KnownBytes.{Appends, Consumes, IsAtEnd}
 use Rattle.words36.specs.Common.{word_bytes, IsWord}
 use Rattle.words36.specs.declared.moment.Moment.{Moment}
 use Rattle.spec_language.specs.Common.{AreShort, HasFiles, IsPut, IsLineRefused, IsPrinted, HasHalfwordExtension}
-use Rattle.spec_language.specs.Common.{place_of, IsRefusedAt, AreWords, get_plan, put_plan, operator, unfit, Act, Spoken}
+use Rattle.spec_language.specs.Common.{place_of, IsRefusedAt, AreWords, get_plan, put_plan, operator, unfit, Act}
+use Rattle.spec_language.specs.Common.{Spoken}
 use Rattle.spec_language.specs.Common.{complains, refuses}
 use Rattle.spec_machine.specs.Common.{State, Service, Serving}
 use Rattle.spec_image.specs.Common.{SpecVersion, file_at}

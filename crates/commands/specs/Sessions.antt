@@ -40,7 +40,8 @@ pub record CommandDone {V E S : Type 0} (bytes : V → List ℕ) (result : Resul
 abbrev pub IsParsedLine : Language → Moment → List Line → ParsedLine → Type 0
 IsParsedLine language moment [] parsed = parsed ≡ NoLine
 IsParsedLine language moment (line ∷ lines) NoLine = ⊥
-IsParsedLine language moment (line ∷ lines) (CommandLine meant) = (language ≡ Commands) × Means line meant × (lines ≡ [])
+IsParsedLine language moment (line ∷ lines) (CommandLine meant) = (language ≡ Commands) × Means line meant
+    × (lines ≡ [])
 IsParsedLine language moment (line ∷ lines) (EventLine order) = (language ≡ Events) × MeansEvent line moment order
     × (lines ≡ [])
 
@@ -165,7 +166,8 @@ pub record StepsOn {S : Type 0} (language : Language) (machine : S → Machine) 
 
 -- or breaks off in them,
 pub record BreaksOff {S : Type 0} (language : Language) (at_end : Type 0) (machine : S
-    → Machine) (old new : S) (sink full : Option (List ℕ)) (moment : Moment) (session : SessionState) (error : SessionError)
+    → Machine) (old new : S) (sink full : Option (List ℕ)) (moment : Moment) (session : SessionState)
+        (error : SessionError)
     (bytes : List ℕ) : Type 0 where
   pub acts : List Act
   pub goes : GoesBy machine old new acts

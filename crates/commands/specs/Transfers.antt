@@ -3,7 +3,8 @@ use Rattle.std.specs.Prelude.{◌≡◌, ◌⊎◌, ◌<◌, ℕ, false, List, [
 use Rattle.std.specs.Prelude.{Some, None, Result, Ok, Err, codes, ◌≤◌, ◌==◌, if◌then◌else◌}
 use Rattle.words36.specs.declared.moment.Moment.{Moment}
 use Rattle.std.specs.Io.KnownBytes.{Appends, Consumes, IsAtEnd}
-use Rattle.spec_language.specs.Common.{AreWords, create_events, login_events, fill_all_plan, put_plan, list_plan_of, unfit}
+use Rattle.spec_language.specs.Common.{AreWords, create_events, login_events, fill_all_plan, put_plan, list_plan_of}
+use Rattle.spec_language.specs.Common.{unfit}
 use Rattle.spec_language.specs.Common.{volume_line}
 use Rattle.spec_language.specs.Common.{Act, Plan, Ask, Say, Leads, RunsPlan, open_events, line_plan, call_event, each}
 use Rattle.spec_language.specs.Common.{ends}
@@ -73,7 +74,8 @@ fresh = record { refused = false; broke = false; reason = None }
 -- was no memory, and it was begun.
 abbrev pub Carries : {V E S : Type 0} → (V → List ℕ) → Result V E → (S → Machine) → S → S → Plan → Tally → Type 0
 Carries bytes result machine old new plan counted =
-    MatchResult result (λ v. FollowsPlan machine old new plan (Say (spoken (bytes v) counted)) × (counted.reason ≡ None))
+    MatchResult result (λ v. FollowsPlan machine old new plan (Say (spoken (bytes v) counted))
+        × (counted.reason ≡ None))
     (λ error. (rest : Plan) × FollowsPlan machine old new plan rest)
 
 -- By these acts a plan was done to its end, and these bytes are its text; or the writer refused the end of the text; or

@@ -116,7 +116,8 @@ all_inserted P cmp (f ∷ fs) k p none all new = step (cmp k f.0) none
     step Equal n rest = absurd (some_none n)
     step Greater n rest = (all.0, rest n)
 
-pub all_of : {X : Type 0} (P Q : X → Type 0) (xs : List X) → ((x : X) → P x → Q x) → AllByRecursion P xs → AllByRecursion Q xs
+pub all_of : {X : Type 0} (P Q : X → Type 0) (xs : List X) → ((x : X) → P x → Q x) → AllByRecursion P xs
+    → AllByRecursion Q xs
 all_of P Q [] f all = tt
 all_of P Q (x ∷ xs) f all = (f x all.0, all_of P Q xs f all.1)
 

@@ -45,7 +45,8 @@ pub record AreFound (facts : FileFacts) (task : ExportTask) (sink full : Option 
   pub layout_is : (home : SpecHome) → IsHome (memory_state copy).size (held copy.blocks) home → layout ≡ home.layout
   pub no_layout : ((home : SpecHome) → IsHome (memory_state copy).size (held copy.blocks) home → ⊥) → layout ≡ 2
   pub surveyed : IsSurveyed (memory_state copy).size layout (held copy.blocks) files findings
-  pub saved : IsSalvageRun facts memory_state task (head_findings lost unread) files findings sink full middle last result
+  pub saved : IsSalvageRun facts memory_state task (head_findings lost unread) files findings sink full middle last
+      result
   pub ends : IsEnding status result
 
 -- No survey was made of a copy, as is printed: memory ran out, or the copy failed.

@@ -46,7 +46,8 @@ pub record IsEntering (c c' : MemoryMap) (job job' : Job) (number address : ℕ)
   }
 
 -- The answer on this channel, and what every answer except Done leaves of the job.
-abbrev pub IsEnterAnswer : Pack → State → machine.SpecJob → machine.SpecJob → Option machine.Channel → ℕ → Reply → Type 0
+abbrev pub IsEnterAnswer : Pack → State → machine.SpecJob → machine.SpecJob → Option machine.Channel → ℕ → Reply
+    → Type 0
 IsEnterAnswer pack s job job' None e reply = (reply ≡ NoChannel) × (job' ≡ job)
 IsEnterAnswer pack s job job' (Some c) e reply =
     ((reply ≡ NoMemory) × (is_plain (enter_answer pack s job c e (place_at job e)) ≡ false) × (job' ≡ job))

@@ -37,7 +37,8 @@ longest_few (n ∷ ns) = let a = few_in_front n (longest_runs ns) in let b = lon
 
 -- A run at the end.
 
-front_behind : (n : ℕ) (runs : List SpecRun) (run : SpecRun) → in_front n (behind runs run) ≡ behind (in_front n runs) run
+front_behind : (n : ℕ) (runs : List SpecRun) (run : SpecRun)
+    → in_front n (behind runs run) ≡ behind (in_front n runs) run
 front_behind n [] run =
     let e : suc n ≡ 1 + n = omega arith in
     let f : suc run.0 ≡ 1 + run.0 = omega arith in
@@ -90,7 +91,8 @@ pub behind_last : (runs : List SpecRun) (last run : SpecRun) → behind (runs ++
     ≡ runs ++ (if last.0 + last.1 == run.1 then (last.0 + run.0, last.1) ∷ [] else last ∷ run ∷ [])
 behind_last [] last run = refl
 behind_last (first ∷ []) last run = refl
-behind_last (first ∷ second ∷ runs) last run = ap (λ (l : List SpecRun). first ∷ l) (behind_last (second ∷ runs) last run)
+behind_last (first ∷ second ∷ runs) last run = ap (λ (l : List SpecRun). first ∷ l)
+    (behind_last (second ∷ runs) last run)
 
 -- No run adjoins the one before it.
 

@@ -22,7 +22,8 @@ keeps_start s = record { contents = λ n. refl; is_open = λ n. refl; time = pas
 
 -- Walks.
 
-follows_more : (size : ℕ) (c : Contents) (first : ℕ) (es : List Extension) (n : ℕ) (words : List ℕ) (runs : List SpecRun)
+follows_more : (size : ℕ) (c : Contents) (first : ℕ) (es : List Extension) (n : ℕ) (words : List ℕ)
+    (runs : List SpecRun)
     (next : ℕ) → Follows size c first es n → InSpace size n → c n ≡ Some words
     → SpellsExtension words runs next → RunsInSpace size runs → (0 < next → length runs ≡ 126)
     → Follows size c first (es ++ (n, runs) ∷ []) next
@@ -126,7 +127,8 @@ none_zero size (suc n ∷ ns) all = zero_behind n ns ∙ none_zero size ns all.1
 
 -- What was read so far.
 
-read_of : (c : Contents) (layout at : ℕ) (words : List ℕ) (p : SpecPrime) (runs : List SpecRun) (next : ℕ) → c at ≡ Some words
+read_of : (c : Contents) (layout at : ℕ) (words : List ℕ) (p : SpecPrime) (runs : List SpecRun) (next : ℕ)
+    → c at ≡ Some words
     → SpellsPrime layout words p runs next → IsPrimeRead c layout at p runs next
 read_of c layout at words p runs next is s = record {
   words = is ∙ ap Some s.words_are;
@@ -187,7 +189,8 @@ module _ (size : ℕ) (c : Contents) (layout at : ℕ) (prime : PrimeValue) (v :
   walked : LeadsOn c r.first r.extensions n
   walked = leads size c r.first r.extensions n r.walk
 
-  walked_on : (words : List ℕ) (runs : List SpecRun) (next : ℕ) → 0 < n → c n ≡ Some words → SpellsExtension words runs next
+  walked_on : (words : List ℕ) (runs : List SpecRun) (next : ℕ) → 0 < n → c n ≡ Some words
+      → SpellsExtension words runs next
       → LeadsOn c r.first (r.extensions ++ (n, runs) ∷ []) next
   walked_on words runs next some is s = leads_more c r.first r.extensions n runs next walked some s.are_runs (is
       ∙ ap Some s.words_are)

@@ -44,7 +44,8 @@ files_named size layout contents ppn word first chain named is walk = each_entry
       nodes = nodes_of chain.blocks chain.entries;
       last = 0;
       walk = record { word = word; first = first; named = named; walk = walk };
-      entry = ap (λ (es : List SpecFileEntry). find name_cmp name es) (chain_items file_words IsFileEntry chain is) ∙ found;
+      entry = ap (λ (es : List SpecFileEntry). find name_cmp name es) (chain_items file_words IsFileEntry chain is)
+          ∙ found;
     })
 
 -- Each entry of the master directory's chain names its directory.

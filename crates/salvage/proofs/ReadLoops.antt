@@ -56,7 +56,8 @@ files_go_on view size size' layout contents contents' directories ppn es i e fil
     (sym (viewed_more view es i e below is)) (on (map view (take i es)) here new before)
 
 -- One more directory.
-pub directories_go_on : {E : Type 0} (view : E → SpecMasterEntry) (size size' layout : ℕ) (contents contents' : Contents)
+pub directories_go_on : {E : Type 0} (view : E → SpecMasterEntry) (size size' layout : ℕ)
+    (contents contents' : Contents)
     (es : List E) (i : ℕ) (e : E) (files files' : List SavedFile) (findings findings' : List Finding)
     → i < length es → e ≡ get_or es i e → size' ≡ size → contents' ≡ contents
     → AllByRecursion (λ (x : SpecMasterEntry). IsDirectoryNamed size contents layout x.0 x.1.0 x.1.1) (map view es)

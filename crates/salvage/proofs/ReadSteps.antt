@@ -50,7 +50,8 @@ module _ (files : List SavedFile) (findings : List Finding) (files' : List Saved
 
 -- A file.
 
-module _ (size layout : ℕ) (contents : Contents) (directories : List SpecMasterEntry) (ppn : ℕ) (names : List SpecFileEntry)
+module _ (size layout : ℕ) (contents : Contents) (directories : List SpecMasterEntry) (ppn : ℕ)
+    (names : List SpecFileEntry)
     (files : List SavedFile) (findings : List Finding)
     (r : IsReadTo size layout contents directories ppn names files findings) (e : SpecFileEntry) where
   in_more : (g : SavedFile) → IsIn directories ppn names g → IsIn directories ppn (names ++ e ∷ []) g
@@ -121,8 +122,10 @@ module _ (size layout : ℕ) (contents : Contents) (directories : List SpecMaste
 
 -- A file, with what pushing it returns.
 
-pub file_added_on : {T E : Type 0} (size layout : ℕ) (contents : Contents) (directories : List SpecMasterEntry) (ppn : ℕ)
-    (names : List SpecFileEntry) (files files' : List SavedFile) (findings : List Finding) (e : SpecFileEntry) (f : SavedFile)
+pub file_added_on : {T E : Type 0} (size layout : ℕ) (contents : Contents) (directories : List SpecMasterEntry)
+    (ppn : ℕ)
+    (names : List SpecFileEntry) (files files' : List SavedFile) (findings : List Finding) (e : SpecFileEntry)
+        (f : SavedFile)
     (result : Result T E) → IsReadTo size layout contents directories ppn names files findings
     → find nat_cmp ppn directories ≡ None → find name_cmp e.0 names ≡ None
     → IsNamedIn size layout contents ppn e → InSpace size e.1 → IsRead size layout contents f → f.at ≡ e.1

@@ -156,7 +156,8 @@ copy_same size contents n h k is also =
     let masters : h.master ≡ k.master = cc in
     λ i. record { layout = layouts i; master = masters i }
 
-pub home_same : (size : ℕ) (contents : Contents) (h k : SpecHome) → IsHome size contents h → IsHome size contents k → h ≡ k
+pub home_same : (size : ℕ) (contents : Contents) (h k : SpecHome) → IsHome size contents h → IsHome size contents k
+    → h ≡ k
 home_same size contents h k (inl a) (inl b) = copy_same size contents 1 h k a b
 home_same size contents h k (inl a) (inr b) = absurd (b.0 h a)
 home_same size contents h k (inr a) (inl b) = absurd (a.0 k b)

@@ -247,7 +247,8 @@ module _ (size : ℕ) (contents : Contents) (m : DiskMap) (s : HasMap size conte
       entry_is ppn e h = ap (λ z. get z ppn) (sym s.mapped.master.map_is)
           ∙ get-from_entries nat_cmp_total (items s.mapped.master.nodes) ppn ∙ h
 
-      zip : (es : List SpecMasterEntry) → AllByRecursion (λ (e : SpecMasterEntry). get (map_values entry_of m.directories) e.0
+      zip : (es : List SpecMasterEntry)
+          → AllByRecursion (λ (e : SpecMasterEntry). get (map_values entry_of m.directories) e.0
           ≡ Some e.1) es → AllByRecursion IsMasterEntry es
           → AllByRecursion (λ (e : SpecMasterEntry). IsMasterEntryOf m.layout e × InSpace size e.1.1) es
       zip [] a b = tt

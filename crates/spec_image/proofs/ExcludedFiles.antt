@@ -137,7 +137,8 @@ module _ (layout size : ℕ) (contents : Contents) (own : SpecPrime) (prime : �
           bad x.1 (first_extension rest) (ap contents (sym f) ∙ a.0) a.1 a.2 a.4
 
   -- and what was walked last is what is there
-  pub extension_last : (next after n : ℕ) (es : List Extension) (others : List SpecRun) → next ≡ first_extension v.further
+  pub extension_last : (next after n : ℕ) (es : List Extension) (others : List SpecRun)
+      → next ≡ first_extension v.further
       → LeadsOn contents next (es ++ (n, others) ∷ []) after
       → RunsInSpace size others × (0 < after → InSpace size after) × (0 < after → length others ≡ 126)
   extension_last next after n es others e l =

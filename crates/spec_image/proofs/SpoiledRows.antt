@@ -199,7 +199,8 @@ looping_directory = settled_fault v1_looping_directory (BadDirectory 16) refl (
 
 -- The file.
 
-no_late : (p : SpecPrime) (runs : List SpecRun) (next : ℕ) → Some late_rib ≡ Some (prime_block p runs next) → IsPrime 1 p → ⊥
+no_late : (p : SpecPrime) (runs : List SpecRun) (next : ℕ) → Some late_rib ≡ Some (prime_block p runs next)
+    → IsPrime 1 p → ⊥
 no_late p runs next is fits =
     let same : late_rib ≡ prime_block p runs next = some_same is in
     let word : 0o057026407777 ≡ attributes p = ap (λ words. get_or words 3 0) same in

@@ -163,7 +163,8 @@ pub data IsBadVersion (size : ℕ) (contents : Contents) (layout prime : ℕ) : 
       → IsPrimeRead contents layout prime p runs next → LeadsOn contents next (extensions ++ (n, others) ∷ []) after
       → 0 < after → (InSpace size after → ⊥)
       → IsBadVersion size contents layout prime n
-  extension_short : (p : SpecPrime) (runs : List SpecRun) (next : ℕ) (extensions : List Extension) (n : ℕ) (others : List SpecRun)
+  extension_short : (p : SpecPrime) (runs : List SpecRun) (next : ℕ) (extensions : List Extension) (n : ℕ)
+      (others : List SpecRun)
       (after : ℕ)
       → IsPrimeRead contents layout prime p runs next → LeadsOn contents next (extensions ++ (n, others) ∷ []) after
       → 0 < after → (length others ≡ 126 → ⊥)
@@ -176,7 +177,8 @@ pub data IsBadRetrieval (size : ℕ) (contents : Contents) (n : ℕ) : Type 0 wh
       → IsBadRetrieval size contents n
   -- it isn't a valid prime block of the place that names it
   of_another_place : (layout : ℕ) (place : Place) → IsFileNamed size contents layout place n
-      → ((p : SpecPrime) (runs : List SpecRun) (next : ℕ) → contents n ≡ Some (prime_block p runs next) → p.place ≡ place
+      → ((p : SpecPrime) (runs : List SpecRun) (next : ℕ) → contents n ≡ Some (prime_block p runs next)
+          → p.place ≡ place
       → IsPrime layout p → length runs ≤ 112 → AllByRecursion IsRun runs → ⊥)
       → IsBadRetrieval size contents n
 

@@ -60,7 +60,8 @@ found_map layout nodes directories = record {
 -- the map that was found is spelled in the contents
 abbrev pub FoundMapIsMapped : Type 0
 FoundMapIsMapped =
-    (size layout : ℕ) (contents : Contents) (nodes : List (Node SpecMasterEntry)) (directories : List (ℕ × StoredDirectory))
+    (size layout : ℕ) (contents : Contents) (nodes : List (Node SpecMasterEntry))
+        (directories : List (ℕ × StoredDirectory))
     → IsHome size contents (record { layout = layout; master = first_of nodes })
     → IsChainRead nat_cmp master_words IsMasterEntry contents nodes
     → map (λ e. (e.0, entry_of e.1)) directories ≡ items nodes
@@ -78,7 +79,8 @@ FoundMapReaches =
 -- if the table agrees with the count over what was found, the contents have the map
 abbrev pub FoundMapStands : Type 0
 FoundMapStands =
-    (size layout : ℕ) (contents : Contents) (nodes : List (Node SpecMasterEntry)) (directories : List (ℕ × StoredDirectory))
+    (size layout : ℕ) (contents : Contents) (nodes : List (Node SpecMasterEntry))
+        (directories : List (ℕ × StoredDirectory))
     → IsVolumeSize size
     → IsHome size contents (record { layout = layout; master = first_of nodes })
     → IsChainRead nat_cmp master_words IsMasterEntry contents nodes

@@ -59,7 +59,8 @@ pub record IsFileNamed (size : ℕ) (contents : Contents) (layout : ℕ) (place 
   pub entry : find name_cmp place.name (items nodes) ≡ Some prime
 
 -- The prime block says this, for any place, and names these runs and this extension or 0.
-pub record IsPrimeRead (contents : Contents) (layout prime : ℕ) (p : SpecPrime) (runs : List SpecRun) (next : ℕ) : Type 0 where
+pub record IsPrimeRead (contents : Contents) (layout prime : ℕ) (p : SpecPrime) (runs : List SpecRun) (next : ℕ) : Type
+    0 where
   pub words : contents prime ≡ Some (prime_block p runs next)
   pub ppn_fits : IsPpn p.place.ppn
   pub ext_fits : p.place.name.ext < 2 ^ 18

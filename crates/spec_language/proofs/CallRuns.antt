@@ -57,7 +57,8 @@ module _ (pack : Pack) (s : State) (j0 : SpecJob) (there : job_at s 1 ≡ Some j
   job_there j = slot-set_same s.jobs 1 j j0 there
 
   -- a call's own row
-  pub call_done : (j : SpecJob) (call : Call) (moment : Moment) (t : State) → Steps pack (at s j) (call_event moment call) Done t
+  pub call_done : (j : SpecJob) (call : Call) (moment : Moment) (t : State)
+      → Steps pack (at s j) (call_event moment call) Done t
       → (serial : ℕ) × (call_of pack serial (at s j) 1 j call moment ≡ (Done, t))
   call_done j call moment t (serial, fresh, e) = (
     serial,

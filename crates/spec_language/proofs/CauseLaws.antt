@@ -14,10 +14,13 @@ use Rattle.spec_language.specs.Plans.{enter_events, list_events, deposit_events,
 use Rattle.spec_language.specs.Plans.{sizes}
 use Rattle.spec_language.specs.Plans.{says_words, last_said, same_words, block_address, file_words, blocks_said}
 use Rattle.spec_language.specs.Plans.{blocks_at_once, quota_events, copy_runs_plan, copy_blocks_plan, copy_last_plan}
-use Rattle.spec_language.specs.Plans.{copy_body_plan, copy_plan, type_runs_plan, type_blocks_plan, type_last_plan, type_body_plan}
-use Rattle.spec_language.specs.Plans.{read_plan, rename_events, delete_events, protect_events, make_dir_events, directory_plan}
+use Rattle.spec_language.specs.Plans.{copy_body_plan, copy_plan, type_runs_plan, type_blocks_plan, type_last_plan}
+use Rattle.spec_language.specs.Plans.{type_body_plan}
+use Rattle.spec_language.specs.Plans.{read_plan, rename_events, delete_events, protect_events, make_dir_events}
+use Rattle.spec_language.specs.Plans.{directory_plan}
 use Rattle.spec_language.specs.Plans.{line_plan}
-use Rattle.spec_language.specs.Errands.{login_events, create_events, fill_events, size_events, fill_parts_plan, fill_all_plan}
+use Rattle.spec_language.specs.Errands.{login_events, create_events, fill_events, size_events, fill_parts_plan}
+use Rattle.spec_language.specs.Errands.{fill_all_plan}
 use Rattle.spec_language.specs.Errands.{parts_of}
 use Rattle.spec_language.specs.Errands.{part_words, part_address, put_plan, get_plan}
 use Rattle.spec_language.specs.Causes.{is_done, is_word, is_wanted, GoesUntilRefused, SaysOk, ClosesAtEnd}
@@ -135,7 +138,8 @@ module _ (moment : Moment) (IsEnd : Plan → Type 0) where
   takes_over_goes n word next g =
       each_goes (deposit_events block_address (replicate 128 word) ++ useti_event moment n ∷ in_event moment ∷ [])
       (fetches moment 128 block_address next)
-      (all_append WantsDone (deposit_events block_address (replicate 128 word)) (useti_event moment n ∷ in_event moment ∷ [])
+      (all_append WantsDone (deposit_events block_address (replicate 128 word))
+          (useti_event moment n ∷ in_event moment ∷ [])
       (want_deposits (replicate 128 word) block_address) (tt, (tt, tt)))
       (fetches_goes 128 block_address next g)
 
@@ -154,12 +158,14 @@ module _ (moment : Moment) (IsEnd : Plan → Type 0) where
       → GoesUntilRefused moment IsEnd (copy_runs_plan moment more next)
   unfolding copy_runs_plan
   copies_runs_goes zero next g = g
-  copies_runs_goes (suc more) next g = each_goes (in_event moment ∷ out_event moment ∷ []) (copy_runs_plan moment more next)
+  copies_runs_goes (suc more) next g = each_goes (in_event moment ∷ out_event moment ∷ [])
+      (copy_runs_plan moment more next)
       (tt, (tt, tt)) (copies_runs_goes more next g)
 
   copies_blocks_goes : (blocks : ℕ) (next : Plan) → GoesUntilRefused moment IsEnd next
       → GoesUntilRefused moment IsEnd (copy_blocks_plan moment blocks next)
-  copies_blocks_goes blocks next g = each_goes (list_events (blocks_at_once * 128)) _ (want_lists (blocks_at_once * 128))
+  copies_blocks_goes blocks next g = each_goes (list_events (blocks_at_once * 128)) _
+      (want_lists (blocks_at_once * 128))
       (copies_runs_goes (blocks / blocks_at_once) _ (each_goes (list_events 128) _ (want_lists 128)
       (copies_runs_goes (blocks % blocks_at_once) next g)))
 
@@ -235,10 +241,12 @@ closing moment = until_end moment (each moment (call_event moment (Close 2 0) �
 
 pub copies_go_on : (moment : Moment) (to from : Spec)
     → GoesUntilRefused moment (ClosesAtEnd moment) (copy_plan moment to from)
-copies_go_on moment to from = each_goes moment (ClosesAtEnd moment) (lookup_events moment from ++ enter_events moment to ++ list_events 128)
+copies_go_on moment to from = each_goes moment (ClosesAtEnd moment)
+    (lookup_events moment from ++ enter_events moment to ++ list_events 128)
     (examines moment (file_words + 3) (λ size. copy_body_plan moment (blocks_said size) size (closing moment)))
     (all_append WantsDone (lookup_events moment from ++ enter_events moment to) (list_events 128)
-    (all_append WantsDone (lookup_events moment from) (enter_events moment to) (want_finds moment from) (want_writes moment to))
+    (all_append WantsDone (lookup_events moment from) (enter_events moment to) (want_finds moment from)
+        (want_writes moment to))
     (want_lists 128))
     (examines_goes moment (ClosesAtEnd moment) (file_words + 3)
     (λ size. copy_body_plan moment (blocks_said size) size (closing moment))
@@ -264,7 +272,8 @@ pub puts_go_on : (moment : Moment) (me : ℕ) (encoding : Encoding) (spec : Spec
 puts_go_on moment me encoding spec words =
     let is = SaysOk moment in
     let close = each moment (call_event moment (Close 2 0) ∷ []) (ends moment ok) in
-    each_goes moment is (login_events me) (each moment (create_events moment encoding spec) (fill_all_plan moment encoding words close))
+    each_goes moment is (login_events me)
+        (each moment (create_events moment encoding spec) (fill_all_plan moment encoding words close))
     (tt, tt)
     (each_goes moment is (create_events moment encoding spec) (fill_all_plan moment encoding words close)
     (want_creates moment encoding spec)
@@ -450,7 +459,8 @@ shows_at_end : (moment : Moment) (me : ℕ) (owner : Option ℕ) (plan : Plan) (
 shows_at_end moment me owner plan acts said is led =
     inl (by acts (subst (λ p. RunsPlan p acts said) is led))
   where
-    by : (acts : List Act) → RunsPlan (directory_plan (unwrap_or owner me)) acts said → SaysSo me (DirectoryLine owner) said
+    by : (acts : List Act) → RunsPlan (directory_plan (unwrap_or owner me)) acts said
+        → SaysSo me (DirectoryLine owner) said
     by [] led = let wrong = led in cc
     by (Asks event reply ∷ acts) led = absurd led
     by (Looks other answer ∷ []) (same, led) = (answer, let e = led in cc)

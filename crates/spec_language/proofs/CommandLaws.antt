@@ -119,7 +119,8 @@ same_word text c d a b =
     let y = has_word text d b in
     ap number (same_head (same_fields (word c ∷ x.0) (word d ∷ y.0) text x.1 y.1))
 
-same_limits : (text : List ℕ) (p q n m : ℕ) → IsCommand text (Quota p n) → IsCommand text (Quota q m) → (p ≡ q) × (n ≡ m)
+same_limits : (text : List ℕ) (p q n m : ℕ) → IsCommand text (Quota p n) → IsCommand text (Quota q m) → (p ≡ q)
+    × (n ≡ m)
 same_limits text p q n m a b =
     let fields = same_tail (same_fields (codes "QUOTA" ∷ a.4.before ∷ a.4.behind ∷ [])
     (codes "QUOTA" ∷ b.4.before ∷ b.4.behind ∷ []) text (limit_fields text p n a) (limit_fields text q m b)) in (

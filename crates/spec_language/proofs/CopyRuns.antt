@@ -18,7 +18,8 @@ abbrev pub with_body : File → List ℕ → File
 with_body f body = record f { body = body }
 
 -- A number of blocks of a version were copied.
-pub record Copying (me : ℕ) (from : Place) (v : SpecVersion) (to : Place) (kind : Kind) (file : File) (k : ℕ) (j : SpecJob)
+pub record Copying (me : ℕ) (from : Place) (v : SpecVersion) (to : Place) (kind : Kind) (file : File) (k : ℕ)
+    (j : SpecJob)
     : Type 0 where
   pub whole : IsJob me j
   pub first : channel_at j 1 ≡ Some (reading from v (k + 1))

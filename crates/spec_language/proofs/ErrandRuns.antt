@@ -133,7 +133,8 @@ puts_are_exact pack moment me s encoding spec words said new there few come = �
 
     home : (encoding : Encoding) (t : State) → AllDone pack base (create_events moment encoding spec) t
         → AllDone pack (at base j0) (create_events moment encoding spec) t
-    home encoding t all = subst (λ u. AllDone pack u (create_events moment encoding spec) t) (at_home base j0 there0) all
+    home encoding t all = subst (λ u. AllDone pack u (create_events moment encoding spec) t) (at_home base j0 there0)
+        all
 
     by : (encoding : Encoding) (t : State) → AllDone pack base (create_events moment encoding spec) t
         → Comes pack (Serving t) (filling encoding) said new

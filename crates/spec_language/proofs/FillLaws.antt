@@ -105,7 +105,8 @@ module _ (pack : Pack) (s : State) (moment : Moment) (encoding : Encoding) (W : 
       (parts_left encoding more (length words) count ∙ ap (parts_of encoding) (sym (length-drop most words))) d.2
       (λ left. length-append done part ∙ edge left (whole some))
       (subst (λ u. Comes pack (Serving u) (fill_parts_plan moment encoding more behind next) said new) d.1 rest)))
-      (each_done pack (at s j) moment (fill_events moment encoding part) (fill_parts_plan moment encoding more behind next) said
+      (each_done pack (at s j) moment (fill_events moment encoding part)
+          (fill_parts_plan moment encoding more behind next) said
       new (quiet_fills moment encoding part) come)
     where
       most : ℕ
@@ -130,7 +131,8 @@ module _ (pack : Pack) (s : State) (moment : Moment) (encoding : Encoding) (W : 
           ∙ ap (λ n. (k + blocks_of n) * 128) (sym full)
 
 -- Parts that are words: the block has them, and a command list names them.
-pub record PutsWords (me : ℕ) (to : Place) (kind : Kind) (file : File) (k : ℕ) (done : List ℕ) (j : SpecJob) : Type 0 where
+pub record PutsWords (me : ℕ) (to : Place) (kind : Kind) (file : File) (k : ℕ) (done : List ℕ) (j : SpecJob) : Type
+    0 where
   pub whole : IsJob me j
   pub second : channel_at j 2 ≡ Some (writing (side to kind (with_body file done) (k + 1)))
 
@@ -139,7 +141,8 @@ module _ (pack : Pack) (s : State) (j0 : SpecJob) (there : job_at s 1 ≡ Some j
       → PartsAreDone pack s moment Words (PutsWords me to kind file)
   words_done me to kind file k done part j t is long some few all =
       let count = length part in
-      let last = split_done pack (at s j) (deposit_events block_address part) (list_events count ++ out_event moment ∷ []) t all in
+      let last = split_done pack (at s j) (deposit_events block_address part)
+          (list_events count ++ out_event moment ∷ []) t all in
       let both = split_done pack last.0 (list_events count) (out_event moment ∷ []) t last.2 in
       let core1 = after_writes j.core (placed block_address part) in
       let j1 = with_core j core1 in

@@ -79,7 +79,8 @@ abbrev pub opening : SpecJob → List ℕ
 opening j = after_writes j.core (placed open_words (dump_mode ∷ disk ∷ 0 ∷ []))
 
 module _ (pack : Pack) (s : State) (j0 : SpecJob) (there : job_at s 1 ≡ Some j0) (moment : Moment) where
-  pub opens_done : (me : ℕ) (j : SpecJob) (ch : ℕ) (t : State) → IsJob me j → AllDone pack (at s j) (open_events moment ch) t
+  pub opens_done : (me : ℕ) (j : SpecJob) (ch : ℕ) (t : State) → IsJob me j
+      → AllDone pack (at s j) (open_events moment ch) t
       → t ≡ at s (with_open (with_core j (opening j)) ch open_channel)
   opens_done me j ch t is all =
       let l = is.core in

@@ -56,7 +56,8 @@ answered_files pack s event reply Broken h a = tt
 answered_files pack s event reply (Serving t) h (inl steps) = h t steps
 answered_files pack s event reply (Serving t) h (inr none) = ap (λ x. x.files) none.1
 
-answered_quiet : (pack : Pack) (files : Files SpecVersion) (old : Service) (event : Event) (reply : Reply) (new : Service)
+answered_quiet : (pack : Pack) (files : Files SpecVersion) (old : Service) (event : Event) (reply : Reply)
+    (new : Service)
     → IsQuiet event → HasFiles files old → Answers pack old event reply new → HasFiles files new
 answered_quiet pack files Broken event reply Broken q h a = tt
 answered_quiet pack files Broken event reply (Serving t) q h a = absurd a
@@ -64,7 +65,8 @@ answered_quiet pack files (Serving s) event reply new q h a = subst (λ f. HasFi
     (answered_files pack s event reply new (λ t. quiet_files pack s event reply t q) a)
 
 -- All channels are closed in the end, and this is printed.
-pub ended : (pack : Pack) (files : Files SpecVersion) (old : Service) (moment : Moment) (told said : Spoken) (new : Service)
+pub ended : (pack : Pack) (files : Files SpecVersion) (old : Service) (moment : Moment) (told said : Spoken)
+    (new : Service)
     → HasFiles files old → Comes pack old (ends moment told) said new → (said ≡ told) × HasFiles files new
 ended pack files old moment told said new h c =
     let a = asked pack old (call_event moment Reset) (λ reply. Say told) said new c in

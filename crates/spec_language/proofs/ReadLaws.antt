@@ -10,7 +10,8 @@ use Rattle.spec_machine.specs.Common.{Service, Serving, Steps}
 use Rattle.spec_language.specs.Texts.{Spoken, file_said}
 use Rattle.spec_language.specs.Plans.{Plan, each, lookup_events, list_events, in_event, useti_event, fetches}
 use Rattle.spec_language.specs.Plans.{list_words, block_address}
-use Rattle.spec_language.specs.Plans.{file_words, blocks_at_once, type_runs_plan, type_blocks_plan, type_last_plan, type_body_plan}
+use Rattle.spec_language.specs.Plans.{file_words, blocks_at_once, type_runs_plan, type_blocks_plan, type_last_plan}
+use Rattle.spec_language.specs.Plans.{type_body_plan}
 use Rattle.spec_language.specs.Plans.{read_plan, examines, blocks_said, until_end, ends}
 use Rattle.spec_language.specs.Copies.{Comes, IsJobReady, HasHalfwordExtension, AreShort, HasFiles, IsLineRefused}
 use Rattle.spec_language.specs.Copies.{IsPrinted, place_of}
@@ -112,7 +113,8 @@ module _ (pack : Pack) (s : State) (j0 : SpecJob) (there : job_at s 1 ≡ Some j
   runs_read me place v said new b count some few size (suc more) k next j is fits come = ⊎_elim inl
       (λ (t, (u, steps, same), files, rest).
       let left : (k + b + more * b) * 128 ≤ length v.file.body = omega (arith, next_blocks b more k) in
-      let d = blocks_taken me place v k b count j u is (omega arith) (omega arith) (whole_blocks b count size) (omega arith)
+      let d = blocks_taken me place v k b count j u is (omega arith) (omega arith) (whole_blocks b count size)
+          (omega arith)
       steps in
       let words = take count (drop (k * 128) v.file.body) in
       let behind : List ℕ → Plan = λ words. type_runs_plan moment more count (λ others. next (words ++ others)) in
@@ -137,7 +139,8 @@ module _ (pack : Pack) (s : State) (j0 : SpecJob) (there : job_at s 1 ≡ Some j
 
   -- the command list names another number of words
   read_anew : (me : ℕ) (place : Place) (v : SpecVersion) (said : Spoken) (new : Service) (n was count : ℕ) (next : Plan)
-      (j : SpecJob) → Reads me place v n was j → Comes pack (Serving (at s j)) (each moment (list_events count) next) said new
+      (j : SpecJob) → Reads me place v n was j → Comes pack (Serving (at s j)) (each moment (list_events count) next)
+          said new
       → IsLineRefused s.files said new
       ⊎ ((j' : SpecJob) × Reads me place v n count j' × Comes pack (Serving (at s j')) next said new)
   read_anew me place v said new n was count next j is come = ⊎_elim inl
@@ -185,7 +188,8 @@ module _ (pack : Pack) (s : State) (j0 : SpecJob) (there : job_at s 1 ≡ Some j
           (blocks % blocks_at_once * 128)
           (runs * 128) (blocks * 128) (omega arith) (words_by_runs blocks)
 
-  last_read : (me : ℕ) (place : Place) (v : SpecVersion) (said : Spoken) (new : Service) (more : ℕ) (next : List ℕ → Plan)
+  last_read : (me : ℕ) (place : Place) (v : SpecVersion) (said : Spoken) (new : Service) (more : ℕ)
+      (next : List ℕ → Plan)
       (j : SpecJob) → Reads me place v (more + 1) 128 j → length v.file.body ≤ longest → more * 128 < length v.file.body
       → length v.file.body ≤ (more + 1) * 128
       → Comes pack (Serving (at s j)) (type_last_plan moment (more + 1) (size_word (length v.file.body)) next) said new
@@ -211,7 +215,8 @@ module _ (pack : Pack) (s : State) (j0 : SpecJob) (there : job_at s 1 ≡ Some j
           → (j' : SpecJob) × IsJob me j' × ((n : ℕ) × (channel_at j' 1 ≡ Some (reading place v n)))
           × Comes pack (Serving (at s j')) (next (drop (more * 128) v.file.body)) said new
       behind j1 is1 k first1 t all rest =
-          let parts = split_done pack (at s j1) (list_events count) (useti_event moment (more + 1) ∷ in_event moment ∷ []) t all in
+          let parts = split_done pack (at s j1) (list_events count)
+              (useti_event moment (more + 1) ∷ in_event moment ∷ []) t all in
           let core = after_writes j1.core (placed list_words (list_pair count)) in
           let j2 = with_core j1 core in
           let is2 : IsJob me j2 =
@@ -324,7 +329,8 @@ reads_are_exact pack moment me s encoding spec said new ready few short come = �
             → IsPrinted me s encoding spec said new
         shown (e, (after, serves, files)) = ((v, found, e), subst (HasFiles s.files) (sym serves) files)
 
-    begun : (t : State) → AllDone pack s (lookup_events moment spec ++ list_events 128) t → Comes pack (Serving t) rests said new
+    begun : (t : State) → AllDone pack s (lookup_events moment spec ++ list_events 128) t
+        → Comes pack (Serving t) rests said new
         → IsPrinted me s encoding spec said new ⊎ IsLineRefused s.files said new
     begun t all rest =
         let there = ready.logged_in in

@@ -129,7 +129,8 @@ module _ (pack : Pack) (serial : ℕ) (s : State) (n : ℕ) (job : SpecJob) (the
       → Keeps (record s { files = files; jobs = slice_set s.jobs n (Some j) })
   by_record files j alike = (j, slot-set_same s.jobs n j job there, alike)
 
-  by_row : (reply : Reply) (done : SpecJob) (other : Reply → SpecJob) → Alike job done → ((r : Reply) → Alike job (other r))
+  by_row : (reply : Reply) (done : SpecJob) (other : Reply → SpecJob) → Alike job done
+      → ((r : Reply) → Alike job (other r))
       → Keeps (of_job s n (settled reply done other)).1
   by_row reply done other d o = settled_by (λ r. Keeps (of_job s n r).1) reply done other
       (λ is. by_record s.files done d) (λ differs. by_record s.files (other reply) (o reply))
@@ -138,7 +139,8 @@ module _ (pack : Pack) (serial : ℕ) (s : State) (n : ℕ) (job : SpecJob) (the
       → ((r : Reply) → Alike job (other r))
       → Keeps (of_files s n (settled reply (done, files) (λ r. (other r, s.files)))).1
   by_files reply done files other d o =
-      settled_by {A = SpecJob × Files SpecVersion} (λ r. Keeps (of_files s n r).1) reply (done, files) (λ r. (other r, s.files))
+      settled_by {A = SpecJob × Files SpecVersion} (λ r. Keeps (of_files s n r).1) reply (done, files)
+          (λ r. (other r, s.files))
       (λ is. by_record files done d) (λ differs. by_record s.files (other reply) (o reply))
 
   stopped_alike : (ch : ℕ) (c : Channel) (r : Reply) → Alike job (stopped_in job ch c r)
@@ -317,7 +319,8 @@ module _ (pack : Pack) (serial : ℕ) (s : State) (me : ℕ) (ready : IsJobReady
   own_if true r h = ready
   own_if false r h = h
 
-  own_job : (row : SpecJob → Reply × State) → IsJobReady (row ready.job).1 me → IsJobReady (on_job s (job_at s 1) row).1 me
+  own_job : (row : SpecJob → Reply × State) → IsJobReady (row ready.job).1 me
+      → IsJobReady (on_job s (job_at s 1) row).1 me
   own_job row h = subst (λ o. IsJobReady (on_job s o row).1 me) (sym ready.logged_in) h
 
   own_event : (event : Event) → asks_for_login event ≡ false → job_of event ≡ 1

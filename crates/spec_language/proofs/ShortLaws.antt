@@ -54,13 +54,15 @@ ShortJob job = (ch : ℕ) → ShortSide (output_of (channel_at job ch))
 pub nothing : ShortSide None
 nothing o e = let wrong : None ≡ Some o = e in cc
 
-pub short_with : (job : SpecJob) → ShortJob job → (core : List ℕ) (ch : ℕ) (c : Option Channel) → ShortSide (output_of c)
+pub short_with : (job : SpecJob) → ShortJob job → (core : List ℕ) (ch : ℕ) (c : Option Channel)
+    → ShortSide (output_of c)
     → ShortJob (with_channel (record job { core = core }) ch c)
 short_with job own core ch c side k o is = ⊎_elim
     (λ here. side o (ap output_of (sym here.0) ∙ is))
     (λ other. own k o (ap output_of (sym other) ∙ is)) (slot-set_cases job.channels ch k c)
 
-pub short_state : (s : State) → IsShort s → (n : ℕ) (job : SpecJob) (files : Files SpecVersion) → AreShort files → ShortJob job
+pub short_state : (s : State) → IsShort s → (n : ℕ) (job : SpecJob) (files : Files SpecVersion) → AreShort files
+    → ShortJob job
     → IsShort (record s { files = files; jobs = slice_set s.jobs n (Some job) })
 short_state s short n job files few own = record {
   files = few;
@@ -93,7 +95,8 @@ placed_few count len after b c d none few same = by (count == 0) refl
 none_after : (len next count : ℕ) → count ≡ 0 → length_after len next count ≡ len
 none_after len next count e = rw e refl
 
-pub put_short : (pack : Pack) (s : State) (o : SpecOutput) (words : List ℕ) → finds_no_place pack s o (length words) ≡ false
+pub put_short : (pack : Pack) (s : State) (o : SpecOutput) (words : List ℕ)
+    → finds_no_place pack s o (length words) ≡ false
     → length o.pending.body ≤ longest → length (splice o.pending.body o.next words) ≤ longest
 put_short pack s o words none few =
     omega (
@@ -118,7 +121,8 @@ put_fits pack s c (Some p) (Some g) o f e is at =
     (subst (λ (q : Outgoing). finds_no_place pack s p (length q.words) ≡ false) (some_same at) h)
 
 put_side : (pack : Pack) (s : State) (side : Option SpecOutput) (words : List ℕ) → ShortSide side
-    → ((o : SpecOutput) → side ≡ Some o → finds_no_place pack s o (length words) ≡ false) → ShortSide (put_on side words)
+    → ((o : SpecOutput) → side ≡ Some o → finds_no_place pack s o (length words) ≡ false)
+        → ShortSide (put_on side words)
 put_side pack s None words few fits = nothing
 put_side pack s (Some p) words few fits = λ o is.
     subst (λ (q : SpecOutput). length q.pending.body ≤ longest) (some_same is)
@@ -193,7 +197,8 @@ updating_short digit place v few = by (may_update digit)
     by true = few
     by false = few
 
-opened_short : (files : Files SpecVersion) (job : SpecJob) (c : Channel) (e : ℕ) (moment : Moment) (place : Place) (digit : ℕ)
+opened_short : (files : Files SpecVersion) (job : SpecJob) (c : Channel) (e : ℕ) (moment : Moment) (place : Place)
+    (digit : ℕ)
     (input : Option SpecInput) (found : Option SpecVersion) → file_at files place ≡ found → AreShort files
     → length (output_opened job c e moment place digit input found).pending.body ≤ longest
 opened_short files job c e moment place digit input None is few = omega arith
@@ -244,7 +249,8 @@ module _ (pack : Pack) (serial : ℕ) (s : State) (short : IsShort s) (n : ℕ) 
 
   at_short : (side : Option SpecOutput) (k : ℕ) → ShortSide side → ShortSide (output_at side k)
   at_short None k few = nothing
-  at_short (Some o) k few = λ p is. subst (λ (q : SpecOutput). length q.pending.body ≤ longest) (some_same is) (few o refl)
+  at_short (Some o) k few = λ p is. subst (λ (q : SpecOutput). length q.pending.body ≤ longest) (some_same is)
+      (few o refl)
 
   by_files : (reply : Reply) (done : SpecJob) (files : Files SpecVersion) (other : Reply → SpecJob)
       → (reply ≡ Done → ShortJob done × AreShort files) → ((r : Reply) → ShortJob (other r))

@@ -154,7 +154,8 @@ module _ (pack : Pack) (s : State) (j0 : SpecJob) (there : job_at s 1 ≡ Some j
 
   -- Block n is taken over words that are all the same: these remain after the words of the version.
   takes_over_done : (me : ℕ) (place : Place) (v : SpecVersion) (n word : ℕ) (next : List ℕ → Plan) (said : Spoken)
-      (new : Service) (j : SpecJob) → IsJob me j → (k : ℕ) → channel_at j 1 ≡ Some (reading place v k) → Lists 128 j.core
+      (new : Service) (j : SpecJob) → IsJob me j → (k : ℕ) → channel_at j 1 ≡ Some (reading place v k)
+          → Lists 128 j.core
       → Comes pack (Serving (at s j)) (takes_over moment n word next) said new
       → IsLineRefused s.files said new
       ⊎ ((j' : SpecJob) × Between me place v j j' × Comes pack (Serving (at s j'))
@@ -219,7 +220,8 @@ module _ (pack : Pack) (s : State) (j0 : SpecJob) (there : job_at s 1 ≡ Some j
           )
 
   -- How many words the last block has, however that is found out.
-  pub sizes_done : (me : ℕ) (place : Place) (v : SpecVersion) (more : ℕ) (next : ℕ → Plan) (said : Spoken) (new : Service)
+  pub sizes_done : (me : ℕ) (place : Place) (v : SpecVersion) (more : ℕ) (next : ℕ → Plan) (said : Spoken)
+      (new : Service)
       (j : SpecJob) → IsJob me j → (k : ℕ) → channel_at j 1 ≡ Some (reading place v k) → Lists 128 j.core
       → length v.file.body ≤ longest → more * 128 < length v.file.body → length v.file.body ≤ (more + 1) * 128
       → Comes pack (Serving (at s j)) (sizes moment (more + 1) (size_word (length v.file.body)) next) said new
@@ -253,7 +255,8 @@ module _ (pack : Pack) (s : State) (j0 : SpecJob) (there : job_at s 1 ≡ Some j
       by : (b : Bool) → says_words size ≡ b
           → Comes pack (Serving (at s j)) (if b then next (last_said size) else counts moment (more + 1) next) said new
           → IsLineRefused s.files said new
-          ⊎ ((j' : SpecJob) × Between me place v j j' × Comes pack (Serving (at s j')) (next (len - more * 128)) said new)
+          ⊎ ((j' : SpecJob) × Between me place v j j' × Comes pack (Serving (at s j')) (next (len - more * 128)) said
+              new)
       by true says c = inr (
         j,
         (is, (k, first), refl, lists),

@@ -85,7 +85,8 @@ data_address = 0o143
 abbrev pub create_events : Moment → Encoding → Spec → List Event
 create_events moment Characters spec =
     deposit_events open_words (0 ∷ disk ∷ join header_address 0 ∷ []) ++ call_event moment (Open 2 open_words)
-    ∷ (name_events new_words spec 0 ++ call_event moment (Enter 2 new_words) ∷ call_event moment (Outbuf 2 1) ∷ out_event moment ∷ [])
+    ∷ (name_events new_words spec 0 ++ call_event moment (Enter 2 new_words) ∷ call_event moment (Outbuf 2 1)
+        ∷ out_event moment ∷ [])
 create_events moment Words spec = enter_events moment spec
 create_events moment Octets spec = enter_events moment spec
 
@@ -104,7 +105,8 @@ part_address Words = block_address
 part_address Octets = block_address
 
 abbrev pub fill_events : Moment → Encoding → List ℕ → List Event
-fill_events moment encoding part = deposit_events (part_address encoding) part ++ size_events moment encoding (length part)
+fill_events moment encoding part = deposit_events (part_address encoding) part
+    ++ size_events moment encoding (length part)
 
 -- how many words a part has at most: those of a buffer, or of 16 blocks that a command list names
 abbrev pub part_words : Encoding → ℕ

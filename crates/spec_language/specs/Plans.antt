@@ -59,21 +59,25 @@ deposit_events address (w ∷ ws) = Deposit 1 address w ∷ deposit_events (addr
 
 -- the four words that name a file, with a protection
 abbrev pub name_events : ℕ → Spec → ℕ → List Event
-name_events address spec protection = deposit_events address (spec.name.name ∷ join spec.name.ext 0 ∷ protection * 2 ^ 27
+name_events address spec protection = deposit_events address
+    (spec.name.name ∷ join spec.name.ext 0 ∷ protection * 2 ^ 27
     ∷ unwrap_or spec.owner 0 ∷ [])
 
 -- a channel is opened in dump mode
 abbrev pub open_events : Moment → ℕ → List Event
-open_events moment channel = deposit_events open_words (dump_mode ∷ disk ∷ 0 ∷ []) ++ call_event moment (Open channel open_words)
+open_events moment channel = deposit_events open_words (dump_mode ∷ disk ∷ 0 ∷ [])
+    ++ call_event moment (Open channel open_words)
     ∷ []
 
 -- the file is looked up on channel 1
 abbrev pub lookup_events : Moment → Spec → List Event
-lookup_events moment spec = open_events moment 1 ++ name_events file_words spec 0 ++ call_event moment (Lookup 1 file_words) ∷ []
+lookup_events moment spec = open_events moment 1 ++ name_events file_words spec 0
+    ++ call_event moment (Lookup 1 file_words) ∷ []
 
 -- the new file is entered on channel 2
 abbrev pub enter_events : Moment → Spec → List Event
-enter_events moment spec = open_events moment 2 ++ name_events new_words spec 0 ++ call_event moment (Enter 2 new_words) ∷ []
+enter_events moment spec = open_events moment 2 ++ name_events new_words spec 0 ++ call_event moment (Enter 2 new_words)
+    ∷ []
 
 -- the command list names `count` words from the address of the block
 abbrev pub list_events : ℕ → List Event
@@ -97,7 +101,8 @@ rename_events moment to from =
     ∷ call_event moment (Rename 1 file_words) ∷ []
 
 abbrev pub delete_events : Moment → Spec → List Event
-delete_events moment spec = lookup_events moment spec ++ Deposit 1 file_words 0 ∷ call_event moment (Rename 1 file_words) ∷ []
+delete_events moment spec = lookup_events moment spec ++ Deposit 1 file_words 0
+    ∷ call_event moment (Rename 1 file_words) ∷ []
 
 abbrev pub protect_events : Moment → Spec → ℕ → List Event
 protect_events moment spec protection = lookup_events moment spec ++ name_events file_words spec protection
@@ -208,7 +213,8 @@ blocks_at_once = 16
 -- INs, each followed by an OUT of the words that it moved
 unfoldable pub copy_runs_plan : Moment → ℕ → Plan → Plan
 copy_runs_plan moment zero next = next
-copy_runs_plan moment (suc more) next = each moment (in_event moment ∷ out_event moment ∷ []) (copy_runs_plan moment more next)
+copy_runs_plan moment (suc more) next = each moment (in_event moment ∷ out_event moment ∷ [])
+    (copy_runs_plan moment more next)
 
 -- whole blocks: in runs, and those that make no run one by one
 abbrev pub copy_blocks_plan : Moment → ℕ → Plan → Plan

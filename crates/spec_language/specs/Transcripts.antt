@@ -40,11 +40,13 @@ LogsIn user owner acts said then_who = (reply : Reply) × (acts ≡ Asks (Login 
 abbrev pub Acts : Moment → Option ℕ → Command → List Act → Spoken → Option ℕ → Type 0
 Acts moment None command acts said then_who = (acts ≡ []) × (said ≡ complains (codes "?Not logged in"))
     × (then_who ≡ None)
-Acts moment (Some me) command acts said then_who = RunsPlan (line_plan moment me command) acts said × (then_who ≡ Some me)
+Acts moment (Some me) command acts said then_who = RunsPlan (line_plan moment me command) acts said
+    × (then_who ≡ Some me)
 
 -- What a line of this meaning asks and prints, and who is logged in after it.
 abbrev pub Speaks : Moment → Option ℕ → Option Command → List Act → Spoken → Option ℕ → Type 0
-Speaks moment user None acts said then_who = (acts ≡ []) × (said ≡ complains (codes "?Command error")) × (then_who ≡ user)
+Speaks moment user None acts said then_who = (acts ≡ []) × (said ≡ complains (codes "?Command error"))
+    × (then_who ≡ user)
 Speaks moment user (Some (LoginLine owner)) acts said then_who = LogsIn user owner acts said then_who
 Speaks moment user (Some command) acts said then_who = Acts moment user command acts said then_who
 

@@ -107,7 +107,8 @@ module _ (f : SpecOutput → ℕ) where
       omega (arith, a, b, c)
 
   -- a channel that is open becomes another one, or is closed
-  pub sum_channel : (s : State) (files : Files SpecVersion) (n : ℕ) (job : SpecJob) (core : List ℕ) (ch : ℕ) (c : Channel)
+  pub sum_channel : (s : State) (files : Files SpecVersion) (n : ℕ) (job : SpecJob) (core : List ℕ) (ch : ℕ)
+      (c : Channel)
       (x : Option Channel) → job_at s n ≡ Some job → channel_at job ch ≡ Some c
       → sum_of (record s {
         files = files;
@@ -168,7 +169,8 @@ module _ (s s' : State) (sound : IsSound s) where
   serial_known w at = subst (λ k. has_serial k (current_versions s ++ pinned_versions s) ≡ true) at.2
       (serial_there at.0 at.1)
 
-  pub costs_kept : ((w : SpecVersion) → Exists s' w → Known s w) → distinct_cost (current_versions s' ++ pinned_versions s')
+  pub costs_kept : ((w : SpecVersion) → Exists s' w → Known s w)
+      → distinct_cost (current_versions s' ++ pinned_versions s')
       ≤ distinct_cost (current_versions s ++ pinned_versions s)
   costs_kept was = distinct_le (current_versions s' ++ pinned_versions s') (current_versions s ++ pinned_versions s)
       (all_versions s' (Fits (current_versions s ++ pinned_versions s))
@@ -208,6 +210,7 @@ module _ (s s' : State) (sound : IsSound s) where
         (current_versions s ++ pinned_versions s)
     costs_new was =
         let a = distinct_le (current_versions s' ++ pinned_versions s') (v ∷ (current_versions s ++ pinned_versions s))
-        (all_versions s' (Fits (v ∷ (current_versions s ++ pinned_versions s))) (λ w there. fits_new w (was w there))) in
+        (all_versions s' (Fits (v ∷ (current_versions s ++ pinned_versions s)))
+            (λ w there. fits_new w (was w there))) in
         let b = distinct_more v (current_versions s ++ pinned_versions s) in
         omega (arith, a, b)

@@ -75,7 +75,8 @@ module _ (s : State) (p : ℕ) (limited : is_limited s p ≡ true) where
   channel_event row None h done = let wrong = done in cc
   channel_event row (Some c) h done = h c refl done
 
-  job_event : (row : SpecJob → Reply × State) (o : Option SpecJob) → ((job : SpecJob) → o ≡ Some job → WithinEvent (row job))
+  job_event : (row : SpecJob → Reply × State) (o : Option SpecJob)
+      → ((job : SpecJob) → o ≡ Some job → WithinEvent (row job))
       → WithinEvent (on_job s o row)
   job_event row None h done = let wrong = done in cc
   job_event row (Some job) h done = h job refl done
@@ -106,7 +107,8 @@ module _ (s : State) (p : ℕ) (limited : is_limited s p ≡ true) where
         → WithinEvent (of_files s n (closes pack serial s job ch c bits))
     close_event ch c bits f = settled_by (λ r. r.0 ≡ Done → Within s p limited (of_files s n r).1)
         (close_answer pack s job c bits)
-        (close_done serial job ch c bits, files_closed serial s.files job c bits) (λ r. (stopped_in job ch c r, s.files))
+        (close_done serial job ch c bits, files_closed serial s.files job c bits)
+            (λ r. (stopped_in job ch c r, s.files))
         (λ is done. within_close s p limited pack sound n job there ch c f serial bits is)
         (λ differs done. absurd (differs done))
 

@@ -144,7 +144,8 @@ module _ (pack : Pack) (s : State) (sound : IsSound s) (n : ℕ) (job : SpecJob)
   closes_none true false drops o e = refl
   closes_none false false drops o e = refl
 
-  pub closes_few : (keeps : Bool) (f : SpecOutput → ℕ) (o : Option SpecOutput) → item f (if keeps then o else None) ≤ item f o
+  pub closes_few : (keeps : Bool) (f : SpecOutput → ℕ) (o : Option SpecOutput)
+      → item f (if keeps then o else None) ≤ item f o
   closes_few true f o = itself (item f o)
   closes_few false f o = omega arith
 

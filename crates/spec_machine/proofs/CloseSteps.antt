@@ -16,7 +16,8 @@ pub if_kept : {X : Type 0} (b : Bool) (o : Option X) (x : X) → (if b then o el
 if_kept true o x h = h
 if_kept false o x h = let wrong = h in cc
 
-pub held_closed : (serial : ℕ) (keeps is_published : Bool) (i : Option SpecInput) (o : Option SpecOutput) (w : SpecVersion)
+pub held_closed : (serial : ℕ) (keeps is_published : Bool) (i : Option SpecInput) (o : Option SpecOutput)
+    (w : SpecVersion)
     → option_map (λ i. i.version) (if not keeps then None else if is_published
     then holding i (option_map (published serial) o) else i) ≡ Some w
     → (option_map (λ i. i.version) i ≡ Some w) ⊎ (w ≡ would_be serial o)

@@ -82,7 +82,8 @@ apart k c (v ∷ vs) a e = step (v.serial == k) refl (has_serial k vs) refl (apa
 abbrev pub Fits : List SpecVersion → SpecVersion → Type 0
 Fits ys x = (has_serial x.serial ys ≡ true) × AllByRecursion (λ y. y.serial ≡ x.serial → cost y ≡ cost x) ys
 
-all_without : (P : SpecVersion → Type 0) (k : ℕ) (vs : List SpecVersion) → AllByRecursion P vs → AllByRecursion P (without k vs)
+all_without : (P : SpecVersion → Type 0) (k : ℕ) (vs : List SpecVersion) → AllByRecursion P vs
+    → AllByRecursion P (without k vs)
 all_without P k [] a = tt
 all_without P k (v ∷ vs) a = step (v.serial == k) refl (all_without P k vs a.1)
   where

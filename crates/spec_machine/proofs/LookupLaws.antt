@@ -79,9 +79,11 @@ is_there None e = let wrong = e in cc
 is_there (Some y) e = (y, refl)
 
 -- what the channel pins after it, by what was found
-looked_up_holds : (pack : Pack) (job : SpecJob) (ch : ℕ) (c : Channel) (e : ℕ) (place : Place) (found : Option SpecVersion)
+looked_up_holds : (pack : Pack) (job : SpecJob) (ch : ℕ) (c : Channel) (e : ℕ) (place : Place)
+    (found : Option SpecVersion)
     (v : SpecVersion)
-    → channel_at job ch ≡ Some c → c.output ≡ None → found ≡ Some v → pinned_in (looked_up pack job ch c e place found) ch
+    → channel_at job ch ≡ Some c → c.output ≡ None → found ≡ Some v
+        → pinned_in (looked_up pack job ch c e place found) ch
     ≡ Some v
 looked_up_holds pack job ch c e place None v there none f = let wrong = f in cc
 looked_up_holds pack job ch c e place (Some w) v there none f =
@@ -189,7 +191,8 @@ moves_on_channel s n job ch a v there (Some c) f h done =
       core_is = row_fills job ch c a done ∙ ap (core_filled job c a) words;
     }
 
-moves_on_job : (s : State) (n ch a : ℕ) (v : SpecVersion) (o : Option SpecJob) → job_at s n ≡ o → pinned_for ch o ≡ Some v
+moves_on_job : (s : State) (n ch a : ℕ) (v : SpecVersion) (o : Option SpecJob) → job_at s n ≡ o
+    → pinned_for ch o ≡ Some v
     → Moves s n ch a v (on_job s o (λ job. on_channel s (channel_at job ch) (λ c. of_job s n (reads job ch c a))))
 moves_on_job s n ch a v None f h done = let wrong = done in cc
 moves_on_job s n ch a v (Some job) f h done = moves_on_channel s n job ch a v f (channel_at job ch) refl h done

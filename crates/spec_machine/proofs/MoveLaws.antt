@@ -33,7 +33,8 @@ pub at_there : (files : Files SpecVersion) (place : Place) (d : Directory SpecVe
     → file_at files place ≡ get d.files place.name
 at_there files place d is = ap (λ o. file_in o place.name) is
 
-module _ (files : Files SpecVersion) (place : Place) (d : Directory SpecVersion) (is : get files place.ppn ≡ Some d) where
+module _ (files : Files SpecVersion) (place : Place) (d : Directory SpecVersion)
+    (is : get files place.ppn ≡ Some d) where
   pub put_here : (v : SpecVersion) → file_at (with_file files place v) place ≡ Some v
   put_here v =
       let new : Directory SpecVersion = record d { files = insert d.files place.name v } in
@@ -76,7 +77,8 @@ module _ (files : Files SpecVersion) (place : Place) (d : Directory SpecVersion)
 -- The event.
 
 module _ (pack : Pack) (serial : ℕ) (s : State) (n ch e : ℕ) (moment : Moment) (job : SpecJob) (c : Channel)
-    (i : SpecInput) (there : job_at s n ≡ Some job) (is_open : channel_at job ch ≡ Some c) (side : c.input ≡ Some i) where
+    (i : SpecInput) (there : job_at s n ≡ Some job) (is_open : channel_at job ch ≡ Some c)
+        (side : c.input ≡ Some i) where
   abbrev HasMoved : Reply × State → Type 0
   HasMoved r = r.0 ≡ Done → (r.1.files ≡ files_from s.files job e i.place) × Renames pack s job c e
 

@@ -49,7 +49,8 @@ words_held v None (Some i) e n f = λ k. words_from (some_same e k).file.body (s
 settled_held : {A : Type 0} (job : A → SpecJob) (was : SpecJob) (ch : ℕ) (reply : Reply) (done : A) (other : Reply → A)
     → pinned_in (job done) ch ≡ pinned_in was ch → ((r : Reply) → pinned_in (job (other r)) ch ≡ pinned_in was ch)
     → pinned_in (job (settled reply done other).1) ch ≡ pinned_in was ch
-settled_held job was ch reply done other h g = settled_by (λ r. pinned_in (job r.1) ch ≡ pinned_in was ch) reply done other
+settled_held job was ch reply done other h g = settled_by (λ r. pinned_in (job r.1) ch ≡ pinned_in was ch) reply done
+    other
     (λ is. h) (λ differs. g reply)
 
 stopped_held : (job : SpecJob) (k : ℕ) (c : Channel) (ch : ℕ) → channel_at job k ≡ Some c → (r : Reply)
@@ -80,11 +81,13 @@ same_placed (Some o) i k = refl
 same_placed None None k = refl
 same_placed None (Some i) k = refl
 
-same_put : (o : Option SpecOutput) (i : Option SpecInput) (ws : List ℕ) → version_read (put_on o ws) i ≡ version_read o i
+same_put : (o : Option SpecOutput) (i : Option SpecInput) (ws : List ℕ)
+    → version_read (put_on o ws) i ≡ version_read o i
 same_put (Some o) i ws = refl
 same_put None i ws = refl
 
-same_output_at : (o : Option SpecOutput) (i : Option SpecInput) (n : ℕ) → version_read (output_at o n) i ≡ version_read o i
+same_output_at : (o : Option SpecOutput) (i : Option SpecInput) (n : ℕ)
+    → version_read (output_at o n) i ≡ version_read o i
 same_output_at (Some o) i n = refl
 same_output_at None i n = refl
 
@@ -137,7 +140,8 @@ enter_held pack s job k c e ch moment apart =
     settled_held (λ j. j) job ch (enter_answer pack s job c e (place_at job e)) _ (refused_at job e)
     (other_held job job.core k ch _ apart) (refused_held job e ch)
 
-make_held : (pack : Pack) (s : State) (job : SpecJob) (e ch : ℕ) → pinned_in (makes pack s job e).1.0 ch ≡ pinned_in job ch
+make_held : (pack : Pack) (s : State) (job : SpecJob) (e ch : ℕ)
+    → pinned_in (makes pack s job e).1.0 ch ≡ pinned_in job ch
 make_held pack s job e ch = settled_held (λ (x : SpecJob × Files SpecVersion). x.0) job ch
     (make_answer pack s job e (owner_at job e)) _ (λ r. (refused_at job e r, s.files)) refl (refused_held job e ch)
 
@@ -151,7 +155,8 @@ remove_held : (s : State) (job : SpecJob) (e ch : ℕ) → pinned_in (removes s 
 remove_held s job e ch = settled_held (λ (x : SpecJob × Files SpecVersion). x.0) job ch
     (remove_answer s job e (owner_at job e)) _ (λ r. (refused_at job e r, s.files)) refl (refused_held job e ch)
 
-limit_held : (pack : Pack) (s : State) (job : SpecJob) (e ch : ℕ) → pinned_in (limits pack s job e).1.0 ch ≡ pinned_in job ch
+limit_held : (pack : Pack) (s : State) (job : SpecJob) (e ch : ℕ)
+    → pinned_in (limits pack s job e).1.0 ch ≡ pinned_in job ch
 limit_held pack s job e ch = settled_held (λ (x : SpecJob × Files SpecVersion). x.0) job ch
     (limit_answer pack s job e (owner_at job e)) _ (λ r. (refused_at job e r, s.files)) refl (refused_held job e ch)
 
@@ -201,9 +206,11 @@ of_job_held : (s : State) (n : ℕ) (job : SpecJob) (r : Reply × SpecJob) (ch :
     → pinned_in r.1 ch ≡ pinned_in job ch → pinned_at (of_job s n r).1 n ch ≡ pinned_at s n ch
 of_job_held s n job r ch e h = ap (pinned_for ch) (slot-set_same s.jobs n r.1 job e) ∙ h ∙ ap (pinned_for ch) (sym e)
 
-of_files_held : (s : State) (n : ℕ) (job : SpecJob) (r : Reply × (SpecJob × Files SpecVersion)) (ch : ℕ) → job_at s n ≡ Some job
+of_files_held : (s : State) (n : ℕ) (job : SpecJob) (r : Reply × (SpecJob × Files SpecVersion)) (ch : ℕ)
+    → job_at s n ≡ Some job
     → pinned_in r.1.0 ch ≡ pinned_in job ch → pinned_at (of_files s n r).1 n ch ≡ pinned_at s n ch
-of_files_held s n job r ch e h = ap (pinned_for ch) (slot-set_same s.jobs n r.1.0 job e) ∙ h ∙ ap (pinned_for ch) (sym e)
+of_files_held s n job r ch e h = ap (pinned_for ch) (slot-set_same s.jobs n r.1.0 job e) ∙ h
+    ∙ ap (pinned_for ch) (sym e)
 
 channel_held : (s : State) (n ch : ℕ) (row : Channel → Reply × State) (o : Option Channel)
     → ((c : Channel) → o ≡ Some c → pinned_at (row c).1 n ch ≡ pinned_at s n ch)
@@ -256,12 +263,14 @@ call_held pack serial s n job (DeleteDir a) moment ch v e h spared = of_files_he
 call_held pack serial s n job (Quota a) moment ch v e h spared = of_files_held s n job (limits pack s job a) ch e
     (limit_held pack s job a ch)
 
-job_there : (o : Option SpecJob) (ch : ℕ) (v : SpecVersion) → pinned_for ch o ≡ Some v → (job : SpecJob) × (o ≡ Some job)
+job_there : (o : Option SpecJob) (ch : ℕ) (v : SpecVersion) → pinned_for ch o ≡ Some v → (job : SpecJob)
+    × (o ≡ Some job)
     × (pinned_in job ch ≡ Some v)
 job_there None ch v e = let wrong = e in cc
 job_there (Some job) ch v e = (job, refl, e)
 
-own_call : (pack : Pack) (serial : ℕ) (s : State) (n ch : ℕ) (v : SpecVersion) (call : Call) (moment : Moment) (late : Bool)
+own_call : (pack : Pack) (serial : ℕ) (s : State) (n ch : ℕ) (v : SpecVersion) (call : Call) (moment : Moment)
+    (late : Bool)
     → pinned_at s n ch ≡ Some v → SparesCall ch call
     → (job : SpecJob) (o : Option SpecJob) → job_at s n ≡ o → o ≡ Some job → pinned_in job ch ≡ Some v
     → pinned_at (if late then (DateRange, s) else on_job s o (λ job. call_of pack serial s n job call moment)).1 n ch

@@ -44,7 +44,8 @@ holds_channel s row None n k h = refl
 holds_channel s row (Some c) n k h = h c
 
 -- the versions that a job's channels pin, if its record changes
-holds_files : (s : State) (n : ℕ) (job : SpecJob) (r : Reply × (SpecJob × Files SpecVersion)) (k : ℕ) → job_at s n ≡ Some job
+holds_files : (s : State) (n : ℕ) (job : SpecJob) (r : Reply × (SpecJob × Files SpecVersion)) (k : ℕ)
+    → job_at s n ≡ Some job
     → version_of (channel_at r.1.0 k) ≡ version_of (channel_at job k) → Holds s (of_files s n r) n k
 holds_files s n job r k there h = ap (version_for k) (slot-set_same s.jobs n r.1.0 job there) ∙ h
     ∙ sym (ap (version_for k) there)
@@ -131,7 +132,8 @@ booked_channel : (s : State) (row : Channel → Reply × State) (o : Option Chan
 booked_channel s row None h = refl
 booked_channel s row (Some c) h = h c refl
 
-in_sides : (job : SpecJob) (ch : ℕ) (c : Channel) (a : ℕ) → channel_at job ch ≡ Some c → SameSides (reads job ch c a).1 job
+in_sides : (job : SpecJob) (ch : ℕ) (c : Channel) (a : ℕ) → channel_at job ch ≡ Some c
+    → SameSides (reads job ch c a).1 job
 in_sides job ch c a is =
     settled_by (λ r. SameSides r.1 job) (in_answer job c a) (in_done job ch c a) (stopped_in job ch c)
     (λ done. same_sides job (core_filled job c a (words_ahead c.input c.output)) ch c

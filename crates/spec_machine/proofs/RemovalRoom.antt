@@ -31,7 +31,8 @@ use Rattle.spec_machine.proofs.BookingLaws.{sum_of, sum_channel, costs_kept}
 use Rattle.spec_machine.proofs.RoomLaws.{pending, creation, directory_cost_le, directories_changed, directories_more}
 use Rattle.spec_machine.proofs.RoomSteps.{Fine, was_there, fits, same_le}
 
-pub size-insert_le : (m : FinMap name_cmp SpecVersion) (k : FileName) (v : SpecVersion) → size (insert m k v) ≤ size m + 1
+pub size-insert_le : (m : FinMap name_cmp SpecVersion) (k : FileName) (v : SpecVersion)
+    → size (insert m k v) ≤ size m + 1
 size-insert_le m k v = decide (get m k) refl
   where
     decide : (o : Option SpecVersion) → get m k ≡ o → size (insert m k v) ≤ size m + 1

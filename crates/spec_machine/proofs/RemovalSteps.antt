@@ -124,7 +124,8 @@ module _ (s : State) (old : Place) where
     files_either deletes = if deletes then without_file s.files old
         else files_moved s.files old new protection (file_at s.files old)
 
-    found_either : (deletes : Bool) (q : Place) (w : SpecVersion) → file_at (files_either deletes) q ≡ Some w → Known s w
+    found_either : (deletes : Bool) (q : Place) (w : SpecVersion) → file_at (files_either deletes) q ≡ Some w
+        → Known s w
     found_either true q w is = known s w (inl (q, found_without_file s.files old q w is))
     found_either false q w is = found_moved new protection (file_at s.files old) refl q w is
 

@@ -94,7 +94,8 @@ module _ (s s' : State) where
   more a b h = omega (arith, h)
 
   -- a directory gets one more entry
-  pub directories_more : (k : ℕ) (d new : Directory SpecVersion) → get s.files k ≡ Some d → s'.files ≡ insert s.files k new
+  pub directories_more : (k : ℕ) (d new : Directory SpecVersion) → get s.files k ≡ Some d
+      → s'.files ≡ insert s.files k new
       → size new.files + pending_creations s' k ≤ size d.files + pending_creations s k + 1
       → ((ppn : ℕ) → ppn ≢ k → pending_creations s' ppn ≤ pending_creations s ppn)
       → directories_cost s' ≤ directories_cost s + growth (size d.files + pending_creations s k)

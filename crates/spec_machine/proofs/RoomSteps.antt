@@ -49,7 +49,8 @@ abbrev pub Fine : Pack → State → State → Type 0
 Fine pack s s' = (booked s' ≤ booked s) ⊎ (booked s' ≤ space pack)
 
 -- what is there after an event that continues with any version was there before
-pub was_there : (s s' : State) (n ch : ℕ) → ((v : SpecVersion) → Goes s s' v n ch) → (w : SpecVersion) → Exists s' w → Known s w
+pub was_there : (s s' : State) (n ch : ℕ) → ((v : SpecVersion) → Goes s s' v n ch) → (w : SpecVersion) → Exists s' w
+    → Known s w
 was_there s s' n ch goes w there = ⊎_elim (λ was. was)
     (λ is_zero. ⊎_elim (λ was. was) (λ one_is. let wrong : 0 ≡ 1 = ap (λ (u : SpecVersion). u.serial) (sym is_zero
     ∙ one_is) in cc) ((goes (blank 1)).versions w there))
@@ -103,7 +104,8 @@ same_le {a} {b} e = omega (arith, e)
 pub longer_none : (words block : ℕ) → length_after words block 0 ≡ words
 longer_none words block = refl
 
-pub at_output : (f : SpecOutput → ℕ) (o : Option SpecOutput) (k : ℕ) → ((o : SpecOutput) → f (record o { next = k }) ≡ f o)
+pub at_output : (f : SpecOutput → ℕ) (o : Option SpecOutput) (k : ℕ)
+    → ((o : SpecOutput) → f (record o { next = k }) ≡ f o)
     → item f (output_at o k) ≡ item f o
 at_output f None k h = refl
 at_output f (Some o) k h = h o
@@ -128,7 +130,8 @@ module _ (pack : Pack) (s : State) (sound : IsSound s) (n : ℕ) (job : SpecJob)
   abbrev pub FineRow : Reply × SpecJob → Type 0
   FineRow r = r.0 ≡ Done → Fine pack s (with_job s n r.1)
 
-  pub fine_row : (reply : Reply) (done : SpecJob) (other : Reply → SpecJob) → (reply ≡ Done → Fine pack s (with_job s n done))
+  pub fine_row : (reply : Reply) (done : SpecJob) (other : Reply → SpecJob)
+      → (reply ≡ Done → Fine pack s (with_job s n done))
       → FineRow (settled reply done other)
   fine_row reply done other h = settled_by (λ r. r.0 ≡ Done → Fine pack s (with_job s n r.1)) reply done other
       (λ is done. h is) (λ differs done. absurd (differs done))
@@ -192,7 +195,8 @@ out_needs pack s c None found e = let wrong = e in cc
 out_needs pack s c (Some o) None e = let a = passed_test (lacks_header c.mode c.output_header) (Refused 5) AddressCheck
     (λ x. cc) e in let wrong = a.1 in cc
 out_needs pack s c (Some o) (Some t) e =
-    let a = passed_test (lacks_header c.mode c.output_header) (Refused 5) (place_answer pack s c o t.words) (λ x. cc) e in
+    let a = passed_test (lacks_header c.mode c.output_header) (Refused 5) (place_answer pack s c o t.words) (λ x. cc)
+        e in
     (o, refl, t, refl, placed_needs pack s c o t.words a.1)
 
 split_test : (none long full over before : Bool) → (not none && (long || full || over || before)) ≡ false

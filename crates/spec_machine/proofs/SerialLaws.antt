@@ -48,7 +48,8 @@ same_call pack a b s n job (MakeDir e) moment = refl
 same_call pack a b s n job (DeleteDir e) moment = refl
 same_call pack a b s n job (Quota e) moment = refl
 
-same_job : (s : State) (row other : SpecJob → Reply × State) (o : Option SpecJob) → ((job : SpecJob) → (row job).0 ≡ (other job).0)
+same_job : (s : State) (row other : SpecJob → Reply × State) (o : Option SpecJob)
+    → ((job : SpecJob) → (row job).0 ≡ (other job).0)
     → (on_job s o row).0 ≡ (on_job s o other).0
 same_job s row other None h = refl
 same_job s row other (Some job) h = h job
@@ -99,7 +100,8 @@ closed_same files a b false o = refl
 abbrev SameFiles : Reply × State → Reply × State → Type 0
 SameFiles x y = without_serials x.1.files ≡ without_serials y.1.files
 
-closed_files : (pack : Pack) (a b : ℕ) (s : State) (n : ℕ) (job : SpecJob) (ch : ℕ) (c : Channel) (bits : ℕ) (one two : SpecJob)
+closed_files : (pack : Pack) (a b : ℕ) (s : State) (n : ℕ) (job : SpecJob) (ch : ℕ) (c : Channel) (bits : ℕ)
+    (one two : SpecJob)
     → SameFiles (of_files s n (settled (close_answer pack s job c bits) (one, files_closed a s.files job c bits)
     (λ r. (stopped_in job ch c r, s.files))))
     (of_files s n (settled (close_answer pack s job c bits) (two, files_closed b s.files job c bits)

@@ -142,7 +142,8 @@ module _ (f : ℕ → ℕ) where
   with_channel-re job ch x = ap (λ channels. record job { channels = channels })
       (set-map (option_map re_channel) job.channels ch x)
 
-  pub with_job-re : (s : State) (n : ℕ) (job : SpecJob) → with_job (re_state s) n (re_job job) ≡ re_state (with_job s n job)
+  pub with_job-re : (s : State) (n : ℕ) (job : SpecJob) → with_job (re_state s) n (re_job job) ≡ re_state
+      (with_job s n job)
   with_job-re s n job = ap (λ jobs. record { files = re_files s.files; jobs = jobs })
       (set-map (option_map re_job) s.jobs n (Some job))
 
@@ -159,7 +160,8 @@ module _ (f : ℕ → ℕ) where
   of_job_re None = refl
   of_job_re (Some job) = outputs_of_re job.channels
 
-  all_outputs_re : (js : List (Option SpecJob)) → flat_map outputs_of (map (option_map re_job) js) ≡ flat_map outputs_of js
+  all_outputs_re : (js : List (Option SpecJob)) → flat_map outputs_of (map (option_map re_job) js) ≡ flat_map outputs_of
+      js
   all_outputs_re [] = refl
   all_outputs_re (j ∷ js) = λ i. of_job_re j i ++ all_outputs_re js i
 
@@ -312,12 +314,14 @@ module _ (f : ℕ → ℕ) where
   directory_re job ppn None = refl
   directory_re job ppn (Some d) = refl
 
-  pub directory_digit-re : (s : State) (job : SpecJob) (place : Place) → directory_digit_at (re_state s) (re_job job) place
+  pub directory_digit-re : (s : State) (job : SpecJob) (place : Place)
+      → directory_digit_at (re_state s) (re_job job) place
       ≡ directory_digit_at s job place
   directory_digit-re s job place = ap (digit_for_directory job place.ppn) (get-re s.files place.ppn)
       ∙ directory_re job place.ppn (get s.files place.ppn)
 
-  version_re : (job : SpecJob) (ppn : ℕ) (o : Option SpecVersion) → digit_for_version (re_job job) ppn (option_map re_version o)
+  version_re : (job : SpecJob) (ppn : ℕ) (o : Option SpecVersion)
+      → digit_for_version (re_job job) ppn (option_map re_version o)
       ≡ digit_for_version job ppn o
   version_re job ppn None = refl
   version_re job ppn (Some v) = refl

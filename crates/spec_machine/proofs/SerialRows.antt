@@ -143,7 +143,8 @@ module _ (f : ℕ → ℕ) where
       else if not (may_read (digit-re f s job place i)) then Refused 2
       else Done
 
-  looked_up-re : (pack : Pack) (job : SpecJob) (ch : ℕ) (c : Channel) (e : ℕ) (place : Place) (found : Option SpecVersion)
+  looked_up-re : (pack : Pack) (job : SpecJob) (ch : ℕ) (c : Channel) (e : ℕ) (place : Place)
+      (found : Option SpecVersion)
       → looked_up pack (re_job f job) ch (re_channel f c) e place (option_map (re_version f) found)
       ≡ re_job f (looked_up pack job ch c e place found)
   looked_up-re pack job ch c e place None = refl
@@ -203,7 +204,8 @@ module _ (f : ℕ → ℕ) where
     update-re : (job : SpecJob) (place : Place) → update_answer pack (re_state f s) (re_job f job) place
         ≡ update_answer pack s job place
     update-re job place =
-        let full = limits_re place.ppn (present_cost (file_at s.files place)) _ (ap present_cost (file-re f s.files place)
+        let full = limits_re place.ppn (present_cost (file_at s.files place)) _
+            (ap present_cost (file-re f s.files place)
         ∙ cost-re (file_at s.files place)) in
         λ i. if absent-re f s place i then Refused 0
         else if not (may_look (directory_digit-re f s job place i)) || not (may_append (digit-re f s job place i))
@@ -376,7 +378,8 @@ module _ (f : ℕ → ℕ) where
 
     -- OUT.
 
-    no_place-re : (o : SpecOutput) (count : ℕ) → finds_no_place pack (re_state f s) o count ≡ finds_no_place pack s o count
+    no_place-re : (o : SpecOutput) (count : ℕ) → finds_no_place pack (re_state f s) o count ≡ finds_no_place pack s o
+        count
     no_place-re o count = λ i.
         not (count == 0)
         && (nat_lt longest (length_after (length o.pending.body) o.next count)
@@ -384,7 +387,8 @@ module _ (f : ℕ → ℕ) where
         || (not (rise o count == 0) && left-re f s o.place.ppn (rise o count) i)
         || is_before_end o.kind o.next)
 
-    place-re : (c : Channel) (o : SpecOutput) (words : List ℕ) → place_answer pack (re_state f s) (re_channel f c) o words
+    place-re : (c : Channel) (o : SpecOutput) (words : List ℕ)
+        → place_answer pack (re_state f s) (re_channel f c) o words
         ≡ place_answer pack s c o words
     place-re c o words = λ i. if no_place-re o (length words) i then reports c block_too_large else Done
 
@@ -543,7 +547,8 @@ module _ (f : ℕ → ℕ) where
         else if not (entries-re f s owner i == 0) then Refused 0o22
         else Done
 
-    pub removes-re : (job : SpecJob) (e : ℕ) → removes (re_state f s) (re_job f job) e ≡ on_value re_both (removes s job e)
+    pub removes-re : (job : SpecJob) (e : ℕ) → removes (re_state f s) (re_job f job) e ≡ on_value re_both
+        (removes s job e)
     removes-re job e =
         settled-re re_both (remove_answer s job e (owner_at job e)) _ (job, remove s.files (owner_at job e))
         (re_job f job, remove (re_files f s.files) (owner_at job e))
@@ -589,7 +594,8 @@ module _ (f : ℕ → ℕ) where
 
   -- IN, USETI and USETO.
 
-  ahead-re : (input : Option SpecInput) (output : Option SpecOutput) → words_ahead (option_map (re_input f) input) output
+  ahead-re : (input : Option SpecInput) (output : Option SpecOutput)
+      → words_ahead (option_map (re_input f) input) output
       ≡ words_ahead input output
   ahead-re None output = refl
   ahead-re (Some x) None = refl

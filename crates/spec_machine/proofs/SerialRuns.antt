@@ -98,7 +98,8 @@ module _ (f g : ℕ → ℕ) (s : State) (alike : (v : SpecVersion) → Exists s
       by_ppn ppn (Some d) e = λ i.
           Some (record { protection = d.protection; quota = d.quota; files = same_names ppn d e i })
 
-  same_input : (n ch : ℕ) (o : Option SpecInput) → ((v : SpecVersion) → option_map (λ (i : SpecInput). i.version) o ≡ Some v
+  same_input : (n ch : ℕ) (o : Option SpecInput)
+      → ((v : SpecVersion) → option_map (λ (i : SpecInput). i.version) o ≡ Some v
       → Exists s v) → option_map (re_input f) o ≡ option_map (re_input g) o
   same_input n ch None h = refl
   same_input n ch (Some x) h = λ i.
@@ -130,7 +131,8 @@ holds_re : (f : ℕ → ℕ) (s : State) (n ch : ℕ)
     → holds_at (re_state f s) n ch ≡ option_map (re_version f) (holds_at s n ch)
 holds_re f s n ch = ap (version_for ch) (job-re f s n) ∙ by_job (job_at s n)
   where
-    by_job : (o : Option SpecJob) → version_for ch (option_map (re_job f) o) ≡ option_map (re_version f) (version_for ch o)
+    by_job : (o : Option SpecJob) → version_for ch (option_map (re_job f) o) ≡ option_map (re_version f)
+        (version_for ch o)
     by_job None = refl
     by_job (Some job) = ap version_of (channel-re f job ch) ∙ version-re f (channel_at job ch)
 

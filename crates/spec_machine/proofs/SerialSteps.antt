@@ -59,12 +59,14 @@ module _ (f : ℕ → ℕ) where
   at_channel s job ch row' row h = ap (λ o. on_channel (re_state f s) o row') (channel-re f job ch)
       ∙ channel_out s row' row h (channel_at job ch)
 
-  job_out : (s : State) (row' row : SpecJob → Reply × State) → ((job : SpecJob) → row' (re_job f job) ≡ re_out (row job))
+  job_out : (s : State) (row' row : SpecJob → Reply × State)
+      → ((job : SpecJob) → row' (re_job f job) ≡ re_out (row job))
       → (o : Option SpecJob) → on_job (re_state f s) (option_map (re_job f) o) row' ≡ re_out (on_job s o row)
   job_out s row' row h None = refl
   job_out s row' row h (Some job) = h job
 
-  at_job : (s : State) (n : ℕ) (row' row : SpecJob → Reply × State) → ((job : SpecJob) → row' (re_job f job) ≡ re_out (row job))
+  at_job : (s : State) (n : ℕ) (row' row : SpecJob → Reply × State)
+      → ((job : SpecJob) → row' (re_job f job) ≡ re_out (row job))
       → on_job (re_state f s) (job_at (re_state f s) n) row' ≡ re_out (on_job s (job_at s n) row)
   at_job s n row' row h = ap (λ o. on_job (re_state f s) o row') (job-re f s n) ∙ job_out s row' row h (job_at s n)
 

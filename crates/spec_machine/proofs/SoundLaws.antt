@@ -102,7 +102,8 @@ module _ (s s' : State) (v : SpecVersion) (n ch : ℕ) (sound : IsSound s) (goes
       (sound.housed a x old.0 old.1)
   housed_on a x o (inr new) = new.4
 
-  serials_on : (w u : SpecVersion) → IsFresh s v.serial → Known s w ⊎ (w ≡ v) → Known s u ⊎ (u ≡ v) → w.serial ≡ u.serial
+  serials_on : (w u : SpecVersion) → IsFresh s v.serial → Known s w ⊎ (w ≡ v) → Known s u ⊎ (u ≡ v)
+      → w.serial ≡ u.serial
       → AreAlike w u
   serials_on w u fresh (inl a) (inl b) e = alike_on (alike_back a.3)
       (alike_on (sound.serials a.0 b.0 a.1 b.1 (a.2 ∙ e ∙ sym b.2)) b.3)

@@ -49,12 +49,14 @@ pub create_needs : (pack : Pack) (s : State) (job : SpecJob) (place : Place) →
 create_needs pack s job place h =
     let a = passed_test (not (may_create (directory_digit_at s job place))) (Refused 2) _ (λ x. cc) h in
     let b = passed_test (is_claimed s place) (Refused 3) _ (λ x. cc) a.1 in
-    let d = passed_test (exceeds_limits pack s place.ppn (1 + growth (entry_count s place.ppn))) (Refused 0o14) _ (λ x. cc)
+    let d = passed_test (exceeds_limits pack s place.ppn (1 + growth (entry_count s place.ppn))) (Refused 0o14) _
+        (λ x. cc)
     b.1 in
     let both = or_false (exceeds_room pack s (1 + growth (entry_count s place.ppn))) _ d.0 in
     (b.0, both.0, both.1)
 
-pub supersede_needs : (pack : Pack) (s : State) (job : SpecJob) (place : Place) → supersede_answer pack s job place ≡ Done
+pub supersede_needs : (pack : Pack) (s : State) (job : SpecJob) (place : Place)
+    → supersede_answer pack s job place ≡ Done
     → (is_claimed s place ≡ false) × (has_no_room pack s ≡ false) × (exceeds_left s place.ppn 1 ≡ false)
 supersede_needs pack s job place h =
     let a = passed_test (not (may_look (directory_digit_at s job place)) || not (may_supersede (digit_at s job place)))
@@ -73,7 +75,8 @@ update_needs pack s job place h =
     let a = passed_test (not (may_look (directory_digit_at s job place)) || not (may_append (digit_at s job place)))
     (Refused 2) _ (λ x. cc) n.1 in
     let b = passed_test (is_claimed s place) (Refused 3) _ (λ x. cc) a.1 in
-    let d = passed_test (exceeds_limits pack s place.ppn (present_cost (file_at s.files place))) (Refused 0o14) _ (λ x. cc)
+    let d = passed_test (exceeds_limits pack s place.ppn (present_cost (file_at s.files place))) (Refused 0o14) _
+        (λ x. cc)
     b.1 in
     let both = or_false (exceeds_room pack s (present_cost (file_at s.files place))) _ d.0 in
     (n.0, b.0, both.0, both.1)
@@ -118,7 +121,8 @@ is_some_there (Some x) e = refl
 -- Rows of a channel that is open.
 
 abbrev pub Like : Option SpecOutput → Option SpecOutput → Type 0
-Like was is = (p : SpecOutput) → is ≡ Some p → (o : SpecOutput) × (was ≡ Some o) × (p.place ≡ o.place) × (p.kind ≡ o.kind)
+Like was is = (p : SpecOutput) → is ≡ Some p → (o : SpecOutput) × (was ≡ Some o) × (p.place ≡ o.place)
+    × (p.kind ≡ o.kind)
 
 pub like_itself : (o : Option SpecOutput) → Like o o
 like_itself o p h = (p, h, refl, refl)
@@ -141,7 +145,8 @@ like_at (Some o) n p h = (
   ap (λ (x : SpecOutput). x.kind) (sym (some_same h)),
 )
 
-pub same_moved : (i : Option SpecInput) (k : ℕ) → option_map (λ i. i.version) (moved_on i k) ≡ option_map (λ i. i.version) i
+pub same_moved : (i : Option SpecInput) (k : ℕ) → option_map (λ i. i.version) (moved_on i k) ≡ option_map
+    (λ i. i.version) i
 same_moved None k = refl
 same_moved (Some i) k = refl
 
@@ -257,7 +262,8 @@ module _ (s : State) (v : SpecVersion) (n : ℕ) (job : SpecJob) (there : job_at
         refl,
         refl,
         ap (is_claimed s) at ∙ free,
-        λ f. subst (λ q. IsSome (file_at s.files q)) (sym at) (side.1 (ap (λ (x : SpecOutput). is_create x.kind) same ∙ f)),
+        λ f. subst (λ q. IsSome (file_at s.files q)) (sym at)
+            (side.1 (ap (λ (x : SpecOutput). is_create x.kind) same ∙ f)),
         subst (λ (q : Place). IsSome (get s.files q.ppn)) (sym at) (is_some_there (get s.files place.ppn) housed),
       ))
       (λ w h. inl (held_updated place c.input (file_at s.files place) refl

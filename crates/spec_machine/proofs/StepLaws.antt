@@ -26,7 +26,8 @@ use Rattle.spec_machine.proofs.SlotLaws.{slot-set_same, slot-set_other}
 abbrev pub Alike : ℕ → Reply × State → Reply × State → Type 0
 Alike n a b = (a.0 ≡ b.0) × (job_at a.1 n ≡ job_at b.1 n)
 
-alike_of_job : (s t : State) (n : ℕ) (job : SpecJob) → job_at s n ≡ Some job → job_at t n ≡ Some job → (r : Reply × SpecJob)
+alike_of_job : (s t : State) (n : ℕ) (job : SpecJob) → job_at s n ≡ Some job → job_at t n ≡ Some job
+    → (r : Reply × SpecJob)
     → Alike n (of_job s n r) (of_job t n r)
 alike_of_job s t n job e f r = (refl, slot-set_same s.jobs n r.1 job e ∙ sym (slot-set_same t.jobs n r.1 job f))
 
@@ -62,7 +63,8 @@ in_alike pack serial other s t n ch a moment same =
 
 -- What isn't done leaves the files unchanged.
 
-kept : {A : Type 0} (files : A → Files SpecVersion) (were : Files SpecVersion) (reply : Reply) (done : A) (other : Reply → A)
+kept : {A : Type 0} (files : A → Files SpecVersion) (were : Files SpecVersion) (reply : Reply) (done : A)
+    (other : Reply → A)
     → ((r : Reply) → files (other r) ≡ were) → (settled reply done other).0 ≢ Done
     → files (settled reply done other).1 ≡ were
 kept files were reply done other h =
@@ -77,7 +79,8 @@ keeps_on_channel : (s : State) (row : Channel → Reply × State) (c : Option Ch
 keeps_on_channel s row None h differs = refl
 keeps_on_channel s row (Some c) h differs = h c differs
 
-keeps_of_files : (s : State) (n : ℕ) (reply : Reply) (done : SpecJob × Files SpecVersion) (other : Reply → SpecJob × Files SpecVersion)
+keeps_of_files : (s : State) (n : ℕ) (reply : Reply) (done : SpecJob × Files SpecVersion)
+    (other : Reply → SpecJob × Files SpecVersion)
     → ((r : Reply) → (other r).1 ≡ s.files) → Keeps s (of_files s n (settled reply done other))
 keeps_of_files s n reply done other h differs = kept (λ x. x.1) s.files reply done other h differs
 
@@ -113,7 +116,8 @@ keeps_call pack serial s n job (MakeDir e) moment = keeps_of_files s n _ _ _ (λ
 keeps_call pack serial s n job (DeleteDir e) moment = keeps_of_files s n _ _ _ (λ r. refl)
 keeps_call pack serial s n job (Quota e) moment = keeps_of_files s n _ _ _ (λ r. refl)
 
-keeps_on_job : (s : State) (row : SpecJob → Reply × State) (job : Option SpecJob) → ((job : SpecJob) → Keeps s (row job))
+keeps_on_job : (s : State) (row : SpecJob → Reply × State) (job : Option SpecJob)
+    → ((job : SpecJob) → Keeps s (row job))
     → Keeps s (on_job s job row)
 keeps_on_job s row None h differs = refl
 keeps_on_job s row (Some job) h differs = h job differs
@@ -141,7 +145,8 @@ spares_channel : (m : ℕ) (s : State) (row : Channel → Reply × State) (c : O
 spares_channel m s row None h = refl
 spares_channel m s row (Some c) h = h c
 
-spares_job : (m : ℕ) (s : State) (row : SpecJob → Reply × State) (job : Option SpecJob) → ((job : SpecJob) → Spares m s (row job))
+spares_job : (m : ℕ) (s : State) (row : SpecJob → Reply × State) (job : Option SpecJob)
+    → ((job : SpecJob) → Spares m s (row job))
     → Spares m s (on_job s job row)
 spares_job m s row None h = refl
 spares_job m s row (Some job) h = h job

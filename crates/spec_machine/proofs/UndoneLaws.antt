@@ -43,7 +43,8 @@ module _ (s : State) (n : ℕ) (job : SpecJob) (there : job_at s n ≡ Some job)
       settled_by (λ r. r.0 ≢ Done → (of_files s n r).1 ≡ with_job s n (other r.0)) reply done (λ r. (other r, s.files))
       (λ is differs. absurd (differs refl)) (λ no differs. refl)
 
-  on_channel_leaves : (left : Reply → SpecJob) (row : Channel → Reply × State) (o : Option Channel) → left NoChannel ≡ job
+  on_channel_leaves : (left : Reply → SpecJob) (row : Channel → Reply × State) (o : Option Channel)
+      → left NoChannel ≡ job
       → ((c : Channel) → o ≡ Some c → Leaves (λ r. with_job s n (left r)) (row c))
       → Leaves (λ r. with_job s n (left r)) (on_channel s o row)
   on_channel_leaves left row None h rows differs = put_back ∙ ap (with_job s n) (sym h)
@@ -147,7 +148,8 @@ event_leaves pack serial s n call moment false None e differs = refl
 event_leaves pack serial s n call moment false (Some job) e differs = call_leaves s n job e pack serial
     call moment differs
 
-words_leave : (s : State) (row : SpecJob → Reply × State) (o : Option SpecJob) → ((job : SpecJob) → Leaves (λ r. s) (row job))
+words_leave : (s : State) (row : SpecJob → Reply × State) (o : Option SpecJob)
+    → ((job : SpecJob) → Leaves (λ r. s) (row job))
     → Leaves (λ r. s) (on_job s o row)
 words_leave s row None h differs = refl
 words_leave s row (Some job) h differs = h job differs

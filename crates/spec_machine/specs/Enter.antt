@@ -61,7 +61,8 @@ new_file protection c moment = record {
 
 -- The output side that an ENTER opens, by the version that is current: a new file's protection is the one given, a
 -- superseding file's is that of the old file. `digit` is the job's digit for that version.
-abbrev pub output_opened : SpecJob → Channel → ℕ → Moment → Place → ℕ → Option SpecInput → Option SpecVersion → SpecOutput
+abbrev pub output_opened : SpecJob → Channel → ℕ → Moment → Place → ℕ → Option SpecInput → Option SpecVersion
+    → SpecOutput
 output_opened job c e moment place digit input None =
     record {
       place = place;

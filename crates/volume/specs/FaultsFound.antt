@@ -48,7 +48,8 @@ IsFaultOfFile size layout contents reached place prime BadLog = ⊥
 IsFaultOfFile size layout contents reached place prime (BadDirectory n) = ⊥
 IsFaultOfFile size layout contents reached place prime (BadRetrieval n) = IsBadVersion size contents layout prime n
     ⊎ ((n ≡ prime) × IsOtherPlace layout contents place prime)
-IsFaultOfFile size layout contents reached place prime (BlockTwice n) = IsReachedTwice layout contents place prime reached n
+IsFaultOfFile size layout contents reached place prime (BlockTwice n) =
+    IsReachedTwice layout contents place prime reached n
 IsFaultOfFile size layout contents reached place prime (TableWrong n) = ⊥
 IsFaultOfFile size layout contents reached place prime Device = Unit {0}
 IsFaultOfFile size layout contents reached place prime NoMemory = Unit {0}
@@ -67,7 +68,8 @@ pub record IsBadFileOf (size layout : ℕ) (contents : Contents) (ppn : ℕ) (en
         ⊎ ((n ≡ prime) × IsOtherPlace layout contents (place_of ppn name) prime)
 
 -- Block n is a damaged data block.
-pub record IsBadDataOf (layout : ℕ) (contents : Contents) (ppn : ℕ) (entries : List SpecFileEntry) (n : ℕ) : Type 0 where
+pub record IsBadDataOf (layout : ℕ) (contents : Contents) (ppn : ℕ) (entries : List SpecFileEntry) (n : ℕ) : Type
+    0 where
   pub name : FileName
   pub prime : ℕ
   pub entry : find name_cmp name entries ≡ Some prime
@@ -87,7 +89,8 @@ IsFaultOfFiles size layout contents marks ppn entries BadHome = ⊥
 IsFaultOfFiles size layout contents marks ppn entries BadLog = ⊥
 IsFaultOfFiles size layout contents marks ppn entries (BadDirectory n) = ⊥
 IsFaultOfFiles size layout contents marks ppn entries (BadRetrieval n) = IsBadFileOf size layout contents ppn entries n
-IsFaultOfFiles size layout contents marks ppn entries (BlockTwice n) = IsTwiceInFiles layout contents marks ppn entries n
+IsFaultOfFiles size layout contents marks ppn entries (BlockTwice n) =
+    IsTwiceInFiles layout contents marks ppn entries n
 IsFaultOfFiles size layout contents marks ppn entries (TableWrong n) = ⊥
 IsFaultOfFiles size layout contents marks ppn entries Device = Unit {0}
 IsFaultOfFiles size layout contents marks ppn entries NoMemory = Unit {0}
@@ -121,7 +124,8 @@ IsFaultOfDirectory size layout contents marks ppn first BadLog = ⊥
 IsFaultOfDirectory size layout contents marks ppn first (BadDirectory n) = IsBadFileChain size contents first n
 IsFaultOfDirectory size layout contents marks ppn first (BadRetrieval n) = IsInChain contents first
     (λ entries. IsBadFileOf size layout contents ppn entries n)
-IsFaultOfDirectory size layout contents marks ppn first (BlockTwice n) = IsTwiceInDirectory layout contents marks ppn first n
+IsFaultOfDirectory size layout contents marks ppn first (BlockTwice n) =
+    IsTwiceInDirectory layout contents marks ppn first n
 IsFaultOfDirectory size layout contents marks ppn first (TableWrong n) = ⊥
 IsFaultOfDirectory size layout contents marks ppn first Device = Unit {0}
 IsFaultOfDirectory size layout contents marks ppn first NoMemory = Unit {0}
@@ -154,7 +158,8 @@ IsFaultOfDirectories size layout contents marks entries (BadDirectory n) = IsInE
     (λ ppn first. IsBadFileChain size contents first n)
 IsFaultOfDirectories size layout contents marks entries (BadRetrieval n) = IsInEntry entries
     (λ ppn first. IsInChain contents first (λ files. IsBadFileOf size layout contents ppn files n))
-IsFaultOfDirectories size layout contents marks entries (BlockTwice n) = IsTwiceInDirectories layout contents marks entries n
+IsFaultOfDirectories size layout contents marks entries (BlockTwice n) =
+    IsTwiceInDirectories layout contents marks entries n
 IsFaultOfDirectories size layout contents marks entries (TableWrong n) = ⊥
 IsFaultOfDirectories size layout contents marks entries Device = Unit {0}
 IsFaultOfDirectories size layout contents marks entries NoMemory = Unit {0}

@@ -48,7 +48,8 @@ pub record AreFilesRead (layout : ℕ) (contents : Contents) (ppn : ℕ) (entrie
   pub marked : (n : ℕ) → marks' n ≡ marks n + total (λ e. reaches_in_file n e.1) found
 
 -- The chain and the files of a directory that this entry names, as they were read.
-pub record IsEntryRead (layout : ℕ) (contents : Contents) (entry : SpecMasterEntry) (directory : ReadDirectory) : Type 0 where
+pub record IsEntryRead (layout : ℕ) (contents : Contents) (entry : SpecMasterEntry) (directory : ReadDirectory) : Type
+    0 where
   pub walk : LeadsAlong file_words contents entry.1.1 directory.nodes directory.last
   pub once : EachOnce name_cmp directory.files
   pub files : AllByRecursion (IsFileRead layout contents entry.0 (items directory.nodes)) directory.files

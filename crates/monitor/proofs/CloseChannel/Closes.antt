@@ -52,7 +52,8 @@ closed_as c bits = record c {
 
 module _ (w : UnderKeys) (c : OpenChannel) (bits : ℕ) (unpublished : publishes_at (Some c) bits ≡ false) where
   machine_unpublished : publishes (channel_of w c) bits ≡ false
-  machine_unpublished = ap (λ b. b && not (keeps_output bits) && not (discards bits)) (is_some-map (output_of w) c.output)
+  machine_unpublished = ap (λ b. b && not (keeps_output bits) && not (discards bits))
+      (is_some-map (output_of w) c.output)
       ∙ unpublished
 
   input_is : (k p : Bool) (held : Option machine.SpecInput) → p ≡ false
@@ -234,7 +235,8 @@ ends_is c bits released is ends marks =
     by (Some i) true b = refl
     by (Some i) false b = refl
 
-pub closed_back : (job job' : Job) (number bits : ℕ) (c : OpenChannel) (core : List ℕ) (status : ℕ) (input : Option Input)
+pub closed_back : (job job' : Job) (number bits : ℕ) (c : OpenChannel) (core : List ℕ) (status : ℕ)
+    (input : Option Input)
     (output : Option Output) → status ≡ cleared c.status → input ≡ input_left c.input bits
     → output ≡ output_left c.output bits
     → job' ≡ record job {

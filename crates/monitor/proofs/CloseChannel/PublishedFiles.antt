@@ -84,7 +84,8 @@ copies-put files place v k = by (get files place.ppn) refl
         omega arith
 
 -- a version with a serial that none has
-pub distinct_put : (files : Files SpecVersion) (place : Place) (v : SpecVersion) → HaveDistinctSerials (versions_in files)
+pub distinct_put : (files : Files SpecVersion) (place : Place) (v : SpecVersion)
+    → HaveDistinctSerials (versions_in files)
     → has_serial v.serial (versions_in files) ≡ false → HaveDistinctSerials (versions_in (with_file files place v))
 distinct_put files place v distinct fresh = few_distinct (versions_in (with_file files place v))
     (λ k. by k (v.serial == k) refl)

@@ -123,7 +123,8 @@ pub record PublishRows (d : DiskState) (call : Call) (jobs : List (Option Job)) 
   pub unread : (files : Files SpecVersion) (w : UnderKeys) (serial : ℕ) → last_at job.core c ≡ None
       → step (pack_of d) serial (state_of files w jobs) (Calls n call moment) ≡ (AddressCheck, state_of files w jobs)
   -- its words find no place
-  pub crowded : (files : Files SpecVersion) (w : UnderKeys) (serial : ℕ) (last : List ℕ) → last_at job.core c ≡ Some last
+  pub crowded : (files : Files SpecVersion) (w : UnderKeys) (serial : ℕ) (last : List ℕ)
+      → last_at job.core c ≡ Some last
       → finds_no_place (pack_of d) (state_of files w jobs) (output_of w o) (length last) ≡ true
       → step (pack_of d) serial (state_of files w jobs) (Calls n call moment)
       ≡ (
@@ -140,7 +141,8 @@ pub record PublishRows (d : DiskState) (call : Call) (jobs : List (Option Job)) 
 
 -- it isn't decided before memory and the disk are needed
 pub undecided : {d : DiskState} {call : Call} {jobs : List (Option Job)} {n : ℕ} {moment : Moment} {job : Job}
-    {number : ℕ} {c : OpenChannel} {o : Output} → PublishRows d call jobs n moment job number c o → (files : Files SpecVersion)
+    {number : ℕ} {c : OpenChannel} {o : Output} → PublishRows d call jobs n moment job number c o
+        → (files : Files SpecVersion)
     (w : UnderKeys) (last : List ℕ) → last_at job.core c ≡ Some last
     → is_plain ((step (pack_of d) 0 (state_of files w jobs) (Calls n call moment)).0) ≡ false
 undecided {d} {call} {jobs} {n} {moment} {job} {number} {c} {o} rows files w last found =
@@ -293,7 +295,8 @@ module _ (d : DiskState) (jobs : List (Option Job)) (n : ℕ) (moment : Moment)
   release_after w serial =
       with_channel (record (job_of w job) { core = core_closed job.core (channel_of w c) 0 }) number None
 
-  release_heavy : (files : Files SpecVersion) (w : UnderKeys) → is_light (state_of files w jobs) n (Releas number) ≡ false
+  release_heavy : (files : Files SpecVersion) (w : UnderKeys)
+      → is_light (state_of files w jobs) n (Releas number) ≡ false
   release_heavy files w = weighs files w 0 ∙ ap not (machine_publishes w c o 0 side refl refl)
 
   release_row_is : (files : Files SpecVersion) (w : UnderKeys) (serial : ℕ)

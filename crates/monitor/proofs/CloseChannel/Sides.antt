@@ -112,7 +112,8 @@ ends_output : (w : UnderKeys) (channel : OpenChannel) (o : Output) (bits : ℕ) 
     → keeps_output bits ≡ false → (is_some (option_map (output_of w) channel.output) && not (keeps_output bits)) ≡ true
 ends_output w channel o bits side drops = λ i. is_some (option_map (output_of w) (side i)) && not (drops i)
 
-ends_input : (w : UnderKeys) (channel : OpenChannel) (bits : ℕ) → (if keeps_input bits then channel.input else None) ≡ None
+ends_input : (w : UnderKeys) (channel : OpenChannel) (bits : ℕ)
+    → (if keeps_input bits then channel.input else None) ≡ None
     → (is_some (option_map (input_of w) channel.input) && not (keeps_input bits)) ≡ is_some channel.input
 ends_input w channel bits none = ap (λ b. b && not (keeps_input bits)) (is_some-map (input_of w) channel.input)
     ∙ input_ends channel.input (keeps_input bits) none

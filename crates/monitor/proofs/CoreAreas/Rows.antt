@@ -157,7 +157,8 @@ enter_within pack s job number c e moment =
     (λ no. refused_within job e 1 (enter_answer pack s job c e (place_at job e)))
 
 -- a row that, if it is Done, leaves core as it was
-pub refuses_within : (job done : SpecJob) (files were : Files SpecVersion) (e : ℕ) (answer : Reply) → done.core ≡ job.core
+pub refuses_within : (job done : SpecJob) (files were : Files SpecVersion) (e : ℕ) (answer : Reply)
+    → done.core ≡ job.core
     → FilesWithin (words_at (e + 1) 1 ∷ []) job (settled answer (done, files) (λ reply. (refused_at job e reply, were)))
 refuses_within job done files were e answer same =
     settled_by (FilesWithin (words_at (e + 1) 1 ∷ []) job) answer (done, files)
@@ -283,7 +284,8 @@ closed_within core c bits =
         (header_closed core c.input_header input) (closed_miss core output c.output_header address out.0)
         (closed_miss core input c.input_header address out.1.0))
 
-pub closes_within : (job done : SpecJob) (files were : Files SpecVersion) (number : ℕ) (c : Channel) (bits : ℕ) (answer : Reply)
+pub closes_within : (job done : SpecJob) (files were : Files SpecVersion) (number : ℕ) (c : Channel) (bits : ℕ)
+    (answer : Reply)
     → done.core ≡ core_closed job.core c bits
     → FilesWithin (areas_closed c bits) job
     (settled answer (done, files) (λ reply. (stopped_in job number c reply, were)))

@@ -86,7 +86,8 @@ module _ (d : DiskState) (c : MemoryMap) (files : Files SpecVersion) (w : UnderK
     pub none_of : IsNowhere d owner → get files owner ≡ None
     none_of nowhere = by (get files owner) (sym (shown_at files owner) ∙ nowhere honest (without_serials files) rests)
       where
-        by : (was : Option (Directory SpecVersion)) → option_map (map_directory (λ (v : SpecVersion). v.file)) was ≡ None
+        by : (was : Option (Directory SpecVersion)) → option_map (map_directory (λ (v : SpecVersion). v.file))
+            was ≡ None
             → was ≡ None
         by None is = refl
         by (Some x) is = cc is

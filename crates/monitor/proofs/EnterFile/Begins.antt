@@ -57,9 +57,11 @@ pub record IsKnownAs (files : Files SpecVersion) (ppn : ℕ) (name : FileName) (
   pub absent : is_absent name known ≡ is_none (get directory.files name)
   pub few : (v : SpecVersion) → get directory.files name ≡ Some v → v.file.protection < 512
 
-module _ (d : DiskState) (map : MemoryMap) (files : Files SpecVersion) (holds : Holds d map.known (without_serials files))
+module _ (d : DiskState) (map : MemoryMap) (files : Files SpecVersion)
+    (holds : Holds d map.known (without_serials files))
     (whole : IsWholeMap d.size map.known) (ppn : ℕ) where
-  pub listed : (x : Directory SpecVersion) → get files ppn ≡ Some x → find nat_cmp ppn map.known.master.entries ≡ None → ⊥
+  pub listed : (x : Directory SpecVersion) → get files ppn ≡ Some x → find nat_cmp ppn map.known.master.entries ≡ None
+      → ⊥
   listed x there none = some_none (sym (shown_at files ppn
       ∙ ap (option_map (map_directory (λ (v : SpecVersion). v.file))) there)
       ∙ directory_none d map.known (without_serials files) holds ppn none)
@@ -139,7 +141,8 @@ begin_reply (Ok Update) new_full old_full = if old_full then Refused 0o14 else D
 begin_reply (Ok Append) new_full old_full = if old_full then Refused 0o14 else Done
 
 -- the same as the machine has it
-abbrev pub begin_at : ℕ → ℕ → FileName → Option (Directory SpecVersion) → machine.SpecJob → Bool → Bool → Bool → Bool → Reply
+abbrev pub begin_at : ℕ → ℕ → FileName → Option (Directory SpecVersion) → machine.SpecJob → Bool → Bool → Bool → Bool
+    → Reply
 begin_at who owner name o job is_zero claimed new_full old_full =
     if is_none o then Refused 1
     else if is_zero then Refused 0

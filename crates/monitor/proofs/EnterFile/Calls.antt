@@ -54,7 +54,8 @@ creates_new : (is_new : Bool) → is_new ≡ is_create (kind_of (entering.entere
 creates_new true = refl
 creates_new false = refl
 
-module _ (w : UnderKeys) (job : Job) (c : OpenChannel) (e : ℕ) (moment : Moment) (q : Place) (digit : ℕ) (kind : OutputKind)
+module _ (w : UnderKeys) (job : Job) (c : OpenChannel) (e : ℕ) (moment : Moment) (q : Place) (digit : ℕ)
+    (kind : OutputKind)
     (prime : Prime) (directory : ℕ) (mode : mode_number prime.mode ≡ mode_number c.mode)
     (at : prime.moment ≡ moment) where
   file_is : (protection : ℕ) → prime.protection ≡ protection → new_file protection (channel_of w c) moment

@@ -170,7 +170,8 @@ module _ (d : DiskState) (map : MemoryMap) (s : State) (known : IsKnown d map s)
     pub named : IsNamed directory place.name old
     pub is_new : is_create kind ≡ is_none old
     pub answer : begin_answer_at (pack_of d) s (job_of w job) place
-        ≡ (if full kind place directory old || past kind place directory old then replies.Refused 0o14 else replies.Done)
+        ≡ (if full kind place directory old || past kind place directory old then replies.Refused 0o14
+            else replies.Done)
 
   pub begins : (w : UnderKeys) (job : Job) (place : Place) (kind : PendingKind) → may job.ppn place ≡ Ok kind
       → Begins w job place (begins_as place)
@@ -179,7 +180,8 @@ module _ (d : DiskState) (map : MemoryMap) (s : State) (known : IsKnown d map s)
       == 0) (claims map.pending place)) (shown_at s.files place.ppn)) ∙ is)
     where
       -- by what is there
-      by_room : (x : CurrentDirectory) (D : Directory SpecVersion) → get s.files place.ppn ≡ Some D → entry_count s place.ppn
+      by_room : (x : CurrentDirectory) (D : Directory SpecVersion) → get s.files place.ppn ≡ Some D
+          → entry_count s place.ppn
           ≡ entries_with map x place.ppn → (old : Before) → (was : Option SpecVersion) → get D.files place.name ≡ was
           → is_none old ≡ is_none was → may job.ppn place ≡ Ok kind
           → (is_none was ≡ true → kind ≡ kinds.Create) → (is_none was ≡ false → kind ≡ kinds.Supersede)
@@ -212,7 +214,8 @@ module _ (d : DiskState) (map : MemoryMap) (s : State) (known : IsKnown d map s)
           )
 
       by : (was : Option (Directory SpecVersion)) → get s.files place.ppn ≡ was
-          → allowed (found_in (option_map (map_directory (λ (v : SpecVersion). v.file)) was) place.name) job.ppn place.ppn
+          → allowed (found_in (option_map (map_directory (λ (v : SpecVersion). v.file)) was) place.name) job.ppn
+              place.ppn
           (place.name.name == 0) (claims map.pending place) ≡ Ok kind → Begins w job place (begins_as place)
       by None at ok = cc ok
       by (Some D) at ok =
@@ -249,7 +252,8 @@ module _ (d : DiskState) (map : MemoryMap) (s : State) (known : IsKnown d map s)
         → begin_answer_at (pack_of d) s (job_of w job) place ≡ replies.Refused 0o14
     limited many = b.answer ∙ either (full kind place b.directory b.old) (past kind place b.directory b.old) many
       where
-        either : (a b : Bool) → b ≡ true → (if a || b then replies.Refused 0o14 else replies.Done) ≡ replies.Refused 0o14
+        either : (a b : Bool) → b ≡ true → (if a || b then replies.Refused 0o14 else replies.Done) ≡ replies.Refused
+            0o14
         either true b is = refl
         either false b is = ap (λ t. if t then replies.Refused 0o14 else replies.Done) is
 
@@ -272,7 +276,8 @@ module _ (d : DiskState) (map : MemoryMap) (s : State) (known : IsKnown d map s)
         absurd (both_ways (is_create kind) (sym absent_is ∙ said.1) said.0))
         (⊎_elim (λ is. let said = none (ap errors.Refused is) in
         absurd (both_ways (is_create kind) said.0 (sym absent_is ∙ said.1)))
-        (λ is. b.answer ∙ ap (λ t. if t || past kind place b.directory b.old then replies.Refused 0o14 else replies.Done)
+        (λ is. b.answer ∙ ap (λ t. if t || past kind place b.directory b.old then replies.Refused 0o14
+            else replies.Done)
         (less _ _ (many (ap errors.Refused is))) ∙ ap (λ c. replies.Refused (number_of c)) (sym is))))
         (codes code refl)
     not_begun X errors.Device gone exists none many codes device failed = device refl

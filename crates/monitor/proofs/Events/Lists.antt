@@ -36,7 +36,8 @@ module _ (s : State) (jobs : List (Option SpecJob)) (n owner : ℕ) (job : SpecJ
   asked : list s n owner ≡ listed job owner (get s.files owner)
   asked = ap (λ o. list_for s o owner) (ap (λ slots. slot slots n) jobs_are ∙ there)
 
-  shown : get (without_serials s.files) owner ≡ option_map (map_directory (λ (v : SpecVersion). v.file)) (get s.files owner)
+  shown : get (without_serials s.files) owner ≡ option_map (map_directory (λ (v : SpecVersion). v.file))
+      (get s.files owner)
   shown = get-map_values nat_cmp_total (map_directory (λ (v : SpecVersion). v.file)) s.files owner
 
   -- the volume has no such directory
@@ -44,7 +45,8 @@ module _ (s : State) (jobs : List (Option SpecJob)) (n owner : ℕ) (job : SpecJ
       → list s n owner ≡ Err (replies.Refused 1)
   absent error answer = by_directory (get s.files owner) refl
     where
-      by_directory : (o : Option (Directory SpecVersion)) → get s.files owner ≡ o → list s n owner ≡ Err (replies.Refused 1)
+      by_directory : (o : Option (Directory SpecVersion)) → get s.files owner ≡ o
+          → list s n owner ≡ Err (replies.Refused 1)
       by_directory None none = asked ∙ ap (listed job owner) none
       by_directory (Some d) some =
           let is : Err error ≡ Ok d.protection = answer

@@ -116,7 +116,8 @@ free_still w c free = ap (option_map (output_of w)) free
 
 module _ (s : State) (w : UnderKeys) (job : Job) (number e : ℕ) (c : OpenChannel) (there : slot job.channels number
     ≡ Some c) where
-  answered : (job' : machine.SpecJob) (reply : Reply) → IsLookupRow s (job_of w job) job' (Some (channel_of w c)) e reply
+  answered : (job' : machine.SpecJob) (reply : Reply) → IsLookupRow s (job_of w job) job' (Some (channel_of w c)) e
+      reply
       → IsLookupRow s (job_of w job) job' (channel_at (job_of w job) number) e reply
   answered job' reply is = subst (λ o. IsLookupRow s (job_of w job) job' o e reply)
       (sym (channel_is w job number (Some c) there)) is
@@ -132,6 +133,7 @@ module _ (s : State) (w : UnderKeys) (job : Job) (number e : ℕ) (c : OpenChann
       (answered (job_of w (record job { core = core })) (Refused (number_of code))
       (is, λ not. ap (λ words. job_of w (record job { core = words })) put))
 
-  pub done : (job' : machine.SpecJob) → lookup_answer s (job_of w job) (channel_of w c) e (place_at (job_of w job) e) ≡ Done
+  pub done : (job' : machine.SpecJob) → lookup_answer s (job_of w job) (channel_of w c) e
+      (place_at (job_of w job) e) ≡ Done
       → IsLookupRow s (job_of w job) job' (channel_at (job_of w job) number) e Done
   done job' is = answered job' Done (is, λ not. absurd (not refl))

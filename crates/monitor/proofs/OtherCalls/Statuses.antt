@@ -12,6 +12,7 @@ module _ (job : Job) (number : ℕ) where
   pub status_none : slot job.channels number ≡ None → IsRow job job (Getsts number) NoChannel
   status_none none pack serial s n w moment at = on_none s n w job number (λ c. (Value c.status, s)) none at
 
-  pub status_there : (c : OpenChannel) → slot job.channels number ≡ Some c → IsRow job job (Getsts number) (Value c.status)
+  pub status_there : (c : OpenChannel) → slot job.channels number ≡ Some c
+      → IsRow job job (Getsts number) (Value c.status)
   status_there c there pack serial s n w moment at = ap (λ o. on_channel s o (λ x. (Value x.status, s)))
       (channel_is w job number (Some c) there) ∙ ap (λ t. (Value c.status, t)) (job_same s n _ at)

@@ -81,7 +81,8 @@ module _ (job : Job) (number block : ℕ) where
 
     -- what it keeps
 
-    same_count : (x : OpenChannel) → ((key : ℕ) → count key (option_to_list x.output) ≡ count key (option_to_list c.output))
+    same_count : (x : OpenChannel)
+        → ((key : ℕ) → count key (option_to_list x.output) ≡ count key (option_to_list c.output))
         → (key : ℕ) → count key (option_to_list (side_of (Some x)))
         ≡ count key (option_to_list (side_of (slot job.channels number)))
     same_count x same key = same key ∙ ap (λ p. count key (option_to_list (side_of p))) (sym there)

@@ -109,7 +109,8 @@ module _ (job : Job) (ch a : ℕ) where
             none
             ∙ without (option_map (input_of w) c.input)
           where
-            without : (i : Option machine.SpecInput) → by_core w i (side_out w) true buffered ready (dump_list job.core a)
+            without : (i : Option machine.SpecInput) → by_core w i (side_out w) true buffered ready
+                (dump_list job.core a)
                 ≡ (Refused 5, job_of w job)
             without None = refl
             without (Some i) = refl

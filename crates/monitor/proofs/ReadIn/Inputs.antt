@@ -27,7 +27,8 @@ take_front (suc c) (suc m) [] less = refl
 take_front (suc c) (suc m) (x ∷ xs) less = ap (λ ys. x ∷ ys) (take_front c m xs (omega arith))
 
 -- no more words are dealt out than the areas have
-pub dealt_enough : (areas : List Area) (words : List ℕ) → dealt areas (take (word_count areas) words) ≡ dealt areas words
+pub dealt_enough : (areas : List Area) (words : List ℕ)
+    → dealt areas (take (word_count areas) words) ≡ dealt areas words
 dealt_enough [] words = refl
 dealt_enough (area ∷ areas) words =
     rw (

@@ -160,7 +160,8 @@ reads_channel live job number c there x core same still = record {
 }
 
 -- after words are read
-module _ (job : Job) (number : ℕ) (c : OpenChannel) (there : slot job.channels number ≡ Some c) (i : Input) (side : c.input
+module _ (job : Job) (number : ℕ) (c : OpenChannel) (there : slot job.channels number ≡ Some c) (i : Input)
+    (side : c.input
     ≡ Some i) (count : ℕ) where
   still_reads : IsReader c → IsReader (read_on c i count)
   still_reads was j is =

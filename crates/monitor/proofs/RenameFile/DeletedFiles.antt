@@ -25,7 +25,8 @@ pub files_left : (files : Files SpecVersion) (place : Place)
     → without_serials (without_file files place) ≡ files_removed (without_serials files) place.ppn place.name
 files_left files place = by (get files place.ppn) refl
   where
-    by : (o : Option (Directory SpecVersion)) → get files place.ppn ≡ o → without_serials (without_file_in o files place)
+    by : (o : Option (Directory SpecVersion)) → get files place.ppn ≡ o
+        → without_serials (without_file_in o files place)
         ≡ files_without (get (without_serials files) place.ppn) (without_serials files) place.ppn place.name
     by None is = ap (λ o. files_without o (without_serials files) place.ppn place.name)
         (sym (shown_at files place.ppn ∙ ap (option_map shown) is))

@@ -342,7 +342,8 @@ module _ (d : DiskState) (c : MemoryMap) (s : State) (known : IsKnown d c s) (so
     pub moves_limited : allows ≡ false → rename_from pack s job e old ≡ replies.Refused 0o14
     moves_limited refuses = from_room ∙ either (crowds pack s old new) (overfills s old new) (refuses_it refuses)
       where
-        either : (a b : Bool) → b ≡ true → (if a || b then replies.Refused 0o14 else replies.Done) ≡ replies.Refused 0o14
+        either : (a b : Bool) → b ≡ true → (if a || b then replies.Refused 0o14 else replies.Done) ≡ replies.Refused
+            0o14
         either true b is = refl
         either false b is = ap (λ t. if t then replies.Refused 0o14 else replies.Done) is
 

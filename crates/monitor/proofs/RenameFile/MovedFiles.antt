@@ -40,7 +40,8 @@ shown_file files place = ap (λ o. volume.file_in o place.name) (shown_at files 
     by (Some d) = get-map_values name_total (λ (v : SpecVersion). v.file) d.files place.name
 
 -- The volume moves it as the machine does.
-pub shown_moved : (files : Files SpecVersion) (old new : Place) (protection : ℕ) (x : SpecVersion) → file_at files old ≡ Some x
+pub shown_moved : (files : Files SpecVersion) (old new : Place) (protection : ℕ) (x : SpecVersion)
+    → file_at files old ≡ Some x
     → without_serials (files_moved files old new protection (Some x))
     ≡ volume.files_moved (without_serials files) old.ppn old.name new.ppn new.name protection
 shown_moved files old new protection x at =
@@ -61,7 +62,8 @@ same_or_another p q = ⊎_elim
     (same_or_other nat_cmp_total nat_cmp-IsAntisymmetric p.ppn q.ppn)
 
 -- if a directory is there, a file that is put into it is found,
-put_there : (files : Files SpecVersion) (place : Place) (d : Directory SpecVersion) (v : SpecVersion) → get files place.ppn ≡ Some d
+put_there : (files : Files SpecVersion) (place : Place) (d : Directory SpecVersion) (v : SpecVersion)
+    → get files place.ppn ≡ Some d
     → file_at (with_file files place v) place ≡ Some v
 put_there files place d v is =
     let new : Directory SpecVersion = record d { files = insert d.files place.name v } in
@@ -102,7 +104,8 @@ copies_new k files place d v is none =
     omega arith
 
 -- The move.
-module _ (files : Files SpecVersion) (old new : Place) (protection : ℕ) (x : SpecVersion) (at : file_at files old ≡ Some x)
+module _ (files : Files SpecVersion) (old new : Place) (protection : ℕ) (x : SpecVersion)
+    (at : file_at files old ≡ Some x)
     (d : Directory SpecVersion) (housed : get files new.ppn ≡ Some d) where
   abbrev pub moved : Files SpecVersion
   moved = files_moved files old new protection (Some x)

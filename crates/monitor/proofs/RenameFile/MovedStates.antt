@@ -69,7 +69,8 @@ module _ (c b c' : MemoryMap) (jobs : List (Option Job)) (n : ℕ) (job job' : J
               (same_or_another new old),
         )) placed)
 
-    module _ (d d' : DiskState) (s : State) (state : IsState d c jobs s) (whole : IsWholeMemory d.size c) (x : SpecVersion)
+    module _ (d d' : DiskState) (s : State) (state : IsState d c jobs s) (whole : IsWholeMemory d.size c)
+        (x : SpecVersion)
         (at : file_at s.files old ≡ Some x) (home : Directory SpecVersion) (housed : get s.files to_ppn ≡ Some home)
         (absent : new ≢ old → file_at s.files new ≡ None)
         (rests : RestsAt d' (volume.files_moved (without_serials s.files) ppn name to_ppn to protection))

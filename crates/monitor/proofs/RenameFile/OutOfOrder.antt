@@ -20,7 +20,8 @@ module _ (job : Job) (number e : ℕ) where
 
   module _ (c : OpenChannel) (there : slot job.channels number ≡ Some c) where
     -- by whether the words are not all there, and by the input side
-    abbrev renamed : Pack → State → UnderKeys → Bool → Option machine.SpecInput → Reply × (machine.SpecJob × Files SpecVersion)
+    abbrev renamed : Pack → State → UnderKeys → Bool → Option machine.SpecInput → Reply
+        × (machine.SpecJob × Files SpecVersion)
     renamed pack s w outside side =
         settled (if outside then AddressCheck else rename_sides pack s (job_of w job) e side (channel_of w c).output) (
           rename_done (job_of w job) number (channel_of w c),

@@ -26,7 +26,8 @@ module _ (d : DiskState) (files : Files SpecVersion) (w : UnderKeys) (jobs : Lis
     none_of : IsNowhere d owner → is_none (get files owner) ≡ true
     none_of nowhere = by (get files owner) (sym (shown_at files owner) ∙ nowhere honest (without_serials files) rests)
       where
-        by : (was : Option (Directory SpecVersion)) → option_map (map_directory (λ (v : SpecVersion). v.file)) was ≡ None
+        by : (was : Option (Directory SpecVersion)) → option_map (map_directory (λ (v : SpecVersion). v.file))
+            was ≡ None
             → is_none was ≡ true
         by None is = refl
         by (Some x) is = cc is

@@ -102,7 +102,8 @@ module _ (files : Files SpecVersion) (owner quota : ℕ) where
   shown_by : (o : Option (Directory SpecVersion)) → without_serials (with_quota files owner quota o)
       ≡ with_quota (without_serials files) owner quota (option_map (map_directory (λ (v : SpecVersion). v.file)) o)
   shown_by None = refl
-  shown_by (Some D) = map_values-insert nat_cmp_total nat_cmp-IsAntisymmetric (map_directory (λ (v : SpecVersion). v.file)) files owner
+  shown_by (Some D) = map_values-insert nat_cmp_total nat_cmp-IsAntisymmetric
+      (map_directory (λ (v : SpecVersion). v.file)) files owner
       (record D { quota = quota })
 
   pub shown_limited : without_serials (files_limited files owner quota)

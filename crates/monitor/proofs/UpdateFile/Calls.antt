@@ -86,7 +86,8 @@ as_monitor place v kind blocks = record {
   next = first_block kind blocks;
 }
 
-side_updating : (digit : ℕ) (place : Place) (v : SpecVersion) (kind : PendingKind) (blocks : ℕ) → kind ≡ update_kind digit
+side_updating : (digit : ℕ) (place : Place) (v : SpecVersion) (kind : PendingKind) (blocks : ℕ)
+    → kind ≡ update_kind digit
     → (kind ≡ kinds.Append → blocks ≡ blocks_of (length v.file.body))
     → output_updating digit place v ≡ as_monitor place v kind blocks
 side_updating digit place v kind blocks is kept = by (may_update digit) refl

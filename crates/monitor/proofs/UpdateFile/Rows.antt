@@ -119,7 +119,8 @@ few_kept size c c' key kind prime whole begins p at =
     subst (λ (q : PendingVersion). q.kept_blocks + 1 < 2 ^ 32) (some_same (sym begins.here ∙ at))
     (by kind begins.old begins.named)
   where
-    by : (k : PendingKind) (prior : Before) → IsNamed begins.directory prime.file prior → kept_blocks k prior + 1 < 2 ^ 32
+    by : (k : PendingKind) (prior : Before) → IsNamed begins.directory prime.file prior
+        → kept_blocks k prior + 1 < 2 ^ 32
     by Create prior named = omega arith
     by Supersede prior named = omega arith
     by Update prior named = omega arith

@@ -58,7 +58,8 @@ updates (found.Present p q) who owner is_zero claimed kind is =
     ∙ kind_updates (file_digit q who owner)
 
 -- in the way that the job's digit for it allows
-pub kind_is : (o : Option (Directory File)) (name : FileName) (who owner : ℕ) (is_zero claimed : Bool) (kind : PendingKind)
+pub kind_is : (o : Option (Directory File)) (name : FileName) (who owner : ℕ) (is_zero claimed : Bool)
+    (kind : PendingKind)
     → allowed_update (found_in o name) who owner is_zero claimed ≡ Ok kind
     → kind ≡ update_kind (digit_for who owner (named_in o name))
 kind_is None name who owner is_zero claimed kind is = cc is
@@ -183,7 +184,8 @@ module _ (d : DiskState) (map : MemoryMap) (s : State) (known : IsKnown d map s)
     pub there : IsDirectoryOf map place.ppn home
     pub found : find nat_cmp place.ppn map.known.master.entries ≡ None → ⊥
     pub present : is_absent place.name home ≡ false
-    pub answer : update_answer_at (pack_of d) s (job_of w job) place ≡ (if full file || past place file then Refused 0o14 else Done)
+    pub answer : update_answer_at (pack_of d) s (job_of w job)
+        place ≡ (if full file || past place file then Refused 0o14 else Done)
 
   pub update_at_file : (w : UnderKeys) (job : Job) (place : Place) (kind : PendingKind) → may job.ppn place ≡ Ok kind
       → Updates w job place
@@ -210,7 +212,8 @@ module _ (d : DiskState) (map : MemoryMap) (s : State) (known : IsKnown d map s)
             found = listed d map s.files holds sound.whole.map place.ppn D at;
             present = h.absent ∙ ap is_none name;
             answer = reply_is w job place
-                ∙ ap (λ r. update_reply r (exceeds_limits (pack_of d) s place.ppn (present_cost (file_at s.files place)))) is
+                ∙ ap (λ r. update_reply r
+                    (exceeds_limits (pack_of d) s place.ppn (present_cost (file_at s.files place)))) is
                 ∙ (λ i. if nat_lt (space d.size) (known.booked_is i + present_cost (here i))
                 || exceeds_left s place.ppn (present_cost (here i)) then Refused 0o14 else Done);
           }

@@ -44,7 +44,8 @@ module _ (job : Job) (ch a : ℕ) where
       none at
 
   -- the row of an open channel, by its side and by what it finds
-  abbrev by_side : OpenChannel → Pack → State → UnderKeys → Option machine.SpecOutput → Option Outgoing → Reply × machine.SpecJob
+  abbrev by_side : OpenChannel → Pack → State → UnderKeys → Option machine.SpecOutput → Option Outgoing → Reply
+      × machine.SpecJob
   by_side c pack s w o found = settled (put_answer pack s (channel_of w c) o found)
       (put_done (job_of w job) ch (channel_of w c) found) (stopped_in (job_of w job) ch (channel_of w c))
 

@@ -101,7 +101,8 @@ module _ (map : MemoryMap) (s : State) (limits : LimitsAre map s) (p : PendingVe
           λ i. not (some i) && left i
 
 module _ (d : DiskState) (map : MemoryMap) (s : State) (w : UnderKeys) (o : Output) (p : PendingVersion)
-    (is : IsWriting d p (w.written o.pending.key)) (books : booked s ≡ map.known.table.booked) (limits : LimitsAre map s)
+    (is : IsWriting d p (w.written o.pending.key)) (books : booked s ≡ map.known.table.booked)
+        (limits : LimitsAre map s)
     (n : ℕ) where
   test_is : finds_no_place (pack_of d) s (output_of w o) n
       ≡ crowds n (length_after p.version.words o.next n) (space d.size) (map.known.table.booked + rise p o.next n)
@@ -147,7 +148,8 @@ set_alike f g xs n y z same =
     ∙ map_set g xs n y) ∙ set-twice (map g xs) n (g y) z
 
 module _ (pending : List (Option PendingVersion)) (jobs : List (Option Job)) (n : ℕ) (job : Job) (there : slot jobs n
-    ≡ Some job) (ch : ℕ) (c : OpenChannel) (open_at : slot job.channels ch ≡ Some c) (o : Output) (side : c.output ≡ Some o)
+    ≡ Some job) (ch : ℕ) (c : OpenChannel) (open_at : slot job.channels ch ≡ Some c) (o : Output)
+        (side : c.output ≡ Some o)
     (keyed : AreKeyed pending jobs) (w : UnderKeys) (words left : List ℕ) where
   abbrev pub put_writing : Writing
   put_writing = record (w.written o.pending.key) {

@@ -31,7 +31,8 @@ own_channel : (s : State) (n : ℕ) (own : SpecJob) (ch a : ℕ) → job_at s n 
 own_channel s n own ch a there None = (refl, there)
 own_channel s n own ch a there (Some c) = (refl, slot-set_same s.jobs n (reads own ch c a).1 own there)
 
-in_own : (pack : Pack) (serial : ℕ) (s : State) (n : ℕ) (own : SpecJob) (ch a : ℕ) (moment : Moment) → job_at s n ≡ Some own
+in_own : (pack : Pack) (serial : ℕ) (s : State) (n : ℕ) (own : SpecJob) (ch a : ℕ) (moment : Moment)
+    → job_at s n ≡ Some own
     → moment.date ≤ last_date pack.layout
     → IsOwn n (read_of own ch a) (step pack serial s (Calls n (In ch a) moment))
 in_own pack serial s n own ch a moment there timely =

@@ -91,7 +91,8 @@ module _ (d : DiskState) (k : CurrentMap) (files : Files SpecVersion) (holds : H
       by (get files e.0) refl (sym (shown_at files e.0) ∙ get_is) count
     where
       by : {f : Directory File} (was : Option (Directory SpecVersion)) → get files e.0 ≡ was
-          → option_map (map_directory (λ (v : SpecVersion). v.file)) was ≡ Some f → size f.files ≡ length x.chain.entries
+          → option_map (map_directory (λ (v : SpecVersion). v.file)) was ≡ Some f
+              → size f.files ≡ length x.chain.entries
           → Matches files e.0 x
       by None is shown count = absurd (some_none (sym shown))
       by {f} (Some y) is shown count =
@@ -115,7 +116,8 @@ module _ (d : DiskState) (k : CurrentMap) (files : Files SpecVersion) (holds : H
       holds.held.known.names whole.chain.each_once
 
   -- their costs, with this many more entries in each
-  sum_is : (more : ℕ → ℕ) → sum_entries (λ ppn (x : Directory SpecVersion). directory_cost (size x.files + more ppn)) files
+  sum_is : (more : ℕ → ℕ) → sum_entries (λ ppn (x : Directory SpecVersion). directory_cost (size x.files + more ppn))
+      files
       ≡ sum_beside (λ ppn (x : CurrentDirectory). directory_cost (length x.chain.entries + more ppn)) k.master.entries
       k.directories
   sum_is more =
@@ -136,7 +138,8 @@ module _ (d : DiskState) (k : CurrentMap) (files : Files SpecVersion) (holds : H
 
   -- what creations add to it
   pub growths_are : (pending : List (Option PendingVersion))
-      → sum_entries (λ ppn (x : Directory SpecVersion). directory_cost (size x.files + total (creates ppn) pending)) files
+      → sum_entries (λ ppn (x : Directory SpecVersion). directory_cost (size x.files + total (creates ppn) pending))
+          files
       ≡ sum_entries (λ ppn (x : Directory SpecVersion). directory_cost (size x.files + 0)) files
       + growths pending k.master.entries k.directories
   growths_are pending =

@@ -83,7 +83,8 @@ job_held live jobs n job reading there key =
     omega arith
 
 -- What is read stays as it is read if readers come or go.
-pub reads_left : (d : DiskState) (c c' : MemoryMap) (files : Files SpecVersion) (read : ℕ → SpecVersion) → OnlyDrops c c'
+pub reads_left : (d : DiskState) (c c' : MemoryMap) (files : Files SpecVersion) (read : ℕ → SpecVersion)
+    → OnlyDrops c c'
     → AreRead d c files read → AreRead d c' files read
 reads_left d c c' files read leaves reads = record {
   each = λ key v at some.

@@ -26,11 +26,13 @@ LimitsAre c s = (ppn more : ℕ) → (IsOver c ppn more → exceeds_left s ppn m
 -- Whether a quota leaves what a version that is begun in a directory costs, and what a file that comes to one costs, as
 -- the volume answers.
 abbrev pub AllowsBegin : MemoryMap → ℕ → FileName → PendingKind → Bool → Type 0
-AllowsBegin c ppn name kind allows = (x : CurrentDirectory) → IsDirectoryOf c ppn x → (old : Before) → IsNamed x name old
+AllowsBegin c ppn name kind allows = (x : CurrentDirectory) → IsDirectoryOf c ppn x → (old : Before)
+    → IsNamed x name old
     → (allows ≡ false) ↔ IsOver c ppn (begin_cost kind (entries_with c x ppn) old)
 
 abbrev pub AllowsMove : MemoryMap → ℕ → FileName → ℕ → Bool → Type 0
-AllowsMove c ppn name to allows = (x y : CurrentDirectory) → IsDirectoryOf c ppn x → IsDirectoryOf c to y → (old : Before)
+AllowsMove c ppn name to allows = (x y : CurrentDirectory) → IsDirectoryOf c ppn x → IsDirectoryOf c to y
+    → (old : Before)
     → IsNamed x name old
     → (allows ≡ false) ↔ ((ppn ≡ to → ⊥) × IsOver c to (cost_before old + growth (entries_with c y to)))
 
@@ -59,7 +61,8 @@ told_by s ppn (Some d) is = λ i. Some (record {
   used = charge_in (sym is i) (pending_creations s ppn) + pending_cost_in s ppn;
 })
 
-exceeds : (quota used more : ℕ) → 0 < quota → quota < used + more → (not (quota == 0) && nat_lt quota (used + more)) ≡ true
+exceeds : (quota used more : ℕ) → 0 < quota → quota < used + more
+    → (not (quota == 0) && nat_lt quota (used + more)) ≡ true
 exceeds quota used more some past = grind (arith, nat_tests)
 
 passes : (quota used more : ℕ) → (not (quota == 0) && nat_lt quota (used + more)) ≡ true
@@ -76,7 +79,8 @@ module _ (d : DiskState) (c : MemoryMap) (s : State) (known : IsKnown d c s) whe
 
   module _ (sound : IsSoundMemory d c false) (honest : d.honest) (ppn more : ℕ) where
     told : (charge : Charge) → IsCharged c ppn charge → charge_told s ppn ≡ Some charge
-    told charge is = sym (charge_is ppn) ∙ charged_is d c sound honest (without_serials s.files) known.files ppn charge is
+    told charge is = sym (charge_is ppn) ∙ charged_is d c sound honest (without_serials s.files) known.files ppn charge
+        is
 
     over : IsOver c ppn more → exceeds_left s ppn more ≡ true
     over (charged, is, some, past) = by (get s.files ppn) refl (told charged is)
@@ -95,8 +99,10 @@ module _ (d : DiskState) (c : MemoryMap) (s : State) (known : IsKnown d c s) whe
     within : (IsOver c ppn more → ⊥) → exceeds_left s ppn more ≡ false
     within never = decide (exceeds_left s ppn more) refl
       where
-        by : (o : Option (Directory SpecVersion)) → get s.files ppn ≡ o → exceeds_left s ppn more ≡ true → IsOver c ppn more
-        by None at is = let wrong = ap (λ o. not (quota_in o == 0) && nat_lt (quota_in o) (charge s ppn + more)) (sym at)
+        by : (o : Option (Directory SpecVersion)) → get s.files ppn ≡ o → exceeds_left s ppn more ≡ true
+            → IsOver c ppn more
+        by None at is = let wrong = ap (λ o. not (quota_in o == 0) && nat_lt (quota_in o) (charge s ppn + more))
+            (sym at)
             ∙ is in cc
         by (Some x) at is =
             let there = charged_there d c sound honest (without_serials s.files) known.files ppn

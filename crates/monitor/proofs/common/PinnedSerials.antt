@@ -24,7 +24,8 @@ module _ (k : ℕ) where
   inside d = copies k (values d.files)
 
   -- a file of this serial is counted
-  is_counted : (files : Files SpecVersion) (place : Place) (x : SpecVersion) → file_at files place ≡ Some x → x.serial ≡ k
+  is_counted : (files : Files SpecVersion) (place : Place) (x : SpecVersion) → file_at files place ≡ Some x
+      → x.serial ≡ k
       → 0 < copies k (versions_in files)
   is_counted files place x at same =
       let d = directory_of_file files place x at in
@@ -89,7 +90,8 @@ not_there files place x k at none same =
 
 module _ (files : Files SpecVersion) (distinct : HaveDistinctSerials (versions_in files)) where
   -- if serials are distinct, one place has it
-  pub one_at : (p q : Place) (x y : SpecVersion) → file_at files p ≡ Some x → file_at files q ≡ Some y → x.serial ≡ y.serial
+  pub one_at : (p q : Place) (x y : SpecVersion) → file_at files p ≡ Some x → file_at files q ≡ Some y
+      → x.serial ≡ y.serial
       → p ≡ q
   one_at p q x y at at' same = ⊎_elim
       (λ (here : p.ppn ≡ q.ppn). ⊎_elim (λ (name : p.name ≡ q.name). λ i. record { ppn = here i; name = name i })
@@ -115,7 +117,8 @@ module _ (files : Files SpecVersion) (distinct : HaveDistinctSerials (versions_i
       copies_none (versions_in (with_file files place v)) x.serial (omega arith)
 
 -- a serial that no version has is still none's
-pub still_none : (files : Files SpecVersion) (place : Place) (v : SpecVersion) (k : ℕ) → has_serial k (versions_in files)
+pub still_none : (files : Files SpecVersion) (place : Place) (v : SpecVersion) (k : ℕ)
+    → has_serial k (versions_in files)
     ≡ false → (v.serial ≡ k → ⊥) → has_serial k (versions_in (with_file files place v)) ≡ false
 still_none files place v k none apart =
     let zero = none_copies (versions_in files) k none in

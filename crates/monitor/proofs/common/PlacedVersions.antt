@@ -147,7 +147,8 @@ placed_begun c c' key kind prime begins named free placed = record {
         unclaimed c.pending l q (place_of prime.ppn prime.file) free (sym (begins.others l other)
         ∙ there) (λ i. place_of ((ppn ∙ sym (ap (λ x. x.ppn) is)) i) ((file ∙ sym (ap (λ x. x.file) is)) i))
 
-begun_free : (begins : PendingKind) (may is_zero claimed : Bool) (kind : PendingKind) → begun_as begins may is_zero claimed ≡ Ok kind
+begun_free : (begins : PendingKind) (may is_zero claimed : Bool) (kind : PendingKind)
+    → begun_as begins may is_zero claimed ≡ Ok kind
     → (is_zero ≡ false) × (claimed ≡ false)
 begun_free begins may true claimed kind is = let wrong = is in cc
 begun_free begins true false true kind is = let wrong = is in cc

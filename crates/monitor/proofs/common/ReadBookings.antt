@@ -67,7 +67,8 @@ all_told (v ∷ vs) distinct = (
     none : AllByRecursion (λ y. (y.serial == v.serial) ≡ false) vs
     none = none_has v.serial vs distinct.0
 
-    told : (ws : List SpecVersion) → AllByRecursion (λ y. (y.serial == v.serial) ≡ false) ws → AllByRecursion (IsTold vs) ws
+    told : (ws : List SpecVersion) → AllByRecursion (λ y. (y.serial == v.serial) ≡ false) ws
+        → AllByRecursion (IsTold vs) ws
         → AllByRecursion (IsTold (v ∷ vs)) ws
     told [] others rest = tt
     told (w ∷ ws) others rest = (
@@ -80,7 +81,8 @@ pub told_at : (files : Files SpecVersion) → HaveDistinctSerials (versions_of f
 told_at files distinct = each_file (IsTold (versions_of files)) files (all_told (versions_of files) distinct)
 
 -- What readers have pinned.
-module _ (d : DiskState) (c : MemoryMap) (files : Files SpecVersion) (read : ℕ → SpecVersion) (whole : IsWholeMemory d.size c)
+module _ (d : DiskState) (c : MemoryMap) (files : Files SpecVersion) (read : ℕ → SpecVersion)
+    (whole : IsWholeMemory d.size c)
     (distinct : HaveDistinctSerials (versions_of files)) (reads : AreRead d c files read) where
   cost : (key : ℕ) (v : LiveVersion) → slot c.live key ≡ Some v → 0 < v.readers
       → version_cost (length (read key).file.body) ≡ cost_of_blocks (length v.version.blocks)

@@ -63,7 +63,8 @@ module _ (d d' : DiskState) (c c' : MemoryMap) (read : ℕ
     apart = λ key other v w there there'. reads.apart key other v w (was key v there) (was other w there');
   }
 
-  pub reads_kept : (files : Files SpecVersion) → ((ppn : ℕ) (name : FileName) → prime_at c' ppn name ≡ prime_at c ppn name)
+  pub reads_kept : (files : Files SpecVersion)
+      → ((ppn : ℕ) (name : FileName) → prime_at c' ppn name ≡ prime_at c ppn name)
       → AreRead d c files read → AreRead d' c' files read
   reads_kept files primes = reads_go files files (λ ppn name n is. primes ppn name ∙ is) (λ place x is. is) refl
 

@@ -35,7 +35,8 @@ with_read read key x k = if k == key then x else read k
 pub with_read_same : (read : ℕ → SpecVersion) (key : ℕ) (x : SpecVersion) (k : ℕ) → k ≡ key → with_read read key x k ≡ x
 with_read_same read key x k same = ap (λ b. if b then x else read k) (eq-eqb k key same)
 
-pub with_read_other : (read : ℕ → SpecVersion) (key : ℕ) (x : SpecVersion) (k : ℕ) → k ≢ key → with_read read key x k ≡ read k
+pub with_read_other : (read : ℕ → SpecVersion) (key : ℕ) (x : SpecVersion) (k : ℕ) → k ≢ key
+    → with_read read key x k ≡ read k
 with_read_other read key x k apart = ap (λ b. if b then x else read k) (ne_eqb k key apart)
 
 -- A version that is read stays so if prime blocks stay and its disk, its files and its memory are these.
@@ -50,7 +51,8 @@ moved d c c' files v readers x primes is = record {
 
 -- A reader comes to the version of a place.
 
-module _ (d : DiskState) (c : MemoryMap) (files : Files SpecVersion) (read : ℕ → SpecVersion) (reads : AreRead d c files read)
+module _ (d : DiskState) (c : MemoryMap) (files : Files SpecVersion) (read : ℕ → SpecVersion)
+    (reads : AreRead d c files read)
     (whole : IsWholeMemory d.size c) (place : Place) (x : SpecVersion) (there : file_at files place ≡ Some x) where
   -- If it was read before, the machine has this very version under its key.
   pub read_again : (key : ℕ) (v : LiveVersion) → slot c.live key ≡ Some v → 0 < v.readers → v.is_current ≡ true
@@ -135,7 +137,8 @@ module _ (d : DiskState) (c : MemoryMap) (files : Files SpecVersion) (read : ℕ
 
 -- A reader goes.
 
-module _ (d : DiskState) (c c' : MemoryMap) (files : Files SpecVersion) (read : ℕ → SpecVersion) (key : ℕ) (v : LiveVersion)
+module _ (d : DiskState) (c c' : MemoryMap) (files : Files SpecVersion) (read : ℕ → SpecVersion) (key : ℕ)
+    (v : LiveVersion)
     (reads : AreRead d c files read) (here : slot c.live key ≡ Some v) (held : 0 < v.readers)
     (stays : (v.is_current ≡ true) ⊎ (1 < v.readers) → slot c'.live key ≡ Some (record v { readers = v.readers - 1 }))
     (gone : v.is_current ≡ false → v.readers ≡ 1 → slot c'.live key ≡ None)

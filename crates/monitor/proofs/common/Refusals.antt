@@ -45,7 +45,8 @@ out_decided d d' c c' same job job' number a reply is decided =
     by_decided (λ r. IsOut d d' c c' same job job' number a r → (job' ≡ job) × same) reply decided
     (λ x. (x.0, x.1)) (λ x. (x.0, x.1)) (λ x. absurd x) (λ x. absurd x) is
 
-pub publishing_refused : (d d' : DiskState) (c c' : MemoryMap) (failed failed' : Bool) (channel : OpenChannel) (o : Output)
+pub publishing_refused : (d d' : DiskState) (c c' : MemoryMap) (failed failed' : Bool) (channel : OpenChannel)
+    (o : Output)
     (last : Option (List ℕ)) (code : ℕ) (reply : Reply) → IsPublishing d d' c c' failed failed' channel o last reply
     → reply ≡ Refused code → ⊥
 publishing_refused d d' c c' failed failed' channel o last code reply is refused = subst

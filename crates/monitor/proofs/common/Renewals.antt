@@ -62,7 +62,8 @@ module _ (c c' : MemoryMap) (input renewed : Input) (ppn : ℕ) (file : FileName
   renewed_once k = is.closed.released k ∙ one_more c is.between is.held is.holds k
       ∙ ap (λ key. readers_of (version_at c.live k) + times k (key ∷ [])) (sym key_is)
 
-  pub renewed_reading : (job : Job) (number : ℕ) (x old : OpenChannel) (core : List ℕ) → slot job.channels number ≡ Some old
+  pub renewed_reading : (job : Job) (number : ℕ) (x old : OpenChannel) (core : List ℕ)
+      → slot job.channels number ≡ Some old
       → old.input ≡ Some input → x.input ≡ Some renewed
       → KeepsReading c.live c'.live job
       (record job { core = core; channels = slice_set job.channels number (Some x) })

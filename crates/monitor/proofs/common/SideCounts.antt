@@ -98,7 +98,8 @@ module _ {Y : Type 0} (side : Option OpenChannel → Option Y) (side_key : Y →
   count-more key cs i o below is = let one : i + 1 ≡ suc i = omega arith in
       ap (λ n. count side_key key (filter_map side (take n cs))) one ∙ count-next key cs i o below is
 
-  pub count-within : (key : ℕ) (cs : List (Option OpenChannel)) (i : ℕ) → count side_key key (filter_map side (take i cs))
+  pub count-within : (key : ℕ) (cs : List (Option OpenChannel)) (i : ℕ)
+      → count side_key key (filter_map side (take i cs))
       ≤ count side_key key (filter_map side cs)
   count-within key [] zero = omega arith
   count-within key [] (suc i) = omega arith

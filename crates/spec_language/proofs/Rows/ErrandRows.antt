@@ -54,6 +54,7 @@ bytes_back : back fresh Octets (octets_packed (codes "HELLO" ++ 0 ∷ 255 ∷ []
 unfolding empty insert get remove entries size dump_list areas_from each fetches type_runs_plan fill_parts_plan conduct
 bytes_back = refl
 
-text_as_bytes : back fresh Octets (packed (codes "HELLO")) ≡ (prints (line (codes "OK")), complains (codes "?Not bytes"))
+text_as_bytes : back fresh Octets
+    (packed (codes "HELLO")) ≡ (prints (line (codes "OK")), complains (codes "?Not bytes"))
 unfolding empty insert get remove entries size dump_list areas_from each fetches type_runs_plan fill_parts_plan conduct
 text_as_bytes = refl

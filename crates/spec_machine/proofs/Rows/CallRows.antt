@@ -10,7 +10,8 @@ use Rattle.spec_machine.specs.declared.call.Call.TheVariants.{MakeDir}
 use Rattle.spec_machine.specs.declared.call.Event.TheVariants.{Deposit, Examine, Call as Calls}
 use Rattle.spec_machine.specs.declared.call.Reply.TheVariants.{Done, Value, Refused, Stopped, NoChannel, AddressCheck}
 use Rattle.spec_machine.specs.declared.call.Reply.TheVariants.{NoJob, DateRange}
-use Rattle.spec_machine.proofs.EventRuns.{run_events, small, ten_twenty, fresh, no_files, foo, bar, foo_of, parts, at, by}
+use Rattle.spec_machine.proofs.EventRuns.{run_events, small, ten_twenty, fresh, no_files, foo, bar, foo_of, parts, at}
+use Rattle.spec_machine.proofs.EventRuns.{by}
 use Rattle.spec_machine.proofs.EventRuns.{deposits, ready, ready_with, named, words_at_500, enters, looks_up, out}
 use Rattle.spec_machine.proofs.EventRuns.{takes, close}
 

@@ -5,7 +5,8 @@ use Rattle.spec_machine.specs.CommandLists.{dump_list, areas_from}
 use Rattle.spec_image.specs.Common.{name_cmp, FinMap, get, insert, remove, empty, entries, size, SpecVersion}
 use Rattle.spec_machine.specs.Jobs.{State, no_jobs}
 use Rattle.spec_machine.specs.declared.call.Event.{Event}
-use Rattle.spec_machine.proofs.EventRuns.{run_events, small, ten_twenty, foo, bar, ready, enters, looks_up, words_at_500}
+use Rattle.spec_machine.proofs.EventRuns.{run_events, small, ten_twenty, foo, bar, ready, enters, looks_up}
+use Rattle.spec_machine.proofs.EventRuns.{words_at_500}
 use Rattle.spec_machine.proofs.EventRuns.{out}
 use Rattle.spec_machine.proofs.EventRuns.{close}
 

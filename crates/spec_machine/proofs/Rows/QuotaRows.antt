@@ -11,7 +11,8 @@ use Rattle.spec_machine.specs.declared.call.Event.{Event}
 use Rattle.spec_machine.specs.declared.call.Event.TheVariants.{Examine}
 use Rattle.spec_machine.specs.declared.call.Reply.{Reply}
 use Rattle.spec_machine.specs.declared.call.Reply.TheVariants.{Done, Value, Refused, Stopped, AddressCheck}
-use Rattle.spec_machine.proofs.EventRuns.{run_events, shown_replies, small, ten_twenty, fresh, foo, bar, by, repeated, deposits}
+use Rattle.spec_machine.proofs.EventRuns.{run_events, shown_replies, small, ten_twenty, fresh, foo, bar, by, repeated}
+use Rattle.spec_machine.proofs.EventRuns.{deposits}
 use Rattle.spec_machine.proofs.EventRuns.{ready}
 use Rattle.spec_machine.proofs.EventRuns.{ready_with, words_at_500, enters, looks_up, out, close}
 use Rattle.spec_machine.proofs.Rows.ChargeRows.{limited, many}
@@ -112,7 +113,8 @@ abbrev moves : ℕ → List Event
 moves ppn = looks_up 1 foo ++ deposits 1 0o300 (foo ∷ 0o647064000000 ∷ 0o057000000000 ∷ ppn ∷ [])
     ++ by 1 (Rename 1 0o300) ∷ []
 
--- Into another directory a file takes what it costs, 3 here: if as much is left, it comes. It leaves a directory that is
+-- Into another directory a file takes what it costs, 3 here: if as much is left, it comes. It leaves a directory that
+-- is
 -- over its quota, and changes its name within one.
 moved : charged wide ten_thirty 1000 fresh (
     (ready 1 ++ ready_with 2 operator 0o1000 ++ makes 2 ten_thirty)

@@ -45,7 +45,8 @@ use Rattle.volume.proofs.common.StillMatches.{counts_whole}
 use Rattle.volume.proofs.common.Answers.{viewed_there}
 
 -- the directory at the place of its entry
-pub directory_at : (size : ℕ) (m : LiveMap) (ppn i : ℕ) (v : ℕ × ℕ) (x : LiveDirectory) → IsWholeMemory size (memory_of m)
+pub directory_at : (size : ℕ) (m : LiveMap) (ppn i : ℕ) (v : ℕ × ℕ) (x : LiveDirectory)
+    → IsWholeMemory size (memory_of m)
     → StandsAt nat_cmp (map master_view m.master.entries) ppn v i → x ≡ get_or m.directories.items i x
     → slice_get (memory_of m).known.directories i ≡ Some (live_directory m.versions.slots x)
 directory_at size m ppn i v x whole stands is =

@@ -212,7 +212,8 @@ module _ {size : ℕ} {c : MemoryMap} (whole : IsWholeMemory size c) (ppn : ℕ)
       subst (λ (n : ℕ). IsTrue over ↔ IsOver c ppn n) path says
 
   -- a file that comes into the directory of another number
-  pub moved_over : (to : ℕ) (t : CurrentDirectory) → IsDirectoryOf c to t → (place : ℕ) (v : ℕ × ℕ) (e : CurrentDirectory)
+  pub moved_over : (to : ℕ) (t : CurrentDirectory) → IsDirectoryOf c to t
+      → (place : ℕ) (v : ℕ × ℕ) (e : CurrentDirectory)
       (cost more : ℕ) → slice_get c.known.master.entries place ≡ Some (to, v)
       → slice_get c.known.directories place ≡ Some e → cost ≡ cost_before (version_before c.live o)
       → more ≡ growth (entries_with c e to) → (over : Bool) → (IsTrue over ↔ IsOver c to (cost + more))

@@ -67,7 +67,8 @@ no_home size other e = let first = ap (λ l. slice_index l 0) e in omega (arith,
 no_gate : copied None ≡ open_gate → ⊥
 no_gate e = let first = ap (λ l. slice_index l 0) e in omega (arith, first)
 
-home_before : (size : ℕ) (c d : Contents) (o : Option (List ℕ)) → c 1 ≡ o → d 1 ≡ Some (copied (c 1)) → (other : SpecHome)
+home_before : (size : ℕ) (c d : Contents) (o : Option (List ℕ)) → c 1 ≡ o → d 1 ≡ Some (copied (c 1))
+    → (other : SpecHome)
     → IsHomeCopy size d 1 other → IsHomeCopy size c 1 other
 home_before size c d None is copy other h = absurd (no_home size other
     (some_same (ap (λ o. Some (copied o)) (sym is) ∙ sym copy ∙ h.words)))

@@ -26,14 +26,16 @@ inserted_new (y ∷ ys) e none =
     ap (λ (b : Bool). cond b (e ∷ ys) (y ∷ inserted nat_cmp ys e)) first.0
     ∙ ap (λ (zs : List SpecMasterEntry). y ∷ zs) (inserted_new ys e first.1)
 
-growth_one : (chain : ChainState SpecMasterEntry) → length chain.entries ≡ 42 * length chain.blocks → chain_growth chain ≡ 1
+growth_one : (chain : ChainState SpecMasterEntry) → length chain.entries ≡ 42 * length chain.blocks
+    → chain_growth chain ≡ 1
 growth_one chain full = grind (arith, nat_tests)
 
 growth_zero : (chain : ChainState SpecMasterEntry) → (length chain.entries ≡ 42 * length chain.blocks → ⊥)
     → chain_growth chain ≡ 0
 growth_zero chain room = grind (arith, nat_tests)
 
-grows_at : (chain : ChainState SpecMasterEntry) → 1 ≡ chain_growth chain → length chain.entries ≡ 42 * length chain.blocks
+grows_at : (chain : ChainState SpecMasterEntry) → 1 ≡ chain_growth chain
+    → length chain.entries ≡ 42 * length chain.blocks
 grows_at chain is = ⊎_elim (λ same. same) (λ other. absurd (let e = growth_zero chain other in omega arith))
     (cases_eq (length chain.entries) (42 * length chain.blocks))
 

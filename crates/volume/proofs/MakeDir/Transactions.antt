@@ -30,7 +30,8 @@ pub made_edit : {size : ℕ} {c c' : MemoryMap} {ppn protection first : ℕ} {pu
 made_edit {size} {c} {c'} {ppn} {protection} {first} {puts} whole is live pending keys fits layout =
     let made = made_sized whole is in
     record {
-      whole = made_memory size c.known c'.known ppn protection first puts whole.map made c c' whole refl refl live pending
+      whole = made_memory size c.known c'.known ppn protection first puts whole.map made c c' whole refl refl live
+          pending
           keys;
       bodies = λ d. bodies_of d c c' live pending;
       dated = λ n. dated_of n c c' pending;

@@ -21,7 +21,8 @@ use Rattle.volume.specs.Common.{as_known, IsWholeMemory, IsKeyOf, IsNoFile, IsVe
 use Rattle.volume.specs.Common.{HasSomeBody, IsAtRest, IsSoundMemory}
 use Rattle.volume.proofs.common.Answers.{Holds, directory_none}
 
-entries_reach : (n : ℕ) (es : List SpecFileEntry) (vs : List CurrentVersion) (i : ℕ) (e : SpecFileEntry) (v : CurrentVersion)
+entries_reach : (n : ℕ) (es : List SpecFileEntry) (vs : List CurrentVersion) (i : ℕ) (e : SpecFileEntry)
+    (v : CurrentVersion)
     → slice_get es i ≡ Some e → slice_get vs i ≡ Some v → times n (blocks_reached e.1 v.version)
     ≤ reaches_in_entries n es vs
 entries_reach n [] vs i e v here there = cc
@@ -139,7 +140,8 @@ at_rest_holds s c failed sound h ok =
     (files_of own.map, record { map = own.map; held = own.rest.all s.contents (λ n closed. refl); files_are = refl })
 
 pub pinned_sound : (s : DiskState) (c c' : MemoryMap) (failed : Bool) (ppn : ℕ) (name : FileName) (key : ℕ)
-    → IsSoundMemory s c failed → (is : IsKeyOf c ppn name key) → IsWholeMemory s.size c' → c' ≡ record c { live = c'.live }
+    → IsSoundMemory s c failed → (is : IsKeyOf c ppn name key) → IsWholeMemory s.size c'
+        → c' ≡ record c { live = c'.live }
     → slot c'.live key ≡ Some (record is.version { readers = is.version.readers + 1 })
     → ((k : ℕ) → (k ≡ key → ⊥) → slot c'.live k ≡ slot c.live k) → IsSoundMemory s c' failed
 pinned_sound s c c' failed ppn name key sound is whole same here others = record {
@@ -190,7 +192,8 @@ unpinned_sound s c c' failed key v sound was whole pending known bits stays gone
   dated = λ h ok k p at. sound.dated h ok k p (ap (λ x. pending_at x k) (sym pending) ∙ at);
 }
   where
-    pinned_by : (m : DiskMap) (contents : Contents) → MatchesMap s.size c.known m contents → MatchesMap s.size c'.known m contents
+    pinned_by : (m : DiskMap) (contents : Contents) → MatchesMap s.size c.known m contents
+        → MatchesMap s.size c'.known m contents
     pinned_by m contents held = record {
       known = subst (λ (k : CurrentMap). AgreesOnMap k m) (sym known)
           (record {

@@ -43,7 +43,8 @@ inserted_new (x ∷ es) e none =
 
 -- Sums with one element in the place of another.
 
-pub reaches_set : (n : ℕ) (es : List SpecFileEntry) (vs : List CurrentVersion) (i : ℕ) (e e' : SpecFileEntry) (u v : CurrentVersion)
+pub reaches_set : (n : ℕ) (es : List SpecFileEntry) (vs : List CurrentVersion) (i : ℕ) (e e' : SpecFileEntry)
+    (u v : CurrentVersion)
     → slice_get es i ≡ Some e → slice_get vs i ≡ Some u
     → reaches_in_entries n (slice_set es i e') (slice_set vs i v) + times n (blocks_reached e.1 u.version)
     ≡ reaches_in_entries n es vs + times n (blocks_reached e'.1 v.version)

@@ -95,7 +95,8 @@ counts live live' (Some o) n is =
 
 -- The versions in use: one is new, and what is left of the one before is in its slot.
 
-pub set_here : {X : Type 0} (slots : List (Option X)) (k : ℕ) (q : X) (x : Option X) → slice_index_or slots k None ≡ Some q
+pub set_here : {X : Type 0} (slots : List (Option X)) (k : ℕ) (q : X) (x : Option X)
+    → slice_index_or slots k None ≡ Some q
     → slice_index_or (slice_set slots k x) k None ≡ x
 set_here [] k q x is = absurd (some_none (sym is))
 set_here (o ∷ slots) zero q x is = refl

@@ -29,7 +29,8 @@ ok_is (Ok x) A none is = is
 ok_is (Err e) A none is = absurd (cc)
 
 -- the same version, as it was when it was still being written
-retrieved_as : (layout : ℕ) (contents : Contents) (prime prime' : Prime) (words words' at : ℕ) (ribs blocks blocks' : List ℕ)
+retrieved_as : (layout : ℕ) (contents : Contents) (prime prime' : Prime) (words words' at : ℕ)
+    (ribs blocks blocks' : List ℕ)
     → prime ≡ prime' → words ≡ words' → blocks ≡ blocks'
     → IsRetrieved layout contents (with_length prime words) at ribs blocks
     → IsRetrieved layout contents (with_length prime' words') at ribs blocks'
@@ -124,7 +125,8 @@ module _ {s mid : DiskState} {c c' : MemoryMap} {key : ℕ} {p : PendingVersion}
 
   -- if the retrieval blocks were not written
   pub published_ended : (become : Files File → Files File) → IsEdited s mid c c' become true (Err Device)
-  published_ended become = interrupted sound refl only_now same (retrieval_free sound.whole made_current) new_whole written
+  published_ended become = interrupted sound refl only_now same (retrieval_free sound.whole made_current) new_whole
+      written
       Device
 
   pub published_edited : {s' : DiskState} {was failed : Bool} {result : Result (Unit {0}) CallError}

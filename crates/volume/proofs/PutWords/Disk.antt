@@ -56,7 +56,8 @@ ignores_clear size k m In aligned clear c d same h =
         absurd (omega arith))
 
 -- The same map, with another table that has its bits.
-same_bits : (size : ℕ) (k : CurrentMap) (t : TableState) (m : DiskMap) (c : Contents) → ((n : ℕ) → bit t n ≡ bit k.table n)
+same_bits : (size : ℕ) (k : CurrentMap) (t : TableState) (m : DiskMap) (c : Contents)
+    → ((n : ℕ) → bit t n ≡ bit k.table n)
     → MatchesMap size k m c → MatchesMap size (record k { table = t }) m c
 same_bits size k t m c same h = record {
   known = record { chain = h.known.chain; names = h.known.names; each = h.known.each };
@@ -85,7 +86,8 @@ module _ (s s' : DiskState) (k : CurrentMap) (In : ℕ → Type 0) (clear : (n :
   quiet_finds f rests only_now =
       let same = files_are s k at.map f at.rest rests in
       leaves_weaker s s' (SettlesTo s.size (MatchesMap s.size k at.map)) (λ c. StandsOn (pack_of s) c f)
-      (quiet_stands s s' (MatchesMap s.size k at.map) (quiet_leaves In s s' (MatchesMap s.size k at.map) ignores not_gate
+      (quiet_stands s s' (MatchesMap s.size k at.map)
+          (quiet_leaves In s s' (MatchesMap s.size k at.map) ignores not_gate
       at.rest only_now modified))
       (λ c held. (held.0, held.1, (at.map, held.2.stands, same, pack_held s k at.map at.rest)))
 

@@ -156,7 +156,8 @@ known_with d d' to at v stored f is known facts = record {
 
 -- The puts.
 
-module _ (size : ℕ) (k k' : CurrentMap) (ppn : ℕ) (name : FileName) (to_ppn : ℕ) (to : FileName) (old : ℕ × CurrentVersion)
+module _ (size : ℕ) (k k' : CurrentMap) (ppn : ℕ) (name : FileName) (to_ppn : ℕ) (to : FileName)
+    (old : ℕ × CurrentVersion)
     (v : CurrentVersion) (words : List ℕ) (puts : List Put) (whole : IsWholeMap size k)
     (is : IsMovedAcross size k k' ppn name to_ppn to old v words puts) where
   source_whole : IsWholeDirectory size is.directory
@@ -419,7 +420,8 @@ module _ (size : ℕ) (k k' : CurrentMap) (ppn : ℕ) (name : FileName) (to_ppn 
 
     -- the other blocks of the file stay
     new_version : IsVersion m.layout (with_puts puts c) (place_of to_ppn to) (in_place_of f file)
-    new_version = version_rewritten m.layout c (with_puts puts c) (place_of ppn name) (place_of to_ppn to) f file version refl
+    new_version = version_rewritten m.layout c (with_puts puts c) (place_of ppn name) (place_of to_ppn to) f file
+        version refl
         new_fits new_prime (λ n there.
         let parts = file_parts n in
         let one = few n in

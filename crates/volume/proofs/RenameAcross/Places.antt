@@ -20,7 +20,8 @@ set_elsewhere (x ∷ xs) zero (suc j) y differ = refl
 set_elsewhere (x ∷ xs) (suc i) zero y differ = refl
 set_elsewhere (x ∷ xs) (suc i) (suc j) y differ = set_elsewhere xs i j y (λ same. differ (ap suc same))
 
-module _ (size : ℕ) (k k' : CurrentMap) (ppn : ℕ) (name : FileName) (to_ppn : ℕ) (to : FileName) (old : ℕ × CurrentVersion)
+module _ (size : ℕ) (k k' : CurrentMap) (ppn : ℕ) (name : FileName) (to_ppn : ℕ) (to : FileName)
+    (old : ℕ × CurrentVersion)
     (v : CurrentVersion) (words : List ℕ) (puts : List Put)
     (is : IsMovedAcross size k k' ppn name to_ppn to old v words puts) where
   abbrev d : CurrentDirectory

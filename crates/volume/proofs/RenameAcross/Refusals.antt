@@ -57,7 +57,8 @@ module _ (m : LiveMap) (whole : IsWholeMemory m.table.size (memory_of m)) (ppn p
 
   module _ (found : Option ℕ) (none : is_some found ≡ false)
       (absent : IfNone found (find name_cmp name (map file_view d.chain.entries) ≡ None)) where
-    pub target_free : (x : CurrentDirectory) → IsDirectoryOf (memory_of m) ppn x → find name_cmp name x.chain.entries ≡ None
+    pub target_free : (x : CurrentDirectory) → IsDirectoryOf (memory_of m) ppn x
+        → find name_cmp name x.chain.entries ≡ None
     target_free = name_free m whole ppn place w stands d at name found none absent
 
     pub free_unnamed : HasFile (memory_of m) ppn name → ⊥
@@ -69,7 +70,8 @@ module _ (m : LiveMap) (whole : IsWholeMemory m.table.size (memory_of m)) (ppn p
       costs_more : (x : CurrentDirectory) → IsDirectoryOf (memory_of m) ppn x
           → more ≡ growth (entries_with (memory_of m) x ppn)
       costs_more x there_x = more_is x (known_here
-          ∙ ap Some (sym (same_directory m.table.size (memory_of m) ppn place w x dk whole there_x stands.is known_here)))
+          ∙ ap Some (sym (same_directory m.table.size (memory_of m) ppn place w x dk whole there_x stands.is
+              known_here)))
 
       pub target_full : 0 < more → space m.table.size < m.table.booked + more
           → HasNoRoom m.table.size (memory_of m) ppn name

@@ -21,7 +21,8 @@ set_itself [] i x is = refl
 set_itself (y ∷ xs) zero x is = ap (λ z. z ∷ xs) (sym (some_same is))
 set_itself (y ∷ xs) (suc i) x is = ap (λ zs. y ∷ zs) (set_itself xs i x is)
 
-renamed_at : (es : List SpecFileEntry) (i : ℕ) (name : FileName) (w : ℕ) (e : SpecFileEntry) → slice_get es i ≡ Some (name, w)
+renamed_at : (es : List SpecFileEntry) (i : ℕ) (name : FileName) (w : ℕ) (e : SpecFileEntry)
+    → slice_get es i ≡ Some (name, w)
     → find name_cmp name (take i es) ≡ None → renamed name_cmp es name e ≡ slice_set es i e
 renamed_at [] i name w e is none = absurd (some_none (sym is))
 renamed_at (x ∷ es) zero name w e is none =
@@ -33,7 +34,8 @@ renamed_at (x ∷ es) (suc i) name w e is none =
     ∙ ap (λ ys. x ∷ ys) (renamed_at es i name w e is first.1)
 
 -- the new entry is in place of the old one
-pub renamed_is : (es : List SpecFileEntry) (i : ℕ) (name : FileName) (w : ℕ) (e : SpecFileEntry) → StandsAt name_cmp es name w i
+pub renamed_is : (es : List SpecFileEntry) (i : ℕ) (name : FileName) (w : ℕ) (e : SpecFileEntry)
+    → StandsAt name_cmp es name w i
     → renamed name_cmp es name e ≡ slice_set es i e
 renamed_is es i name w e at = renamed_at es i name w e at.is at.before
 

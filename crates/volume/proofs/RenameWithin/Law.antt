@@ -278,7 +278,8 @@ module _ (size : ℕ) (k k' : CurrentMap) (m : DiskMap) (ppn : ℕ) (name to : F
   }
 
   new_version : IsVersion m.layout (with_puts puts c) (place_of ppn to) (in_place_of f file)
-  new_version = version_rewritten m.layout c (with_puts puts c) (place_of ppn name) (place_of ppn to) f file version refl
+  new_version = version_rewritten m.layout c (with_puts puts c) (place_of ppn name) (place_of ppn to) f file version
+      refl
       new_fits new_prime (λ n there.
       others_put size k k' ppn name to old v words puts whole is c n
       (λ same. let some = prime_reached n same in let parts = file_parts n in let one = few n in

@@ -19,7 +19,8 @@ IsLacking c ppn name = (d : CurrentDirectory) × IsDirectoryOf c ppn d × (find 
 
 -- it has the file, and another of the new name
 abbrev pub IsBeside : MemoryMap → ℕ → FileName → FileName → Type 0
-IsBeside c ppn name to = (d : CurrentDirectory) × IsDirectoryOf c ppn d × (find name_cmp name d.chain.entries ≡ None → ⊥)
+IsBeside c ppn name to = (d : CurrentDirectory) × IsDirectoryOf c ppn d
+    × (find name_cmp name d.chain.entries ≡ None → ⊥)
     × (to ≡ name → ⊥) × (find name_cmp to d.chain.entries ≡ None → ⊥)
 
 module _ (size : ℕ) (c : MemoryMap) (whole : IsWholeMemory size c) (ppn : ℕ) (name : FileName) where
@@ -36,7 +37,8 @@ module _ (size : ℕ) (c : MemoryMap) (whole : IsWholeMemory size c) (ppn : ℕ)
   abbrev IsRefusal : CallError → ErrorCode → Type 0
   IsRefusal error code = error ≡ Refused code
 
-  said : (error : CallError) (code : ErrorCode) → IsErrOf {T = Unit {0}} (Err error) (Refused code) → IsRefusal error code
+  said : (error : CallError) (code : ErrorCode) → IsErrOf {T = Unit {0}} (Err error) (Refused code)
+      → IsRefusal error code
   said error code is = cc
 
   pub refused_not_found : (to : FileName) (error : CallError) → IsMoveRefusal c ppn name to error

@@ -184,7 +184,8 @@ module _ (m : LiveMap) (whole : IsWholeMemory m.table.size (memory_of m)) (ppn :
         directory_at = known_here;
         master = ap (viewed master_view) master;
         directories = ap (map (live_directory m'.versions.slots)) directories ∙ entered;
-        entry = subst (λ (x : CurrentDirectory). IsEntryRenamed dk x name to (u.at, as_known u) (as_known v)) (sym known)
+        entry = subst (λ (x : CurrentDirectory). IsEntryRenamed dk x name to (u.at, as_known u) (as_known v))
+            (sym known)
             (entry_renamed m.table.size dk (viewed file_view d'.chain) name to u.at file.index (as_known u) (as_known v)
             whole_here named version_at free_here refl items_are blocks chain names_are);
         chain_puts = set;

@@ -96,7 +96,8 @@ module _ (size : ℕ) (c c' : MemoryMap) (ppn : ℕ) (name to : FileName) (prote
         quiet = λ n none. absurd none;
         in_range = moved_in_range size c.known c'.known ppn name to (v.at, as_known v) with_prime words puts whole.map
             moves.moved inside;
-        few = moved_few size c.known c'.known ppn name to (v.at, as_known v) with_prime words puts whole.map moves.moved;
+        few = moved_few size c.known c'.known ppn name to (v.at, as_known v) with_prime words puts whole.map
+            moves.moved;
         low = moved_low size c.known c'.known ppn name to (v.at, as_known v) with_prime words puts whole.map moves.moved
             inside;
         spares = λ n kept. moved_elsewhere size c.known c'.known ppn name to (v.at, as_known v) with_prime words puts

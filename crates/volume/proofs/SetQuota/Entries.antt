@@ -90,7 +90,8 @@ keys_stand (x ∷ xs) (y ∷ ys) k (suc i) v same at =
     )
 
 -- each name has the prime block that it had
-pub keys_prime : (xs ys : List SpecMasterEntry) → SameKeys xs ys → (ds : List CurrentDirectory) (q : ℕ) (name : FileName)
+pub keys_prime : (xs ys : List SpecMasterEntry) → SameKeys xs ys
+    → (ds : List CurrentDirectory) (q : ℕ) (name : FileName)
     → prime_in ys ds q name ≡ prime_in xs ds q name
 keys_prime [] [] same ds q name = refl
 keys_prime [] (y ∷ ys) same ds q name = absurd same

@@ -35,7 +35,8 @@ limited_entry e quota fits is = record {
   word = word_with e.1.0 is.protection is.quota quota is.quota_fits is.word;
 }
 
-module _ (size : ℕ) (c c' : MemoryMap) (ppn quota : ℕ) (memory : IsWholeMemory size c) (limited : IsLimited c c' ppn quota)
+module _ (size : ℕ) (c c' : MemoryMap) (ppn quota : ℕ) (memory : IsWholeMemory size c)
+    (limited : IsLimited c c' ppn quota)
   where
     abbrev pub entries : List SpecMasterEntry
     entries = inserted nat_cmp c.known.master.entries (ppn, word_limited limited.word quota)

@@ -94,7 +94,8 @@ files_fault size layout contents marks between ppn first chain error is walk mar
 abbrev directory_named : SpecMasterEntry × ReadDirectory → ℕ × ReadDirectory
 directory_named r = (r.0.0, r.1)
 
-all_directories_read : (layout : ℕ) (contents : Contents) (all rest : List SpecMasterEntry) (read : List (SpecMasterEntry × ReadDirectory))
+all_directories_read : (layout : ℕ) (contents : Contents) (all rest : List SpecMasterEntry)
+    (read : List (SpecMasterEntry × ReadDirectory))
     → all ≡ map (λ r. r.0) read ++ rest → EachOnce nat_cmp all
     → AllByRecursion (λ r. IsEntryRead layout contents r.0 r.1) read
     → AllByRecursion (IsDirectoryRead layout contents all) (map directory_named read)
@@ -131,7 +132,8 @@ once_read all rest read is once =
 pub directory_fault : (size layout : ℕ) (contents : Contents) (all front rest : List SpecMasterEntry)
     (directories : List CurrentDirectory) (marks before : ℕ → ℕ) (e : SpecMasterEntry) (error : VolumeError)
     → all ≡ front ++ e ∷ rest → EachOnce nat_cmp all → AreDirectoriesRead layout contents front directories marks before
-    → IsFaultOfDirectory size layout contents before e.0 e.1.1 error → IsFaultOfDirectories size layout contents marks all error
+    → IsFaultOfDirectory size layout contents before e.0 e.1.1 error
+        → IsFaultOfDirectories size layout contents marks all error
 directory_fault size layout contents all front rest directories marks before e error is once read = by_error error
   where
     entry : find nat_cmp e.0 all ≡ Some e.1
@@ -162,7 +164,8 @@ directory_fault size layout contents all front rest directories marks before e e
           directories = map directory_named reads;
           once = once_read all rest reads whole once;
           read = all_directories_read layout contents all rest reads whole once
-              (all_push (λ (x : SpecMasterEntry × ReadDirectory). IsEntryRead layout contents x.0 x.1) read.read r read.read_are
+              (all_push (λ (x : SpecMasterEntry × ReadDirectory). IsEntryRead layout contents x.0 x.1) read.read r
+                  read.read_are
               (record { walk = met.walk; once = met.once; files = met.read }));
           twice =
               let a = met.twice in

@@ -45,15 +45,18 @@ all_at P (a ∷ xs) zero x all is = subst P (some_same is) all.0
 all_at P (a ∷ xs) (suc i) x all is = all_at P xs i x all.1 is
 
 -- One directory, whose chain and files were read.
-pub directory_found : (layout : ℕ) (contents : Contents) (ppn protection quota first : ℕ) (chain : ChainState SpecFileEntry)
+pub directory_found : (layout : ℕ) (contents : Contents) (ppn protection quota first : ℕ)
+    (chain : ChainState SpecFileEntry)
     (versions : List CurrentVersion) (marks between after : ℕ → ℕ)
-    → protection < 512 → quota < quota_limit layout → IsChain name_cmp IsFileEntry chain → IsOn file_words contents chain
+    → protection < 512 → quota < quota_limit layout → IsChain name_cmp IsFileEntry chain
+        → IsOn file_words contents chain
     → head_or_zero chain.blocks ≡ first → LeadsAlong file_words contents first (nodes_of chain.blocks chain.entries) 0
     → ((n : ℕ) → between n ≡ marks n + times n chain.blocks)
     → AreFilesRead layout contents ppn chain.entries versions between after
     → IsDirectoryFound layout contents (ppn, (master_word protection quota, first))
     (record { chain = chain; versions = versions }) marks after
-directory_found layout contents ppn protection quota first chain versions marks between after small few is on begins walk
+directory_found layout contents ppn protection quota first chain versions marks between after small few is on begins
+    walk
     marked read =
     let nodes = nodes_of chain.blocks chain.entries in
     let chain_is = chain_read file_words IsFileEntry contents chain is on in
@@ -106,7 +109,8 @@ directory_found layout contents ppn protection quota first chain versions marks 
           omega arith;
     }
 
-pub no_directories : (layout : ℕ) (contents : Contents) (marks : ℕ → ℕ) → AreDirectoriesRead layout contents [] [] marks marks
+pub no_directories : (layout : ℕ) (contents : Contents) (marks : ℕ → ℕ)
+    → AreDirectoriesRead layout contents [] [] marks marks
 no_directories layout contents marks = record {
   found = [];
   named = refl;
@@ -121,9 +125,11 @@ no_directories layout contents marks = record {
 }
 
 -- one directory more
-pub more_directories : (layout : ℕ) (contents : Contents) (entries : List SpecMasterEntry) (directories : List CurrentDirectory)
+pub more_directories : (layout : ℕ) (contents : Contents) (entries : List SpecMasterEntry)
+    (directories : List CurrentDirectory)
     (marks before after : ℕ → ℕ) (e : SpecMasterEntry) (d : CurrentDirectory)
-    → AreDirectoriesRead layout contents entries directories marks before → IsDirectoryFound layout contents e d before after
+    → AreDirectoriesRead layout contents entries directories marks before
+        → IsDirectoryFound layout contents e d before after
     → AreDirectoriesRead layout contents (entries ++ e ∷ []) (directories ++ d ∷ []) marks after
 more_directories layout contents entries directories marks before after e d read found =
     let x : ℕ × StoredDirectory = (e.0, found.found) in
@@ -131,7 +137,8 @@ more_directories layout contents entries directories marks before after e d read
       found = read.found ++ x ∷ [];
       named = map-append (λ (y : ℕ × StoredDirectory). (y.0, entry_of y.1)) read.found (x ∷ [])
           ∙ (λ i. read.named i ++ (e.0, found.named i) ∷ []);
-      whole = all_push (λ (y : ℕ × StoredDirectory). IsWhole layout contents y.0 y.1) read.found x read.whole found.whole;
+      whole = all_push (λ (y : ℕ × StoredDirectory). IsWhole layout contents y.0 y.1) read.found x read.whole
+          found.whole;
       known = zip_behind (λ (y : ℕ × StoredDirectory) k. AgreesOnDirectory k y.1) read.found directories
           x d read.known found.known;
       read = read.read ++ (e, found.read) ∷ [];

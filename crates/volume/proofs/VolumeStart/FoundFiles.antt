@@ -20,11 +20,14 @@ use Rattle.volume.specs.Common.{IsKnownVersion, AreFilesRead, IsFaultOfFile, IsF
 use Rattle.volume.proofs.common.Lookups.{viewed_more, all_of_map, all_both, all_each, all_push, all_to_map}
 use Rattle.volume.proofs.common.Lookups.{zip_behind, total-push, total-map, found_in_front}
 
-pub no_files : (layout : ℕ) (contents : Contents) (ppn : ℕ) (marks : ℕ → ℕ) → AreFilesRead layout contents ppn [] [] marks marks
-no_files layout contents ppn marks = record { found = []; named = refl; whole = tt; known = tt; marked = λ n. omega arith }
+pub no_files : (layout : ℕ) (contents : Contents) (ppn : ℕ) (marks : ℕ → ℕ)
+    → AreFilesRead layout contents ppn [] [] marks marks
+no_files layout contents ppn marks =
+    record { found = []; named = refl; whole = tt; known = tt; marked = λ n. omega arith }
 
 -- one file more
-pub more_files : (layout : ℕ) (contents : Contents) (ppn : ℕ) (entries : List SpecFileEntry) (versions : List CurrentVersion)
+pub more_files : (layout : ℕ) (contents : Contents) (ppn : ℕ) (entries : List SpecFileEntry)
+    (versions : List CurrentVersion)
     (marks before after : ℕ → ℕ) (e : SpecFileEntry) (v : CurrentVersion)
     → AreFilesRead layout contents ppn entries versions marks before
     → IsFileFound layout contents (place_of ppn e.0) e.1 v.prime v.version
@@ -71,25 +74,31 @@ abbrev pub HasPlace : ℕ → Contents → ℕ → FileName × ReadFile → Type
 HasPlace layout contents ppn e = (e.1.p.place ≡ place_of ppn e.0)
     × IsRetrieved layout contents e.1.p e.1.prime e.1.extensions e.1.blocks
 
-pub all_read : (layout : ℕ) (contents : Contents) (ppn : ℕ) (all rest : List SpecFileEntry) (files : List (FileName × ReadFile))
+pub all_read : (layout : ℕ) (contents : Contents) (ppn : ℕ) (all rest : List SpecFileEntry)
+    (files : List (FileName × ReadFile))
     → all ≡ map (λ e. (e.0, e.1.prime)) files ++ rest → EachOnce name_cmp all
     → AllByRecursion (HasPlace layout contents ppn) files → AllByRecursion (IsFileRead layout contents ppn all) files
 all_read layout contents ppn all rest files is once placed =
     let named : FileName × ReadFile → SpecFileEntry = λ e. (e.0, e.1.prime) in
-    all_both (λ e. find name_cmp e.0 all ≡ Some e.1.prime) (HasPlace layout contents ppn) (IsFileRead layout contents ppn all) files
+    all_both (λ e. find name_cmp e.0 all ≡ Some e.1.prime) (HasPlace layout contents ppn)
+        (IsFileRead layout contents ppn all) files
     (λ e entry place. record { entry = entry; place_is = place.0; retrieved = place.1 })
     (all_of_map (λ (e : SpecFileEntry). find name_cmp e.0 all ≡ Some e.1) named files
     (found_in_front name_total all (map named files) rest is once)) placed
 
 -- Files that were read, as a reader of faults sees them.
-pub files_read : (layout : ℕ) (contents : Contents) (ppn : ℕ) (entries : List SpecFileEntry) (versions : List CurrentVersion)
-    (marks after : ℕ → ℕ) → EachOnce name_cmp entries → (read : AreFilesRead layout contents ppn entries versions marks after)
+pub files_read : (layout : ℕ) (contents : Contents) (ppn : ℕ) (entries : List SpecFileEntry)
+    (versions : List CurrentVersion)
+    (marks after : ℕ → ℕ) → EachOnce name_cmp entries
+        → (read : AreFilesRead layout contents ppn entries versions marks after)
     → AllByRecursion (IsFileRead layout contents ppn entries) (map (as_read ppn) read.found)
 files_read layout contents ppn entries versions marks after once read =
-    all_read layout contents ppn entries [] (map (as_read ppn) read.found) (sym read.named ∙ sym (named_again ppn read.found)
+    all_read layout contents ppn entries [] (map (as_read ppn) read.found)
+        (sym read.named ∙ sym (named_again ppn read.found)
     ∙ sym (append-nil _)) once
     (all_to_map (HasPlace layout contents ppn) (as_read ppn) read.found
-    (all_each (λ y. IsVersion layout contents (place_of ppn y.0) y.1) (λ y. HasPlace layout contents ppn (as_read ppn y)) read.found
+    (all_each (λ y. IsVersion layout contents (place_of ppn y.0) y.1)
+        (λ y. HasPlace layout contents ppn (as_read ppn y)) read.found
     (λ y v. (refl, v.retrieved)) read.whole))
 
 pub files_once : (ppn : ℕ) (entries : List SpecFileEntry) (found : List (FileName × StoredFile))
@@ -174,7 +183,8 @@ files_go_on view layout contents now ppn named es i e old new marks before after
     (λ (c : Contents). IsMarkedFile layout c ppn (named e) before after (view added.added)) same added.is in
     subst (λ (l : List SpecFileEntry). AreFilesRead layout contents ppn l (map view new) marks after)
     (sym (viewed_more named es i e below is))
-    (subst (λ (l : List CurrentVersion). AreFilesRead layout contents ppn (map named (take i es) ++ named e ∷ []) l marks after)
+    (subst (λ (l : List CurrentVersion). AreFilesRead layout contents ppn (map named (take i es) ++ named e ∷ []) l
+        marks after)
     (sym (ap (map view) added.pushed ∙ map-append view old (added.added ∷ [])))
     (more_files layout contents ppn (map named (take i es)) (map view old) marks before after (named e)
     (view added.added) read f.found f.marked))

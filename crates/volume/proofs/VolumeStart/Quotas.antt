@@ -49,13 +49,15 @@ quota_misfits e some good =
     let small = e.quota_fits in
     omega arith
 
-all_wider : (layout : Layout) (es : List words.SpecMasterEntry) → AllByRecursion (IsMasterEntryOf (layout_number layout)) es
+all_wider : (layout : Layout) (es : List words.SpecMasterEntry)
+    → AllByRecursion (IsMasterEntryOf (layout_number layout)) es
     → AllByRecursion (IsMasterEntryOf 2) es
 all_wider layout [] all = tt
 all_wider layout (e ∷ es) all = (wide_entry (layout_number layout) e all.0, all_wider layout es all.1)
 
 -- A block with a fault if entries may have quotas has a fault in each layout.
-pub fault_carries : (layout : Layout) (size : ℕ) (contents : Contents) (before : List (Node words.SpecMasterEntry)) (n : ℕ)
+pub fault_carries : (layout : Layout) (size : ℕ) (contents : Contents) (before : List (Node words.SpecMasterEntry))
+    (n : ℕ)
     → IsBadBlock nat_cmp master_words (IsMasterEntryOf 2) (λ e. e.1.1) size contents before n
     → IsBadBlock nat_cmp master_words (IsMasterEntryOf (layout_number layout)) (λ e. e.1.1) size contents before n
 fault_carries layout size contents before n (malformed none) = malformed

@@ -42,10 +42,12 @@ turn_pushed entries i e old new below is so_far pushed =
     ∙ ap (λ l. l ++ (i, e) ∷ []) so_far
     ∙ (λ j. enumerate_from 0 (take i entries) ++ (places j, e) ∷ [])
     ∙ sym (enumerated_push 0 (take i entries) e)
-    ∙ ap (enumerate_from 0) (sym (take_more entries i e below ∙ ap (λ (y : EntryValue). take i entries ++ y ∷ []) (sym is)))
+    ∙ ap (enumerate_from 0)
+        (sym (take_more entries i e below ∙ ap (λ (y : EntryValue). take i entries ++ y ∷ []) (sym is)))
 
 -- the places of what was read, and one more
-pub places_more : {A B : Type 0} (f : A → ℕ) (g : B → ℕ) (ts : List B) (i : ℕ) (t : B) (old new : List A) → i < length ts
+pub places_more : {A B : Type 0} (f : A → ℕ) (g : B → ℕ) (ts : List B) (i : ℕ) (t : B) (old new : List A)
+    → i < length ts
     → t ≡ get_or ts i t → map f old ≡ map g (take i ts) → map f new ≡ map f old ++ g t ∷ []
     → map f new ≡ map g (take (i + 1) ts)
 places_more f g ts i t old new below is so_far more =
@@ -72,7 +74,8 @@ placed_in_order placed sorted vs places moved rising are =
     let place : PlacedVersion → ℕ = λ p. p.place in
     let stored : PlacedVersion → LoadedVersion = λ p. p.stored in
     let long : length placed ≡ length sorted = sym (length_permutation placed sorted moved) in
-    let ranged : map place sorted ≡ range_with_len 0 (length sorted) = rising_range place 0 (length sorted) sorted rising
+    let ranged : map place sorted ≡ range_with_len 0 (length sorted) =
+        rising_range place 0 (length sorted) sorted rising
     (λ k. times_moved (map place placed) (map place sorted) (IsPermutation-map place placed sorted moved) k
     ∙ times_moved (range_with_len 0 (length placed)) (map place placed) places k
     ∙ ap (λ n. times k (range_with_len 0 n)) long) in
@@ -124,7 +127,8 @@ module _ (size layout : ℕ) (contents : Contents) (marks : ℕ → ℕ) (ppn : 
 
 -- Versions that were read in turns, and the same in the order of their entries. The turns are the entries with their
 -- places, in any order, and each version that was read is with the place of its entry.
-module _ (es : List SpecFileEntry) (turns : List (ℕ × SpecFileEntry)) (read : List (ℕ × CurrentVersion)) (vs : List CurrentVersion)
+module _ (es : List SpecFileEntry) (turns : List (ℕ × SpecFileEntry)) (read : List (ℕ × CurrentVersion))
+    (vs : List CurrentVersion)
     (all_turns : IsPermutation (enumerate_from 0 es) turns) (placed : map (λ q. q.0) read ≡ map (λ t. t.0) turns)
     (ordered : IsPermutation read (enumerate_from 0 vs)) (aligned : length vs ≡ length es) where
   from_zero : (i : ℕ) → 0 + i ≡ i
@@ -171,7 +175,8 @@ module _ (es : List SpecFileEntry) (turns : List (ℕ × SpecFileEntry)) (read :
       omega arith
 
   -- a block is reached as often
-  pub reached_alike : (n : ℕ) → reaches_in_entries n (map (λ t. t.1) turns) (map (λ q. q.1) read) ≡ reaches_in_entries n es vs
+  pub reached_alike : (n : ℕ) → reaches_in_entries n (map (λ t. t.1) turns) (map (λ q. q.1) read) ≡ reaches_in_entries n
+      es vs
   reached_alike n = reached_in_turns n turns read turns_at_place placed
       ∙ sym (total_moved read (enumerate_from 0 vs) ordered (reaches_at n))
       ∙ reached_in_order n es vs 0 (λ i. ap (slice_get es) (from_zero i)) aligned
@@ -188,7 +193,8 @@ module _ (es : List SpecFileEntry) (turns : List (ℕ × SpecFileEntry)) (read :
       pub whole : IsVersion layout contents (place_of ppn file.0) file.1
       pub known : IsKnownVersion file v
 
-    found_in_turns : (ts : List (ℕ × SpecFileEntry)) (qs : List (ℕ × CurrentVersion)) (found : List (FileName × StoredFile))
+    found_in_turns : (ts : List (ℕ × SpecFileEntry)) (qs : List (ℕ × CurrentVersion))
+        (found : List (FileName × StoredFile))
         → AllByRecursion (λ t. slice_get es t.0 ≡ Some t.1) ts → map (λ q. q.0) qs ≡ map (λ t. t.0) ts
         → map (λ e. (e.0, e.1.prime)) found ≡ map (λ t. t.1) ts
         → AllByRecursion (λ e. IsVersion layout contents (place_of ppn e.0) e.1) found
@@ -236,7 +242,8 @@ module _ (es : List SpecFileEntry) (turns : List (ℕ × SpecFileEntry)) (read :
           reached = λ n.
               let facts = here.known in
               let blocks : reaches_in_file n here.file.1
-              ≡ times n (blocks_reached here.file.1.prime w.version) = ap (λ k. times n (k.prime ∷ (k.ribs ++ k.blocks))) facts in
+              ≡ times n (blocks_reached here.file.1.prime w.version) =
+                  ap (λ k. times n (k.prime ∷ (k.ribs ++ k.blocks))) facts in
               let prime = ap (λ (e : SpecFileEntry). times n (blocks_reached e.1 w.version)) first in
               let more = rest.reached n in
               omega arith;
@@ -308,7 +315,8 @@ module _ (entries : List EntryValue) (turns : List Turn)
       aligned : length (map known_version versions) ≡ length (map file_view entries)
       aligned = length-map versions known_version ∙ as_many_versions ∙ sym (length-map entries file_view)
 
-      versions_viewed : IsPermutation (map (λ p. (p.place, placed_known p)) read) (enumerate_from 0 (map known_version versions))
+      versions_viewed : IsPermutation (map (λ p. (p.place, placed_known p)) read)
+          (enumerate_from 0 (map known_version versions))
       versions_viewed =
           let see : ℕ × LoadedVersion → ℕ × CurrentVersion = λ p. (p.0, known_version p.1) in
           subst (IsPermutation (map (λ p. (p.place, placed_known p)) read)) (enumerated_map known_version versions 0)
@@ -320,10 +328,12 @@ module _ (entries : List EntryValue) (turns : List Turn)
       placed_viewed = map_twice (λ q. q.0) (λ p. (p.place, placed_known p)) read ∙ placed
           ∙ sym (map_twice (λ t. t.0) (λ t. (t.place, turn_view t)) turns)
 
-      seen_turns : map {A = ℕ × SpecFileEntry} (λ t. t.1) (map (λ t. (t.place, turn_view t)) turns) ≡ map turn_view turns
+      seen_turns : map {A = ℕ × SpecFileEntry} (λ t. t.1) (map (λ t. (t.place, turn_view t)) turns) ≡ map turn_view
+          turns
       seen_turns = map_twice (λ t. t.1) (λ t. (t.place, turn_view t)) turns
 
-      seen_versions : map {A = ℕ × CurrentVersion} (λ q. q.1) (map (λ p. (p.place, placed_known p)) read) ≡ map placed_known read
+      seen_versions : map {A = ℕ × CurrentVersion} (λ q. q.1) (map (λ p. (p.place, placed_known p)) read) ≡ map
+          placed_known read
       seen_versions = map_twice (λ q. q.1) (λ p. (p.place, placed_known p)) read
 
       pub reached_the_same : (n : ℕ) → reaches_in_entries n (map turn_view turns) (map placed_known read)

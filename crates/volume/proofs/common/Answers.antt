@@ -123,7 +123,8 @@ pub record IsThere (k : CurrentMap) (files : Files File) (ppn : ℕ) (d : Curren
   pub get_is : get files ppn ≡ Some (directory_of stored)
   pub known : AgreesOnDirectory d stored
 
-pub directory_there : (s : DiskState) (k : CurrentMap) (files : Files File) → Holds s k files → (ppn : ℕ) (v : ℕ × ℕ) (i : ℕ)
+pub directory_there : (s : DiskState) (k : CurrentMap) (files : Files File) → Holds s k files
+    → (ppn : ℕ) (v : ℕ × ℕ) (i : ℕ)
     → StandsAt nat_cmp k.master.entries ppn v i → (d : CurrentDirectory) → slice_get k.directories i ≡ Some d
     → IsThere k files ppn d
 directory_there s k files holds ppn v i at d is =

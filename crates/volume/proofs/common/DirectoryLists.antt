@@ -25,7 +25,8 @@ pub sorted_there : (es : List SpecFileEntry)
 sorted_there es = each_in_entries name_total (λ q x. find name_cmp q es ≡ Some x) (from_entries es)
     (λ q x is. sym (get-from_entries name_total es q) ∙ is)
 
-line_is : (k : CurrentMap) (files : Files File) (ppn : ℕ) (d : CurrentDirectory) (there : IsThere k files ppn d) (e : FileName
+line_is : (k : CurrentMap) (files : Files File) (ppn : ℕ) (d : CurrentDirectory) (there : IsThere k files ppn d)
+    (e : FileName
     × StoredFile) (l : Entry) → get there.stored.files e.0 ≡ Some e.1 → IsLine d e.0 l → l ≡ line (e.0, e.1.file)
 line_is k files ppn d there e l is named =
     let v = named.1 in

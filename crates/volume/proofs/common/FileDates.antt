@@ -7,7 +7,8 @@ use Rattle.spec_image.specs.Common.{date_limit, DiskMap}
 use Rattle.directory.specs.Common.{StandsAt}
 use Rattle.volume.specs.Common.{Facts, CurrentMap, CurrentVersion, CurrentDirectory, MatchesMap, IsNamed}
 
-pub known_dated : (size : ℕ) (k : CurrentMap) (m : DiskMap) (contents : Contents) → MatchesMap size k m contents → (ppn : ℕ)
+pub known_dated : (size : ℕ) (k : CurrentMap) (m : DiskMap) (contents : Contents) → MatchesMap size k m contents
+    → (ppn : ℕ)
     (d : CurrentDirectory) (place : ℕ) (word : ℕ × ℕ) → StandsAt nat_cmp k.master.entries ppn word place
     → slice_get k.directories place ≡ Some d → (name : FileName) (v : ℕ × CurrentVersion) → IsNamed d name (Some v)
     → v.1.prime.moment.date < date_limit m.layout

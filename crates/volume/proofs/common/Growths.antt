@@ -18,15 +18,18 @@ use Rattle.volume.proofs.common.LiveTotals.{total_updated}
 -- The place of a key, each once.
 
 -- what isn't found is at no place
-pub absent_at : (es : List SpecMasterEntry) (i k : ℕ) (v : ℕ × ℕ) → slice_get es i ≡ Some (k, v) → find nat_cmp k es ≡ None
+pub absent_at : (es : List SpecMasterEntry) (i k : ℕ) (v : ℕ × ℕ) → slice_get es i ≡ Some (k, v)
+    → find nat_cmp k es ≡ None
     → ⊥
 absent_at [] i k v is none = cc
 absent_at (e ∷ es) zero k v is none =
     let same : e ≡ (k, v) = some_same is in
-    some_none (sym (find_first nat_cmp_total e es) ∙ ap (λ (x : SpecMasterEntry). find nat_cmp x.0 (e ∷ es)) same ∙ none)
+    some_none (sym (find_first nat_cmp_total e es) ∙ ap (λ (x : SpecMasterEntry). find nat_cmp x.0 (e ∷ es)) same
+        ∙ none)
 absent_at (e ∷ es) (suc i) k v is none = absent_at es i k v is (find_tail_none nat_cmp e es k none)
 
-pub one_place : (es : List SpecMasterEntry) (i j k : ℕ) (v w : ℕ × ℕ) → EachOnce nat_cmp es → slice_get es i ≡ Some (k, v)
+pub one_place : (es : List SpecMasterEntry) (i j k : ℕ) (v w : ℕ × ℕ) → EachOnce nat_cmp es
+    → slice_get es i ≡ Some (k, v)
     → slice_get es j ≡ Some (k, w) → i ≡ j
 one_place [] i j k v w once is is' = cc
 one_place (e ∷ es) zero zero k v w once is is' = refl
@@ -164,7 +167,8 @@ module _ (less more : List (Option PendingVersion)) (key : ℕ) (p : PendingVers
       each (e ∷ es) (d ∷ ds) = λ i. (directory_cost (length d.chain.entries + same e.0 i)
           - directory_cost (length d.chain.entries)) + each es ds i
 
-  pub added_growths : (es : List SpecMasterEntry) (ds : List CurrentDirectory) (i : ℕ) (v : ℕ × ℕ) (d : CurrentDirectory)
+  pub added_growths : (es : List SpecMasterEntry) (ds : List CurrentDirectory) (i : ℕ) (v : ℕ × ℕ)
+      (d : CurrentDirectory)
       → EachOnce nat_cmp es → slice_get es i ≡ Some (p.prime.ppn, v) → slice_get ds i ≡ Some d
       → growths more es ds ≡ growths less es ds
       + (if is_creation p then growth (length d.chain.entries + total (creates p.prime.ppn) less) else 0)

@@ -110,7 +110,8 @@ hole_length [] i below = absurd (omega arith)
 hole_length (x ∷ xs) zero below = let rest = moved_length xs in omega arith
 hole_length (x ∷ xs) (suc i) below = let rest = hole_length xs i (omega arith) in omega arith
 
-pub hole_reaches : (n : ℕ) (es : List SpecFileEntry) (vs : List CurrentVersion) (i : ℕ) (e : SpecFileEntry) (v : CurrentVersion)
+pub hole_reaches : (n : ℕ) (es : List SpecFileEntry) (vs : List CurrentVersion) (i : ℕ) (e : SpecFileEntry)
+    (v : CurrentVersion)
     → length vs ≡ length es → slice_get es i ≡ Some e → slice_get vs i ≡ Some v
     → reaches_in_entries n (hole i es) (hole i vs) + times n (blocks_reached e.1 v.version)
     ≡ reaches_in_entries n es vs

@@ -59,7 +59,8 @@ keyed_at live directory keys (x ∷ xs) zero d e zip below is = subst (λ y. IsK
 keyed_at live directory keys (x ∷ xs) (suc i) d e zip below is = keyed_at live directory keys xs i d e zip.1
     (omega arith) is
 
-pub current_at : (live : List (Option LiveVersion)) (es : List SpecFileEntry) (keys : List ℕ) (i key d : ℕ) (e : SpecFileEntry)
+pub current_at : (live : List (Option LiveVersion)) (es : List SpecFileEntry) (keys : List ℕ) (i key d : ℕ)
+    (e : SpecFileEntry)
     → AreCurrent live es keys → slice_get es i ≡ Some e → key ≡ get_or keys i d → IsCurrent live key e.1
 current_at live [] keys i key d e zip there is = cc
 current_at live (x ∷ es) [] i key d e zip there is = absurd zip

@@ -51,7 +51,8 @@ directory_few size d volume whole =
     let aligned = whole.aligned in
     omega arith
 
-directories_few : (size : ℕ) (ds : List CurrentDirectory) → IsVolumeSize size → AllByRecursion (IsWholeDirectory size) ds
+directories_few : (size : ℕ) (ds : List CurrentDirectory) → IsVolumeSize size
+    → AllByRecursion (IsWholeDirectory size) ds
     → total cost_of_directory ds ≤ 100000000000 * length ds
 directories_few size [] volume all = omega arith
 directories_few size (d ∷ ds) volume all = let a = directory_few size d volume all.0 in

@@ -48,7 +48,8 @@ one_directory_whole size k k' place directory' whole master directories now same
 
 -- Memory has the new map of the disk.
 
-module _ (size : ℕ) (k k' : CurrentMap) (m : DiskMap) (ppn place : ℕ) (word : ℕ × ℕ) (directory directory' : CurrentDirectory)
+module _ (size : ℕ) (k k' : CurrentMap) (m : DiskMap) (ppn place : ℕ) (word : ℕ × ℕ)
+    (directory directory' : CurrentDirectory)
     (whole : IsWholeMap size k) (there : StandsAt nat_cmp k.master.entries ppn word place)
     (directory_at : slice_get k.directories place ≡ Some directory) (master : k'.master ≡ k.master)
     (directories : k'.directories ≡ slice_set k.directories place directory') (stored after : StoredDirectory)

@@ -162,7 +162,8 @@ module _ (n : ℕ) where
       by true at later = let here = name_reaches d.chain.entries d.versions name all.0.aligned at in omega arith
       by false at later = let rest = later at in omega arith
 
-  places_one : (size : ℕ) (es : List SpecMasterEntry) (ds : List CurrentDirectory) (ppn ppn' : ℕ) (name name' : FileName)
+  places_one : (size : ℕ) (es : List SpecMasterEntry) (ds : List CurrentDirectory) (ppn ppn' : ℕ)
+      (name name' : FileName)
       → AllByRecursion (IsWholeDirectory size) ds → total (reaches_in_known n) ds ≤ 1
       → prime_in es ds ppn name ≡ Some n → prime_in es ds ppn' name' ≡ Some n → (ppn ≡ ppn') × (name ≡ name')
   places_one size [] ds ppn ppn' name name' all once is is' = absurd (some_none (sym is))

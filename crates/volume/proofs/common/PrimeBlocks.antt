@@ -107,7 +107,8 @@ prime_stays (e ∷ es) fs (d ∷ ds) gs ppn name n is = by (eq_by_cmp nat_cmp pp
 -- One directory is another, under its number.
 
 -- the places of other numbers have what they had
-pub prime_elsewhere : (es : List SpecMasterEntry) (ds : List CurrentDirectory) (place ppn other : ℕ) (name : FileName) (w : ℕ
+pub prime_elsewhere : (es : List SpecMasterEntry) (ds : List CurrentDirectory) (place ppn other : ℕ) (name : FileName)
+    (w : ℕ
     × ℕ) (d : CurrentDirectory) → slice_get es place ≡ Some (ppn, w) → (other ≡ ppn → ⊥)
     → prime_in es (slice_set ds place d) other name ≡ prime_in es ds other name
 prime_elsewhere [] ds place ppn other name w d is differ = absurd (some_none (sym is))

@@ -82,7 +82,8 @@ module _ {K X : Type 0} {R : K → K → Ordering} (o : IsTotalOrder R) (exact :
   unfolding counted
   counted_once [] most = tt
   counted_once (e ∷ es) most = (
-    counted_none e.0 es (let first = ap {B = ℕ} (λ b. cond b 1 0) (at_itself o e.0) in let all = most e.0 in omega arith),
+    counted_none e.0 es (let first = ap {B = ℕ} (λ b. cond b 1 0) (at_itself o e.0) in let all = most e.0 in
+        omega arith),
     counted_once es (λ k. let all = most k in omega arith),
   )
 
@@ -107,7 +108,8 @@ module _ {A : Type 0} where
   )
 
   -- what holds of each element and its place
-  pub at_its_place : (P : ℕ × A → Type 0) (xs : List A) (k : ℕ) → AllByRecursion P (enumerate_from k xs) → (i : ℕ) (x : A)
+  pub at_its_place : (P : ℕ × A → Type 0) (xs : List A) (k : ℕ) → AllByRecursion P (enumerate_from k xs)
+      → (i : ℕ) (x : A)
       → slice_get xs i ≡ Some x → P (k + i, x)
   at_its_place P [] k all i x is = absurd (some_none (sym is))
   at_its_place P (y ∷ xs) k all zero x is = subst P (let zero_more : k ≡ k + 0 = omega arith in

@@ -27,7 +27,8 @@ crash_for s s' k k' m m' f f' rest is is' layout leaves =
     (λ c. ⊎_elim (λ old. inl (old.0, old.1, (m, old.2.stands, is, pack_held s k m rest)))
     (λ new. inr (new.0, new.1, (m', new.2.stands, is', layout ∙ pack_held s k m rest))))
 
-pub rest_for : (s s' : DiskState) (k' : CurrentMap) (m' : DiskMap) (f' : Files File) → s'.size ≡ s.size → files_of m' ≡ f'
+pub rest_for : (s s' : DiskState) (k' : CurrentMap) (m' : DiskMap) (f' : Files File) → s'.size ≡ s.size
+    → files_of m' ≡ f'
     → AtRest s' (MatchesMap s.size k' m') → RestsAt s' f'
 rest_for s s' k' m' f' size is rest = rests_in s' (pack_in m'.layout s'.size) f' refl (record {
   shut = rest.shut;

@@ -81,7 +81,8 @@ begun_body contents kind old has = by (is_update kind) old has
     by true (Some v) has = let body = has v refl in (body.0, body.1, body.2)
 
 pub begun_sound : (s : DiskState) (c c' : MemoryMap) (failed : Bool) (size key : ℕ) (kind : PendingKind) (prime : Prime)
-    → IsSoundMemory s c failed → size ≡ c'.known.table.size → IsWholeMemory size c' → (begins : IsBegun c c' key kind prime)
+    → IsSoundMemory s c failed → size ≡ c'.known.table.size → IsWholeMemory size c'
+        → (begins : IsBegun c c' key kind prime)
     → (s.honest → failed ≡ false → (v : ℕ × CurrentVersion) → begins.old ≡ Some v
     → HasSomeBody s.contents v.1.version)
     → (s.honest → failed ≡ false → (begun kind prime begins.old).prime.moment.date < date_limit (pack_of s).layout)

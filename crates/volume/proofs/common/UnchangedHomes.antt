@@ -88,14 +88,16 @@ unmade_low size k k' ppn puts whole removed n low =
     ∙ removed.put_chain.others c n (out_of size k'.master.blocks (removed_inside size k k' ppn puts whole removed)
     n low))
 
-pub published_low : (size : ℕ) (k k' : CurrentMap) (ppn : ℕ) (name : FileName) (at : ℕ) (v : CurrentVersion) (old : Before)
+pub published_low : (size : ℕ) (k k' : CurrentMap) (ppn : ℕ) (name : FileName) (at : ℕ) (v : CurrentVersion)
+    (old : Before)
     (puts : List Put) (whole : IsWholeMap size k) (is : IsPublished size k k' ppn name at v old puts) → (n : ℕ)
     → n ≤ 2 → IsPutIn puts n → ⊥
 published_low size k k' ppn name at v old puts whole is n low =
     not_put puts n (λ c. published_stays size k k' ppn name at v old puts whole is c n (inl (omega arith))
     (published_apart size k k' ppn name at v old puts whole is n (inl (omega arith))))
 
-pub moved_low : (size : ℕ) (k k' : CurrentMap) (ppn : ℕ) (name to : FileName) (old : ℕ × CurrentVersion) (v : CurrentVersion)
+pub moved_low : (size : ℕ) (k k' : CurrentMap) (ppn : ℕ) (name to : FileName) (old : ℕ × CurrentVersion)
+    (v : CurrentVersion)
     (words : List ℕ) (puts : List Put) (whole : IsWholeMap size k)
     (is : IsMovedWithin size k k' ppn name to old v words puts) → InSpace size old.0 → (n : ℕ) → n ≤ 2
     → IsPutIn puts n → ⊥

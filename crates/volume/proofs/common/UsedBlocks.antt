@@ -57,7 +57,8 @@ held_kept size k m old new aligned h stands stays bits = record {
 }
 
 -- Gate and log are not read.
-pub ignores_log : (size : ℕ) (k : CurrentMap) (m : DiskMap) → IsAligned k → Ignores (IsGateOrLog size) (MatchesMap size k m)
+pub ignores_log : (size : ℕ) (k : CurrentMap) (m : DiskMap) → IsAligned k
+    → Ignores (IsGateOrLog size) (MatchesMap size k m)
 ignores_log size k m aligned c d same h =
     held_kept size k m c d aligned h (log_ignored size c d m
     (λ n. ⊎_elim (λ one. same n (λ is. let low = is.0 in omega arith))

@@ -10,7 +10,8 @@ returns-in-Err g c =
       c.if-task.false,
       record {
         error = c.in-Err.error;
-        refused = subst (λ p. (g.H.HostFiles.files c.args.host.now).folder p (Err c.in-Err.error)) path c.in-Err.ensures;
+        refused = subst (λ p. (g.H.HostFiles.files c.args.host.now).folder p (Err c.in-Err.error)) path
+            c.in-Err.ensures;
         same = refl;
         written = subst (λ p. IsRefusedLine p (codes "?Can't make folder") false (g.W.Write.contents c.args.writer.now)
             (g.W.Write.contents c.turn_down.new.writer) c.turn_down.result) path c.turn_down.ensures;

@@ -17,6 +17,7 @@ returns g c next =
     let behind = each c.args.moment c.args.changes.now next in
     led_on g.S.FileService.machine _ _ _
     (each c.args.moment (lookup_events c.args.moment c.args.spec ++ c.args.changes.now) next) behind _
-    (led_first g.S.FileService.machine _ _ c.args.moment c.lookup_events.result (lookup_events c.args.moment c.args.spec)
+    (led_first g.S.FileService.machine _ _ c.args.moment c.lookup_events.result
+        (lookup_events c.args.moment c.args.spec)
     c.args.changes.now next _ c.lookup_events.ensures (c.in_ok-ask_all.ensures c.args.moment behind))
     (c.ask_all-2.ensures c.args.moment next)

@@ -23,5 +23,6 @@ pub returns : goal.returns
 returns g c = λ next.
     opened g.S.FileService.machine _ _ c.args.moment c.args.spec
     (asked_done g.S.FileService.machine c.args.moment c.lookup_events.ensures c.in_ok-ask_all.ensures) _
-    (asked_done g.S.FileService.machine c.args.moment c.list_events.ensures c.in_ok-ask_all-2.ensures) _ c.examine.result
+    (asked_done g.S.FileService.machine c.args.moment c.list_events.ensures c.in_ok-ask_all-2.ensures) _
+        c.examine.result
     (λ then. c.examine.ensures c.args.moment then) next

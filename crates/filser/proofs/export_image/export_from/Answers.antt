@@ -6,7 +6,8 @@ use Rattle.filser.proofs.export_image.export_from.Goals as goal
 
 pub returns-in-Ok-clause-was_honest : goal.returns-in-Ok-clause-was_honest
 returns-in-Ok-clause-was_honest g c h = c.in-Ok.ensures.same.was_honest
-    (c.export_files-exported.ensures.goes.goes.was_honest (subst (λ disk. (g.D.Disk.state disk).honest) c.finish.ensures h))
+    (c.export_files-exported.ensures.goes.goes.was_honest
+        (subst (λ disk. (g.D.Disk.state disk).honest) c.finish.ensures h))
 
 pub returns-in-Ok-clause-ran : goal.returns-in-Ok-clause-ran
 returns-in-Ok-clause-ran g c =
@@ -31,9 +32,11 @@ returns-in-Ok-clause-ran g c =
             recovered = c.in-Ok.ensures.recovered (first h);
             settled = c.in-Ok.ensures.settled (first h);
           };
-      transcript = subst (λ host. IsExportRun ((g.H.Host.facts host).files) (machine_over g.D.Disk.state) c.args.task.now
+      transcript = subst (λ host. IsExportRun ((g.H.Host.facts host).files) (machine_over g.D.Disk.state)
+          c.args.task.now
           (g.W.Write.contents c.args.writer.now) (g.W.Write.contents c.export_files-exported.new.writer) c.in-Ok.monitor
-          c.export_files-exported.new.monitor c.export_files-exported.result) c.of-shelf.ensures c.export_files-exported.ensures.done;
+          c.export_files-exported.new.monitor c.export_files-exported.result) c.of-shelf.ensures
+              c.export_files-exported.ensures.done;
       ends = c.ending-status.ensures.ends;
       ended = c.finish.ensures;
     })

@@ -6,7 +6,8 @@ use Rattle.filser.proofs.import_image.import_on.Goals as goal
 
 pub returns-in-Ok-clause-was_honest : goal.returns-in-Ok-clause-was_honest
 returns-in-Ok-clause-was_honest g c h = c.in-Ok.ensures.same.was_honest
-    (c.import_files-imported.ensures.goes.goes.was_honest (subst (λ disk. (g.D.Disk.state disk).honest) c.finish.ensures h))
+    (c.import_files-imported.ensures.goes.goes.was_honest
+        (subst (λ disk. (g.D.Disk.state disk).honest) c.finish.ensures h))
 
 pub returns-in-Ok-clause-ran : goal.returns-in-Ok-clause-ran
 returns-in-Ok-clause-ran g c =
@@ -31,9 +32,12 @@ returns-in-Ok-clause-ran g c =
             recovered = c.in-Ok.ensures.recovered (first h);
             settled = c.in-Ok.ensures.settled (first h);
           };
-      transcript = subst (λ host. IsImportRun ((g.H.Host.facts host).files) (machine_over g.D.Disk.state) c.args.task.now
-          (map (λ p. p.now) c.args.task.now.paths.items) (g.W.Write.contents c.args.writer.now) (g.W.Write.contents c.import_files-imported.new.writer) c.in-Ok.monitor
-          c.import_files-imported.new.monitor c.import_files-imported.result) c.of-shelf.ensures c.import_files-imported.ensures.done;
+      transcript = subst (λ host. IsImportRun ((g.H.Host.facts host).files) (machine_over g.D.Disk.state)
+          c.args.task.now
+          (map (λ p. p.now) c.args.task.now.paths.items) (g.W.Write.contents c.args.writer.now)
+              (g.W.Write.contents c.import_files-imported.new.writer) c.in-Ok.monitor
+          c.import_files-imported.new.monitor c.import_files-imported.result) c.of-shelf.ensures
+              c.import_files-imported.ensures.done;
       ends = c.ending-status.ensures.ends;
       ended = c.finish.ensures;
     })

@@ -14,7 +14,8 @@ returns-then-is_buffered-clause-count c =
     let found = ready_found c.ring_check.result _ c.args.core.now channel.input_header (bits_of c.bytes.result)
     (byte_size (mode_number channel.mode)) (ap is_err c.in_ok-ring_check.was) c.bytes.ensures
     c.ring_check.ensures.words in
-    ring_asked c.args.core.now channel c.args.address (sym c.is_buffered.ensures ∙ c.if-is_buffered.true) found.0 found.1
+    ring_asked c.args.core.now channel c.args.address (sym c.is_buffered.ensures ∙ c.if-is_buffered.true) found.0
+        found.1
 
 pub returns-in-Some-clause-count : goal.returns-in-Some-clause-count
 returns-in-Some-clause-count c =
@@ -23,7 +24,8 @@ returns-in-Some-clause-count c =
     subst (IsAsked c.args.core.now c.args.channel.now c.args.address) one
     (list_asked c.args.core.now c.args.channel.now c.args.address (sym c.is_buffered.ensures ∙ c.if-is_buffered.false)
     (c.in-Some.area ∷ []) c.in-Some.ensures.area
-    (All-cons (λ (x : Area). 0 < x.count) c.in-Some.area [] c.in-Some.ensures.some (All-nil (λ (x : Area). 0 < x.count))))
+    (All-cons (λ (x : Area). 0 < x.count) c.in-Some.area [] c.in-Some.ensures.some
+        (All-nil (λ (x : Area). 0 < x.count))))
 
 pub returns-clause-count : goal.returns-clause-count
 returns-clause-count c =

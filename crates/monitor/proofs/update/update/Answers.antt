@@ -122,7 +122,8 @@ returns-in-Ok-clause-reads g c =
     subst (λ live. KeepsReading live new.live c.args.job.now c.set_channel.new.self) begins.4.live
     (subst (KeepsReading between.live new.live c.args.job.now) (sym c.set_channel.ensures)
     (renewed_reading between new c.args.reading.1 c.renew-renewed.result c.args.reading.1.ppn c.args.reading.1.file
-    c.prime_of-prime.result.protection c.renew-renewed.ensures.renews.0 c.args.job.now c.args.number _ c.args.reading.0 _
+    c.prime_of-prime.result.protection c.renew-renewed.ensures.renews.0 c.args.job.now c.args.number _ c.args.reading.0
+        _
     c.requires.there
     c.requires.side refl))
 

@@ -36,7 +36,8 @@ returns-in-Err-clause-tree g c h home =
     let s = g.D.Disk.state c.args.disk.now in
     let ensures = c.load_chain.ensures in
     none_read_on s.size (layout_number c.args.home.layout) s.contents c.args.files.now.items c.args.findings.now.items
-    c.report_refusal.new.findings.items c.in-Err.refusal c.report_refusal.result c.requires.no_files c.requires.no_findings
+    c.report_refusal.new.findings.items c.in-Err.refusal c.report_refusal.result c.requires.no_files
+        c.requires.no_findings
     (master_refused s.size c.args.home.layout s.contents c.args.home.master c.load_chain.result c.in-Err.refusal
     c.in-Err.is c.requires.volume home ensures.only (ensures.bad h) (ensures.twice h) ensures.named)
     c.report_refusal.ensures.told c.report_refusal.ensures.fault

@@ -9,7 +9,8 @@ use Rattle.volume.proofs.begin.growth_at.Goals as goal
 pub overflow_add-entries : goal.overflow_add-entries
 overflow_add-entries c =
     let memory = c.args.memory.now in
-    let at = viewed_there (live_directory memory.versions.slots) memory.directories.items c.args.place c.index.result.now
+    let at = viewed_there (live_directory memory.versions.slots) memory.directories.items c.args.place
+        c.index.result.now
     c.index.result.now c.requires.inside c.index.ensures in
     let few = c.requires.few (live_directory memory.versions.slots c.index.result.now) at in
     let many = length-map c.index.result.now.chain.entries file_view in
@@ -20,7 +21,8 @@ overflow_add-entries c =
 pub returns-clause-value : goal.returns-clause-value
 returns-clause-value c d is =
     let memory = c.args.memory.now in
-    let at = viewed_there (live_directory memory.versions.slots) memory.directories.items c.args.place c.index.result.now
+    let at = viewed_there (live_directory memory.versions.slots) memory.directories.items c.args.place
+        c.index.result.now
     c.index.result.now c.requires.inside c.index.ensures in
     let same : live_directory memory.versions.slots c.index.result.now ≡ d = some_same (sym at ∙ is) in
     let many = length-map c.index.result.now.chain.entries file_view in

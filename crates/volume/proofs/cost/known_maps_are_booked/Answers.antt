@@ -7,5 +7,6 @@ pub returns-clause-cost : goal.returns-clause-cost
 returns-clause-cost c = cost_is
 
 pub returns-clause-used : goal.returns-clause-used
-returns-clause-used c size memory whole = let a = memory_used size memory whole in let b = memory_uses size memory whole in
+returns-clause-used c size memory whole = let a = memory_used size memory whole in let b =
+    memory_uses size memory whole in
     omega arith

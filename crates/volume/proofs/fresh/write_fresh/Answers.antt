@@ -35,5 +35,6 @@ loop-n-preserved g c =
           written_more (layout_number c.args.layout) s.size c.args.from c.loop-n.n now.contents new.contents
           (c.loop-n.invariant.written (c.write.ensures.same.was_honest h)) (c.write.ensures.writes h).contents
           (c.in_ok-write.ensures.put h
-          ∙ ap Some (c.fresh_block.ensures ∙ ap (λ (size : ℕ). fresh_words (layout_number c.args.layout) size c.loop-n.n) c.blocks-size.ensures));
+          ∙ ap Some (c.fresh_block.ensures
+              ∙ ap (λ (size : ℕ). fresh_words (layout_number c.args.layout) size c.loop-n.n) c.blocks-size.ensures));
     }

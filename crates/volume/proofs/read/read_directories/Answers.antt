@@ -39,11 +39,13 @@ returns-in_err-add_directory-clause-fault g c h =
     let same = same_contents s.contents now.contents
     (c.loop-entry.invariant.disk.keeps (c.add_directory.ensures.disk.same.was_honest h)).contents in
     let marks = digit_at c.loop-entry.reached in
-    handed (IsFaultOfDirectories s.size (layout_number c.args.layout) s.contents (digit_at c.args.reached.now) (map master_view c.args.entries.now))
+    handed (IsFaultOfDirectories s.size (layout_number c.args.layout) s.contents (digit_at c.args.reached.now)
+        (map master_view c.args.entries.now))
     c.from_residual.result c.add_directory.result p.0 c.in_err-add_directory.field-0.0 p.1 p.2
     c.in_err-add_directory.was
     (found_on (IsFaultOfDirectory now.size (layout_number c.args.layout) now.contents marks e.ppn e.first)
-    (IsFaultOfDirectories s.size (layout_number c.args.layout) s.contents (digit_at c.args.reached.now) (map master_view c.args.entries.now))
+    (IsFaultOfDirectories s.size (layout_number c.args.layout) s.contents (digit_at c.args.reached.now)
+        (map master_view c.args.entries.now))
     c.add_directory.result
     (λ error met. directory_fault s.size (layout_number c.args.layout) s.contents (map master_view c.args.entries.now)
     (map master_view (take i c.args.entries.now)) (map master_view (drop (i + 1) c.args.entries.now))
@@ -91,7 +93,8 @@ loop-entry-preserved g c =
           c.add_directory.new.directories.items
           (digit_at c.args.reached.now) (digit_at c.loop-entry.reached) (digit_at c.add_directory.new.reached)
           c.loop-entry.invariant.marked c.in_ok-add_directory.ensures.marked;
-      read = λ h. directories_go_on known_directory (layout_number c.args.layout) s.contents now.contents master_view c.args.entries.now
+      read = λ h. directories_go_on known_directory (layout_number c.args.layout) s.contents now.contents master_view
+          c.args.entries.now
           c.loop-entry.entry-index c.entry-item.result c.loop-entry.directories.items
           c.add_directory.new.directories.items
           (digit_at c.args.reached.now) (digit_at c.loop-entry.reached) (digit_at c.add_directory.new.reached)
@@ -113,8 +116,10 @@ loop-entry-init g c =
       aligned = ap length c.new-directories.ensures.items;
       whole = subst (AllByRecursion (IsWholeDirectory s.size)) (sym none) tt;
       marked = λ n. let e = ap (total (reaches_in_known n)) none in omega arith;
-      read = λ h. subst (λ (ds : List CurrentDirectory). AreDirectoriesRead (layout_number c.args.layout) s.contents [] ds (digit_at c.args.reached.now)
-          (digit_at c.args.reached.now)) (sym none) (no_directories (layout_number c.args.layout) s.contents (digit_at c.args.reached.now));
+      read = λ h. subst (λ (ds : List CurrentDirectory). AreDirectoriesRead (layout_number c.args.layout) s.contents []
+          ds (digit_at c.args.reached.now)
+          (digit_at c.args.reached.now)) (sym none)
+              (no_directories (layout_number c.args.layout) s.contents (digit_at c.args.reached.now));
     }
 
 pub returns-in_err-add_directory-clause-named : goal.returns-in_err-add_directory-clause-named

@@ -18,6 +18,7 @@ invariant-loop-turn g l = record {
   marked : (n : ℕ) → digit_at l.reached n ≡ digit_at l.fn.reached n
       + reaches_in_entries n (map turn_view (take l.turn-index l.turns)) (map placed_known l.read.items);
   read : (g.D.Disk.state l.disk).honest
-      → AreFilesRead (layout_number l.layout) (g.D.Disk.state l.fn.disk).contents l.ppn (map turn_view (take l.turn-index l.turns))
+      → AreFilesRead (layout_number l.layout) (g.D.Disk.state l.fn.disk).contents l.ppn
+          (map turn_view (take l.turn-index l.turns))
       (map placed_known l.read.items) (digit_at l.fn.reached) (digit_at l.reached);
 }

@@ -86,5 +86,6 @@ pub returns-clause-held : goal.returns-clause-held
 returns-clause-held g c =
     let v = c.move_to_directory.ensures.0 in
     let moves = c.move_to_directory.ensures.1 in
-    version_held (memory_of c.args.memory.now) (memory_of c.move_to_directory.new.memory) c.args.key v moves.prime moves.there
+    version_held (memory_of c.args.memory.now) (memory_of c.move_to_directory.new.memory) c.args.key v moves.prime
+        moves.there
     moves.here moves.others

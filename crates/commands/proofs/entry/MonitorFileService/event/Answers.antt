@@ -20,7 +20,8 @@ returns g c =
             is.0,
             is.1,
             is.2,
-            event_kept d d' m.map n.map m.failed n.failed m.jobs n.jobs c.args.event.now c.event.result old is.0 p.same.size
+            event_kept d d' m.map n.map m.failed n.failed m.jobs n.jobs c.args.event.now c.event.result old is.0
+                p.same.size
                 (p.crash h) serves is.1 is.2,
           );
       counted = (p.counted, p.served);

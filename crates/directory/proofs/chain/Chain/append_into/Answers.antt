@@ -11,7 +11,8 @@ push_block-requires-clause-spare g c =
     (sym (c.self.inside.blocks.ok.0 ∙ ap (λ s. length s.blocks) c.self.view_is))
     (subst (λ r. IfSome c.args.block (λ _. IsSpareFor (length c.args.self.now.blocks) r))
     (sym (ap (λ r. r.blocks) c.reserve.view_is))
-    (room_block g.E.ChainEntry.view c.args.self.now (g.E.ChainEntry.view c.args.entry).0 c.args.reserve c.requires.reserve
+    (room_block g.E.ChainEntry.view c.args.self.now (g.E.ChainEntry.view c.args.entry).0 c.args.reserve
+        c.requires.reserve
     c.requires.absent c.args.block c.requires.block))
 
 pub invariant_of-self : goal.invariant_of-self

@@ -9,14 +9,16 @@ use Rattle.volume.proofs.volume.Volume.set_quota.Goals as goal
 
 pub commit_edit-requires-clause-in_range : goal.commit_edit-requires-clause-in_range
 commit_edit-requires-clause-in_range g c = puts_in_range (g.D.Disk.state c.self.inside.disk).size
-    (memory_of c.self.inside.map) (memory_of c.limit_directory.new.memory) c.args.ppn c.args.quota c.limit_directory.new.set
+    (memory_of c.self.inside.map) (memory_of c.limit_directory.new.memory) c.args.ppn c.args.quota
+        c.limit_directory.new.set
     c.self.invariant.map.whole c.limit_directory.ensures
 
 -- What becomes of the disk.
 
 edited : (g : Given.Over) (c : goal.After-commit_edit g)
     → IsEdited (g.D.Disk.state c.self.inside.disk) (g.D.Disk.state c.commit_edit.new.disk)
-    (memory_of c.self.inside.map) (memory_of c.limit_directory.new.memory) (λ f. files_limited f c.args.ppn c.args.quota)
+    (memory_of c.self.inside.map) (memory_of c.limit_directory.new.memory)
+        (λ f. files_limited f c.args.ppn c.args.quota)
     c.commit_edit.new.failed c.commit_edit.result
 edited g c =
     let layout = c.self.inside.layout in
@@ -35,7 +37,8 @@ returns-clause-files g c = rw (← c.self.view_is) (edited g c).files
 pub returns-clause-kept : goal.returns-clause-kept
 returns-clause-kept g c = rw (← c.self.view_is) (λ h n from none closed.
     not_written_stays c.commit_edit.ensures h n
-    (not_written _ _ (memory_of c.limit_directory.new.memory) _ _ _ c.self.invariant.map.whole c.limit_directory.ensures n
+    (not_written _ _ (memory_of c.limit_directory.new.memory) _ _ _ c.self.invariant.map.whole c.limit_directory.ensures
+        n
     from none) closed)
 
 -- What becomes of memory.
