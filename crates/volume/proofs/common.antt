@@ -21,8 +21,12 @@ pub mod LiveBodies
 pub mod Holes
 pub mod StillMatches
 pub mod Growths
+pub mod SameKeys
 pub mod OneDirectory
+pub mod StoredDirectories
+pub mod MovedPrimes
 pub mod BlockLists
+pub mod ChainPuts
 pub mod MapStays
 pub mod PrimeBlocks
 pub mod OnePlace

@@ -13,16 +13,16 @@ use Rattle.spec_image.specs.Common.{space_start, StoredFile, StoredDirectory, Di
 use Rattle.spec_image.specs.Common.{table_bit}
 use Rattle.spec_image.proofs.Common.{directory_removed, once, same_map, get-empty, get-remove_other, get-map_values}
 use Rattle.spec_image.proofs.Common.{map_values-remove, name_total, name_exact, each_times}
-use Rattle.changeset.specs.Common.{some_or_none}
 use Rattle.alloctab.specs.Common.{bit}
 use Rattle.directory.specs.Common.{IsOn, on_kept}
 use Rattle.volume.specs.Common.{CurrentDirectory, CurrentMap, AgreesOnDirectory, MatchesMap, IsWholeMap}
 use Rattle.volume.specs.Common.{IsDirectoryRemoved}
 use Rattle.volume.proofs.common.UsedBlocks.{reached_in_space, chain_reached}
 use Rattle.volume.proofs.common.Lists.{head_front, none_mapped}
-use Rattle.volume.proofs.common.TableBits.{bits_same}
+use Rattle.volume.proofs.common.ChainPuts.{PutsBoth, out_of_chain, both_stay, homes_stay, both_on, both_bits}
+use Rattle.volume.proofs.common.ChainPuts.{both_undamaged}
 use Rattle.volume.proofs.MakeDir.Law.{master_stands}
-use Rattle.volume.proofs.DeleteDir.Memory.{removed_inside, chain_times, freed_times}
+use Rattle.volume.proofs.DeleteDir.Memory.{puts_both, chain_times, freed_times}
 use Rattle.volume.proofs.DeleteDir.Places.{stood_at, was_directory}
 
 -- a map without values is empty
@@ -33,9 +33,6 @@ none_mapped_to {X} {Y} f m none = same_map name_total name_exact m empty
 
 module _ (size : ℕ) (k k' : CurrentMap) (m : DiskMap) (ppn : ℕ) (puts : List Put) (whole : IsWholeMap size k)
     (removed : IsDirectoryRemoved size k k' ppn puts) (c : Contents) (held : MatchesMap size k m c) where
-  mid : Contents
-  mid = with_puts removed.chain_puts c
-
   abbrev d : CurrentDirectory
   d = removed.directory
 
@@ -53,37 +50,18 @@ module _ (size : ℕ) (k k' : CurrentMap) (m : DiskMap) (ppn : ℕ) (puts : List
   master_times : (n : ℕ) → times n m.chain ≡ times n k'.master.blocks + times n removed.left
   master_times n = ap (times n) held.known.chain ∙ chain_times size k k' ppn puts whole removed n
 
-  chain_in_space : (n : ℕ) → 0 < times n k'.master.blocks → InSpace size n
-  chain_in_space n there = each_times (InSpace size) k'.master.blocks n
-      (removed_inside size k k' ppn puts whole removed)
-      there
-
-  out_of_chain : (n : ℕ) → (n < space_start size) ⊎ (size ≤ n) → times n k'.master.blocks ≡ 0
-  out_of_chain n out = ⊎_elim
-      (λ there. absurd (let from = (chain_in_space n there).from in let below = (chain_in_space n there).below in
-      ⊎_elim (λ low. omega arith) (λ high. omega arith) out))
-      (λ none. none) (some_or_none (times n k'.master.blocks))
+  abbrev both : PutsBoth master_words size k.table k'.table k.master k'.master puts
+  both = puts_both size k k' ppn puts whole removed
 
   -- what stays
-
-  others : (n : ℕ) → (n < table_start size) ⊎ (space_start size ≤ n) → times n k'.master.blocks ≡ 0
-      → with_puts puts c n ≡ c n
-  others n away none = removed.put.others c n away ∙ removed.put_chain.others c n none
-
-  mid_table : (i : ℕ) → i < table_blocks size → with_puts removed.chain_puts c (table_start size + i)
-      ≡ c (table_start size + i)
-  mid_table i below = removed.put_chain.others c (table_start size + i)
-      (out_of_chain (table_start size + i) (inl (omega arith)))
-
   reached_stays : (n : ℕ) → 0 < reaches n m → times n m.chain ≡ 0 → with_puts puts c n ≡ c n
-  reached_stays n there none =
-      others n (inr (reached_in_space size c m held.stands n there).from) (let parts = master_times n in omega arith)
+  reached_stays n there none = both_stay both c n (inr (reached_in_space size c m held.stands n there).from)
+      (let parts = master_times n in omega arith)
 
   -- the chain of the master directory
 
   new_on : IsOn master_words (with_puts puts c) k'.master
-  new_on = on_kept master_words (with_puts removed.chain_puts c) (with_puts puts c) k'.master
-      (removed.put_chain.spells c held.master) (λ n there. removed.put.others c n (inr (chain_in_space n there).from))
+  new_on = both_on both c held.master
 
   names : from_entries k'.master.entries ≡ remove (map_values entry_of m.directories) ppn
   names = removed.names ∙ ap (λ f. remove f ppn) (sym held.known.names)
@@ -98,14 +76,13 @@ module _ (size : ℕ) (k k' : CurrentMap) (m : DiskMap) (ppn : ℕ) (puts : List
   -- the table
 
   new_bits : (n : ℕ) → table_bit size (with_puts puts c) n ≡ bit k'.table n
-  new_bits = removed.put.spells c (λ n. bits_same size c (with_puts removed.chain_puts c) mid_table n ∙ held.bits n)
+  new_bits = both_bits both c held.bits
 
   follows : TableFollows size c (with_puts puts c) (λ n. times n m.chain + times n in_map.0.chain)
       (λ n. times n k'.master.blocks)
   follows = record {
-    undamaged = removed.put.undamaged c
-        (λ i below. subst IsSome (sym (mid_table i below)) (held.stands.marked.undamaged i below));
-    inside = λ n past. out_of_chain n (inr past);
+    undamaged = both_undamaged both c held.stands.marked.undamaged;
+    inside = λ n past. out_of_chain both n (inr past);
     bits = λ n.
         let new = new_bits n in
         let less = removed.bits n in
@@ -119,13 +96,7 @@ module _ (size : ℕ) (k k' : CurrentMap) (m : DiskMap) (ppn : ℕ) (puts : List
   new_map : HasMap size (with_puts puts c) (without_directory m k'.master.blocks ppn)
   new_map = directory_removed size c (with_puts puts c) m k'.master.blocks ppn in_map.0 held.stands in_map.1 no_files
       new_master first_block
-      (record {
-        home = record {
-          first = others 1 (inl (omega arith)) (out_of_chain 1 (inl (omega arith)));
-          second = others 2 (inl (omega arith)) (out_of_chain 2 (inl (omega arith)));
-        };
-        others = λ n there none. reached_stays n there (omega arith);
-      })
+      (record { home = homes_stay both c; others = λ n there none. reached_stays n there (omega arith) })
       follows
 
   -- memory

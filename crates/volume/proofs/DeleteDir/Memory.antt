@@ -19,7 +19,7 @@ use Rattle.volume.proofs.common.Apart.{apart_same}
 use Rattle.volume.proofs.VolumeStart.FoundDirectories.{all_at}
 use Rattle.volume.proofs.common.Growths.{share}
 use Rattle.volume.proofs.common.Holes.{hole_all, hole_zip, hole_growths}
-use Rattle.volume.proofs.common.Puts.{not_put}
+use Rattle.volume.proofs.common.ChainPuts.{PutsBoth, space_not_written}
 use Rattle.volume.proofs.DeleteDir.Tables.{chain_less}
 use Rattle.volume.proofs.DeleteDir.Places.{within, entries_out, directories_out, found_other, primes_same}
 use Rattle.volume.proofs.DeleteFile.Entries.{zip_length}
@@ -125,20 +125,20 @@ module _ (size : ℕ) (k k' : CurrentMap) (ppn : ℕ) (puts : List Put) (whole :
       (omega arith) in
       omega arith
 
-  -- what is put lies where it may, and there is room for it
-  pub puts_in_range : AllByRecursion (IsTarget size) (targets puts)
-  puts_in_range = removed.put.in_range (removed.put_chain.in_range size removed_inside tt)
-
-  pub puts_few : length puts ≤ log_images size
-  puts_few = let a = removed.put.few in let b = removed.few in omega arith
+  -- what is put
+  abbrev pub puts_both : PutsBoth master_words size k.table k'.table k.master k'.master puts
+  puts_both = record {
+    chain_puts = removed.chain_puts;
+    chain = removed.put_chain;
+    few = removed.few;
+    table = removed.put;
+    inside = removed_inside;
+  }
 
   -- no block of the free space is written, except those of the master directory
   pub not_written : (n : ℕ) → space_start size ≤ n → times n k.master.blocks ≡ 0
       → IsGateOrLog size n ⊎ IsPutIn puts n → ⊥
-  not_written n from none = ⊎_elim
-      (λ log. let below = log.1 in omega arith)
-      (not_put puts n (λ c. removed.put.others c n (inr from) ∙ removed.put_chain.others c n
-      (let chain = chain_times n in omega arith)))
+  not_written n from none = space_not_written puts_both n from (let chain = chain_times n in omega arith)
 
 -- Memory, with the versions in use, which stay.
 module _ (size : ℕ) (c c' : MemoryMap) (ppn : ℕ) (puts : List Put) (memory : IsWholeMemory size c)

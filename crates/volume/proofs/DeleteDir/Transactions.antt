@@ -5,9 +5,9 @@ use Rattle.spec_image.specs.Common.{without_directory}
 use Rattle.spec_image.proofs.Common.{files_without}
 use Rattle.volume.specs.Common.{MemoryMap, IsWholeMemory, directory_removed, RemovesDirectory}
 use Rattle.volume.proofs.common.Edits.{Nowhere, Anyhow, IsEdit}
-use Rattle.volume.proofs.common.UnchangedHomes.{unmade_low}
+use Rattle.volume.proofs.common.ChainPuts.{both_in_range, both_few, low_not_put}
 use Rattle.volume.proofs.common.LiveBodies.{bodies_of, dated_of}
-use Rattle.volume.proofs.DeleteDir.Memory.{removed_memory, puts_in_range, puts_few, not_written}
+use Rattle.volume.proofs.DeleteDir.Memory.{removed_memory, puts_both, not_written}
 use Rattle.volume.proofs.DeleteDir.Law.{removing_leads}
 
 edit : (size : ℕ) (c c' : MemoryMap) (ppn : ℕ) (puts : List Put) → IsWholeMemory size c
@@ -18,9 +18,9 @@ edit size c c' ppn puts whole is layout = record {
   bodies = λ d. bodies_of d c c' is.live is.pending;
   dated = λ n. dated_of n c c' is.pending;
   quiet = λ n none. absurd none;
-  in_range = puts_in_range size c.known c'.known ppn puts whole.map is.removed;
-  few = puts_few size c.known c'.known ppn puts whole.map is.removed;
-  low = unmade_low size c.known c'.known ppn puts whole.map is.removed;
+  in_range = both_in_range (puts_both size c.known c'.known ppn puts whole.map is.removed);
+  few = both_few (puts_both size c.known c'.known ppn puts whole.map is.removed);
+  low = λ n low. low_not_put (puts_both size c.known c'.known ppn puts whole.map is.removed) n (omega arith);
   spares = λ n kept put. not_written size c.known c'.known ppn puts whole.map is.removed n kept.from
       (let apart = kept.apart in omega arith) (inr put);
   leads = λ m d same held ready. (

@@ -18,17 +18,17 @@ use Rattle.spec_image.proofs.Common.{name_total, name_exact, some_same, get-remo
 use Rattle.spec_image.proofs.Common.{map_values-remove, times-append, each_times, removed, all_left}
 use Rattle.spec_image.proofs.ChangedFiles.{files_removed as files_of_removed}
 use Rattle.alloctab.specs.Common.{bit}
-use Rattle.changeset.specs.Common.{IsPutIn, some_or_none}
 use Rattle.directory.specs.Common.{IsOn, chain_stands, on_kept}
 use Rattle.volume.specs.Common.{CurrentVersion, CurrentMap, AgreesOnFile, AgreesOnDirectory, MatchesMap}
 use Rattle.volume.specs.Common.{IsWholeDirectory}
 use Rattle.volume.specs.Common.{IsWholeMap, blocks_reached, files_without, files_removed, IsRemoved}
 use Rattle.volume.proofs.VolumeStart.FoundDirectories.{all_at}
-use Rattle.volume.proofs.common.Puts.{not_put}
+use Rattle.volume.proofs.common.ChainPuts.{PutsBoth, out_of_chain, both_stay, homes_stay, both_on, both_bits}
+use Rattle.volume.proofs.common.ChainPuts.{both_undamaged}
 use Rattle.volume.proofs.common.UsedBlocks.{reached_in_space}
 use Rattle.volume.proofs.common.Lists.{head_front}
-use Rattle.volume.proofs.common.TableBits.{bits_same}
 use Rattle.volume.proofs.common.OneDirectory.{directory_leads}
+use Rattle.volume.proofs.common.StoredDirectories.{stored_agrees, files_stand, known_without}
 use Rattle.volume.proofs.common.ReachedBlocks.{file_times}
 
 -- The map without the file.
@@ -60,31 +60,14 @@ module _ (size : ℕ) (k k' : CurrentMap) (ppn : ℕ) (name : FileName) (old : �
   new_inside = all_left (InSpace size) is.directory'.chain.blocks is.left
       (subst (AllByRecursion (InSpace size)) is.blocks was_whole.inside)
 
-  out_of_chain : (n : ℕ) → (n < space_start size) ⊎ (size ≤ n) → times n is.directory'.chain.blocks ≡ 0
-  out_of_chain n out = ⊎_elim
-      (λ there. absurd (let in_space = each_times (InSpace size) is.directory'.chain.blocks n new_inside there in
-      let from = in_space.from in let below = in_space.below in
-      ⊎_elim (λ low. omega arith) (λ high. omega arith) out))
-      (λ none. none) (some_or_none (times n is.directory'.chain.blocks))
-
-  -- no other block changes than those of the table and of the chain
-  stays : (c : Contents) (n : ℕ) → (n < table_start size) ⊎ (space_start size ≤ n)
-      → times n is.directory'.chain.blocks ≡ 0 → with_puts puts c n ≡ c n
-  stays c n away none = is.put.others c n away ∙ is.put_chain.others c n none
-
-  pub removed_in_range : AllByRecursion (IsTarget size) (targets puts)
-  removed_in_range = is.put.in_range (is.put_chain.in_range size new_inside tt)
-
-  -- nothing before the table is put
-  pub removed_low : (n : ℕ) → n < table_start size → IsPutIn puts n → ⊥
-  removed_low n low = not_put puts n (λ c. stays c n (inl low) (out_of_chain n (inl (omega arith))))
-
-  pub removed_few : length puts ≤ log_images size
-  removed_few = let a = is.put.few in let b = is.few in omega arith
-
-  -- a block of the free space isn't put, except those of the directory's chain
-  pub not_removed : (n : ℕ) → space_start size ≤ n → times n is.directory'.chain.blocks ≡ 0 → IsPutIn puts n → ⊥
-  not_removed n from none = not_put puts n (λ c. stays c n (inr from) none)
+  abbrev pub puts_both : PutsBoth file_words size k.table k'.table is.directory.chain is.directory'.chain puts
+  puts_both = record {
+    chain_puts = is.chain_puts;
+    chain = is.put_chain;
+    few = is.few;
+    table = is.put;
+    inside = new_inside;
+  }
 
   -- In the directory that the map has there.
 
@@ -93,9 +76,7 @@ module _ (size : ℕ) (k k' : CurrentMap) (ppn : ℕ) (name : FileName) (old : �
     -- which blocks are meant
 
     stored_is : AgreesOnDirectory is.directory stored
-    stored_is =
-        let found = held.known.each is.place (ppn, is.word) is.directory is.there.is is.directory_at in
-        subst (AgreesOnDirectory is.directory) (some_same (sym found.1 ∙ stored_at)) found.2
+    stored_is = stored_agrees held.known is.place ppn is.word is.directory stored is.there.is is.directory_at stored_at
 
     stored_times : (n : ℕ) → times n stored.chain ≡ times n is.directory.chain.blocks
     stored_times n = ap (times n) stored_is.chain
@@ -117,29 +98,20 @@ module _ (size : ℕ) (k k' : CurrentMap) (ppn : ℕ) (name : FileName) (old : �
 
     -- what stays
 
-    mid_table : (i : ℕ) → i < table_blocks size → with_puts is.chain_puts c (table_start size + i)
-        ≡ c (table_start size + i)
-    mid_table i below = is.put_chain.others c (table_start size + i)
-        (out_of_chain (table_start size + i) (inl (omega arith)))
-
     reached_stays : (n : ℕ) → 0 < reaches n m → times n is.directory.chain.blocks ≡ 0 → with_puts puts c n ≡ c n
-    reached_stays n there none = stays c n (inr (reached_in_space size c m held.stands n there).from)
+    reached_stays n there none = both_stay puts_both c n (inr (reached_in_space size c m held.stands n there).from)
         (let e = chain_times n in omega arith)
 
     -- the chain of the directory
 
     new_on : IsOn file_words (with_puts puts c) is.directory'.chain
-    new_on = on_kept file_words (with_puts is.chain_puts c) (with_puts puts c) is.directory'.chain
-        (is.put_chain.spells c (held.chains is.place is.directory is.directory_at))
-        (λ n there. is.put.others c n (inr (each_times (InSpace size) is.directory'.chain.blocks n
-        new_inside there).from))
+    new_on = both_on puts_both c (held.chains is.place is.directory is.directory_at)
 
     primes : from_entries is.directory'.chain.entries ≡ remove (primes_of stored) name
     primes = is.entry.names ∙ (λ i. remove (sym stored_is.names i) name)
 
     new_chain : IsFileChain (with_puts puts c) is.directory'.chain.blocks (remove (primes_of stored) name)
-    new_chain = subst (IsFileChain (with_puts puts c) is.directory'.chain.blocks) primes
-        (chain_stands file_words IsFileEntry (with_puts puts c) is.directory'.chain is.entry.chain new_on)
+    new_chain = files_stand (with_puts puts c) is.directory'.chain _ is.entry.chain new_on primes
 
     first_block : head_or_zero is.directory'.chain.blocks ≡ head_or_zero stored.chain
     first_block =
@@ -149,14 +121,13 @@ module _ (size : ℕ) (k k' : CurrentMap) (ppn : ℕ) (name : FileName) (old : �
     -- the table
 
     new_bits : (n : ℕ) → table_bit size (with_puts puts c) n ≡ bit k'.table n
-    new_bits = is.put.spells c (λ n. bits_same size c (with_puts is.chain_puts c) mid_table n ∙ held.bits n)
+    new_bits = both_bits puts_both c held.bits
 
     follows : TableFollows size c (with_puts puts c) (λ n. times n stored.chain + reaches_in_file n f)
         (λ n. times n is.directory'.chain.blocks)
     follows = record {
-      undamaged = is.put.undamaged c
-          (λ i below. subst IsSome (sym (mid_table i below)) (held.stands.marked.undamaged i below));
-      inside = λ n past. out_of_chain n (inr past);
+      undamaged = both_undamaged puts_both c held.stands.marked.undamaged;
+      inside = λ n past. out_of_chain puts_both n (inr past);
       bits = λ n. let a = new_bits n in let b = is.bits n in let e = held.bits n in let g = gone_times n in
           let h = chain_times n in let s = stored_times n in omega arith;
     }
@@ -165,34 +136,17 @@ module _ (size : ℕ) (k k' : CurrentMap) (ppn : ℕ) (name : FileName) (old : �
     new_map = removed size c (with_puts puts c) m ppn stored name f is.directory'.chain.blocks held.stands stored_at
         file.1 new_chain first_block
         (record {
-          home = record {
-            first = stays c 1 (inl (omega arith)) (out_of_chain 1 (inl (omega arith)));
-            second = stays c 2 (inl (omega arith)) (out_of_chain 2 (inl (omega arith)));
-          };
+          home = homes_stay puts_both c;
           others = λ n there none. reached_stays n there (let s = stored_times n in omega arith);
         })
         follows
 
     -- memory
 
-    each_file : (i : ℕ) (e : SpecFileEntry) (u : CurrentVersion) → slice_get is.directory'.chain.entries i ≡ Some e
-        → slice_get is.directory'.versions i ≡ Some u
-        → AgreesOnFile (without_file stored is.directory'.chain.blocks name) e u
-    each_file i e u here also =
-        let kept = is.entry.each i e u here also in
-        let found = stored_is.each kept.1 e u kept.2 kept.3 in
-        (found.0, get-remove_other name_total name_exact stored.files name e.0 kept.0 ∙ found.1, found.2)
-
-    new_known : AgreesOnDirectory is.directory' (without_file stored is.directory'.chain.blocks name)
-    new_known = record {
-      chain = refl;
-      names = map_values-remove name_total name_exact (λ x. x.prime) stored.files name ∙ sym primes;
-      each = each_file;
-    }
-
     pub removing_leads_in : MatchesMap size k' (map_removed m ppn stored is.directory'.chain.blocks name)
         (with_puts puts c)
     removing_leads_in = directory_leads size k k' m ppn is.place is.word is.directory is.directory' whole is.there
         is.directory_at is.master is.directories stored (without_file stored is.directory'.chain.blocks name) stored_at
-        c held puts (λ n there none. reached_stays n there (let s = stored_times n in omega arith)) new_known
+        c held puts (λ n there none. reached_stays n there (let s = stored_times n in omega arith))
+        (known_without is.directory is.directory' name old stored is.entry stored_is)
         (λ i. (master_word stored.protection stored.quota, first_block i)) new_on new_map new_bits

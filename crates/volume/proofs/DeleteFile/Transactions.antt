@@ -5,7 +5,7 @@ use Rattle.words36.specs.declared.names.FileName.{FileName}
 use Rattle.blockdisk.specs.Common.{Contents}
 use Rattle.changeset.specs.Common.{IsPutIn}
 use Rattle.spec_image.specs.declared.put.Put.{Put}
-use Rattle.spec_image.specs.Common.{times}
+use Rattle.spec_image.specs.Common.{file_words, times}
 use Rattle.spec_image.proofs.Common.{some_same, some_none}
 use Rattle.alloctab.specs.Common.{IsTable}
 use Rattle.volume.specs.Common.{MemoryMap, slot, pending_at, as_known, IsWholeMemory, files_removed, RemovesFile}
@@ -17,14 +17,18 @@ use Rattle.volume.proofs.common.LiveBodies.{HaveBodies, dated_of}
 use Rattle.volume.proofs.PublishVersion.StepPremises.{part_of}
 use Rattle.volume.proofs.PublishVersion.Slots.{left_cases}
 use Rattle.volume.proofs.DeleteFile.Memory.{removed_whole}
-use Rattle.volume.proofs.DeleteFile.Law.{map_removed, removed_files, removing_leads_in, removed_in_range, removed_few}
-use Rattle.volume.proofs.DeleteFile.Law.{removed_low, not_removed, chain_times}
+use Rattle.volume.proofs.common.ChainPuts.{PutsBoth, both_in_range, both_few, low_not_put, space_not_put}
+use Rattle.volume.proofs.DeleteFile.Law.{map_removed, removed_files, removing_leads_in, puts_both, chain_times}
 
 module _ (size : ℕ) (c c' : MemoryMap) (ppn : ℕ) (name : FileName) (key : ℕ) (v : LiveVersion) (puts : List Put)
     (whole : IsWholeMemory size c) (is : RemovesFile size c c' ppn name key v puts) where
+  abbrev both : PutsBoth file_words size c.known.table c'.known.table is.removed.directory.chain
+      is.removed.directory'.chain puts
+  both = puts_both size c.known c'.known ppn name (v.at, as_known v) puts whole.map is.removed
+
   -- a block of a version in use isn't put
   spares : (n : ℕ) → IsKept size c n → IsPutIn puts n → ⊥
-  spares n kept = not_removed size c.known c'.known ppn name (v.at, as_known v) puts whole.map is.removed n kept.from
+  spares n kept = space_not_put both n kept.from
       (let part = part_of (λ d. times n d.chain.blocks) c.known.directories is.removed.place is.removed.directory
       is.removed.directory_at in
       let apart = kept.apart in
@@ -56,10 +60,9 @@ module _ (size : ℕ) (c c' : MemoryMap) (ppn : ℕ) (name : FileName) (key : �
     bodies = bodies;
     dated = λ n. dated_of n c c' is.pending;
     quiet = λ n none. absurd none;
-    in_range = removed_in_range size c.known c'.known ppn name (v.at, as_known v) puts whole.map is.removed;
-    few = removed_few size c.known c'.known ppn name (v.at, as_known v) puts whole.map is.removed;
-    low = λ n low. removed_low size c.known c'.known ppn name (v.at, as_known v) puts whole.map is.removed n
-        (omega arith);
+    in_range = both_in_range both;
+    few = both_few both;
+    low = λ n low. low_not_put both n (omega arith);
     spares = spares;
     leads = λ m d same held ready.
         let found = held.known.each is.removed.place (ppn, is.removed.word) is.removed.directory is.removed.there.is

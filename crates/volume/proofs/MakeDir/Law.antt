@@ -3,7 +3,7 @@ use Rattle.std.proofs.Common.{◌≡◌, ℕ, zero, suc, ◌+◌, ◌*◌, ◌/�
 use Rattle.std.proofs.Common.{map, length, replicate, Some, None, slice_get, refl, sym, ◌∙◌, ap, subst, arith}
 use Rattle.std.proofs.lemmas.Bool.{cases_eq}
 use Rattle.std.proofs.lemmas.Option.{slice_get_within}
-use Rattle.std.specs.Option.{IsSome}
+use Rattle.std.specs.List.{AllByRecursion}
 use Rattle.std.specs.Ordering.{nat_cmp}
 use Rattle.std.specs.Cmp.{nat_cmp_total}
 use Rattle.std.specs.FinMap.{nat_cmp-IsAntisymmetric}
@@ -16,7 +16,7 @@ use Rattle.spec_image.specs.Common.{StoredFile, StoredDirectory, DiskMap, HasMap
 use Rattle.spec_image.specs.Common.{IsMasterChain, entries_of, bare_directory, InSpace, IsMasterEntryOf}
 use Rattle.spec_image.proofs.Common.{some_same, some_none, entries-empty, get-insert_same, get-insert_other}
 use Rattle.spec_image.proofs.Common.{get-from_entries, get-map_values, from_entries_push, map_values-insert}
-use Rattle.spec_image.proofs.Common.{times-append, once, each_times, directory_made}
+use Rattle.spec_image.proofs.Common.{all_append, times-append, once, each_times, directory_made}
 use Rattle.changeset.specs.Common.{times_head, times_tail, some_or_none}
 use Rattle.alloctab.specs.Common.{flag_at, bit}
 use Rattle.directory.specs.Common.{ChainState, IsChain, IsOn, chain_stands, on_kept, bare_on}
@@ -28,7 +28,8 @@ use Rattle.volume.proofs.common.Lookups.{all_each}
 use Rattle.volume.proofs.common.UsedBlocks.{reached_in_space, chain_reached, master_reached}
 use Rattle.alloctab.proofs.WordLaws.{digit_few}
 use Rattle.volume.proofs.common.Lists.{head_front, none_mapped}
-use Rattle.volume.proofs.common.TableBits.{bits_same}
+use Rattle.volume.proofs.common.ChainPuts.{PutsBoth, out_of_chain, both_stay, homes_stay, both_on, both_bits}
+use Rattle.volume.proofs.common.ChainPuts.{both_undamaged}
 
 -- Lists.
 
@@ -71,17 +72,28 @@ bare_is_known protection first = record {
   each = λ i e v is also. absurd (some_none (sym is));
 }
 
+-- What is put.
+
+module _ (size : ℕ) (k k' : CurrentMap) (ppn protection first : ℕ) (puts : List Put) (whole : IsWholeMap size k)
+    (made : IsMade size k k' ppn protection first puts) where
+  pub made_inside : AllByRecursion (InSpace size) k'.master.blocks
+  made_inside = subst (AllByRecursion (InSpace size)) (sym made.entered.blocks)
+      (all_append (InSpace size) k.master.blocks made.grown whole.inside made.inside.1)
+
+  abbrev pub puts_both : PutsBoth master_words size k.table k'.table k.master k'.master puts
+  puts_both = record {
+    chain_puts = made.chain_puts;
+    chain = made.entered.put;
+    few = made.entered.few;
+    table = made.put;
+    inside = made_inside;
+  }
+
 -- The law.
 
 module _ (size : ℕ) (k k' : CurrentMap) (m : DiskMap) (ppn protection first : ℕ) (puts : List Put)
     (whole : IsWholeMap size k) (made : IsMade size k k' ppn protection first puts) (fits : protection < 512)
     (c : Contents) (held : MatchesMap size k m c) (zeros : c first ≡ Some (replicate 128 0)) where
-  d : Contents
-  d = with_puts puts c
-
-  mid : Contents
-  mid = with_puts made.chain_puts c
-
   -- which blocks are meant
 
   chain_times : (n : ℕ) → times n k'.master.blocks ≡ times n k.master.blocks + times n made.grown
@@ -100,18 +112,6 @@ module _ (size : ℕ) (k k' : CurrentMap) (m : DiskMap) (ppn protection first : 
   fresh_in_space : (n : ℕ) → 0 < times n (first ∷ made.grown) → InSpace size n
   fresh_in_space n there = each_times (InSpace size) (first ∷ made.grown) n made.inside there
 
-  chain_in_space : (n : ℕ) → 0 < times n k'.master.blocks → InSpace size n
-  chain_in_space n there = ⊎_elim
-      (λ old. each_times (InSpace size) k.master.blocks n whole.inside old)
-      (λ none. fresh_in_space n (let e = chain_times n in let f = fresh_times n in omega arith))
-      (some_or_none (times n k.master.blocks))
-
-  out_of_chain : (n : ℕ) → (n < space_start size) ⊎ (size ≤ n) → times n k'.master.blocks ≡ 0
-  out_of_chain n out = ⊎_elim
-      (λ there. absurd (let from = (chain_in_space n there).from in let below = (chain_in_space n there).below in
-      ⊎_elim (λ low. omega arith) (λ high. omega arith) out))
-      (λ none. none) (some_or_none (times n k'.master.blocks))
-
   first_here : times first (first ∷ made.grown) ≡ suc (times first made.grown)
   first_here = times_head first first made.grown refl
 
@@ -127,30 +127,23 @@ module _ (size : ℕ) (k k' : CurrentMap) (m : DiskMap) (ppn protection first : 
 
   -- what stays
 
-  others : (n : ℕ) → (n < table_start size) ⊎ (space_start size ≤ n) → times n k'.master.blocks ≡ 0
-      → with_puts puts c n ≡ c n
-  others n away none = made.put.others c n away ∙ made.entered.put.others c n none
-
-  mid_table : (i : ℕ) → i < table_blocks size → with_puts made.chain_puts c (table_start size + i)
-      ≡ c (table_start size + i)
-  mid_table i below = made.entered.put.others c (table_start size + i)
-      (out_of_chain (table_start size + i) (inl (omega arith)))
+  abbrev both : PutsBoth master_words size k.table k'.table k.master k'.master puts
+  both = puts_both size k k' ppn protection first puts whole made
 
   reached_stays : (n : ℕ) → 0 < reaches n m → times n m.chain ≡ 0 → with_puts puts c n ≡ c n
   reached_stays n there none =
-      others n (inr (reached_in_space size c m held.stands n there).from)
+      both_stay both c n (inr (reached_in_space size c m held.stands n there).from)
       (let e = chain_times n in let f = fresh_times n in let g = ap (times n) held.known.chain in
       ⊎_elim (λ fresh. absurd (let z = fresh_unreached n fresh in omega arith)) (λ no. omega arith)
       (some_or_none (times n (first ∷ made.grown))))
 
   new_first : with_puts puts c first ≡ Some (replicate 128 0)
-  new_first = others first (inr first_in_space.from) first_no_chain ∙ zeros
+  new_first = both_stay both c first (inr first_in_space.from) first_no_chain ∙ zeros
 
   -- the chain of the master directory
 
   new_on : IsOn master_words (with_puts puts c) k'.master
-  new_on = on_kept master_words (with_puts made.chain_puts c) (with_puts puts c) k'.master
-      (made.entered.put.spells c held.master) (λ n there. made.put.others c n (inr (chain_in_space n there).from))
+  new_on = both_on both c held.master
 
   absent_entry : get (map_values entry_of m.directories) ppn ≡ None
   absent_entry = ap (λ f. get f ppn) held.known.names ∙ get-from_entries nat_cmp_total k.master.entries ppn
@@ -180,14 +173,13 @@ module _ (size : ℕ) (k k' : CurrentMap) (m : DiskMap) (ppn protection first : 
   -- the table
 
   new_bits : (n : ℕ) → table_bit size (with_puts puts c) n ≡ bit k'.table n
-  new_bits = made.put.spells c (λ n. bits_same size c (with_puts made.chain_puts c) mid_table n ∙ held.bits n)
+  new_bits = both_bits both c held.bits
 
   follows : TableFollows size c (with_puts puts c) (λ n. times n m.chain) (λ n. times n k'.master.blocks
       + times n (first ∷ []))
   follows = record {
-    undamaged = made.put.undamaged c
-        (λ i below. subst IsSome (sym (mid_table i below)) (held.stands.marked.undamaged i below));
-    inside = λ n past. let none = out_of_chain n (inr past) in let f = fresh_times n in
+    undamaged = both_undamaged both c held.stands.marked.undamaged;
+    inside = λ n past. let none = out_of_chain both n (inr past) in let f = fresh_times n in
         ⊎_elim (λ there. absurd (let below = (fresh_in_space n there).below in omega arith)) (λ no. omega arith)
         (some_or_none (times n (first ∷ made.grown)));
     bits = λ n. let a = new_bits n in let b = made.taken.bits n in let e = held.bits n in let f = fresh_times n in
@@ -202,13 +194,7 @@ module _ (size : ℕ) (k k' : CurrentMap) (m : DiskMap) (ppn protection first : 
       (record { blocks = first ∷ []; entries = [] }) (bare_chain first)
       (bare_on file_words (with_puts puts c) first new_first))
       new_master first_block
-      (record {
-        home = record {
-          first = others 1 (inl (omega arith)) (out_of_chain 1 (inl (omega arith)));
-          second = others 2 (inl (omega arith)) (out_of_chain 2 (inl (omega arith)));
-        };
-        others = reached_stays;
-      })
+      (record { home = homes_stay both c; others = reached_stays })
       follows
 
   -- memory

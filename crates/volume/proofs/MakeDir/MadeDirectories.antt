@@ -24,8 +24,8 @@ use Rattle.volume.proofs.common.Apart.{apart_same}
 use Rattle.volume.proofs.PinVersion.Pins.{total_at}
 use Rattle.volume.proofs.common.PrimeBlocks.{prime_stays}
 use Rattle.volume.proofs.common.Lookups.{all_push, total-push, zip_behind}
-use Rattle.volume.proofs.MakeDir.Law.{bare_chain}
-use Rattle.volume.proofs.common.Puts.{not_put}
+use Rattle.volume.proofs.MakeDir.Law.{bare_chain, made_inside, puts_both}
+use Rattle.volume.proofs.common.ChainPuts.{space_not_written}
 
 -- Of any event.
 
@@ -59,13 +59,6 @@ absent_before q es e none = by (find nat_cmp q es) (sym (find-append_both nat_cm
 
 module _ (size : ℕ) (k k' : CurrentMap) (ppn protection first : ℕ) (puts : List Put) (whole : IsWholeMap size k)
     (made : IsMade size k k' ppn protection first puts) where
-  pub made_inside : AllByRecursion (InSpace size) k'.master.blocks
-  made_inside = subst (AllByRecursion (InSpace size)) (sym made.entered.blocks) (both k.master.blocks whole.inside)
-    where
-      both : (ns : List ℕ) → AllByRecursion (InSpace size) ns → AllByRecursion (InSpace size) (ns ++ made.grown)
-      both [] all = made.inside.1
-      both (n ∷ ns) all = (all.0, both ns all.1)
-
   pub made_aligned : IsAligned k'
   made_aligned =
       let a = ap (λ (l : List CurrentDirectory). length l) made.entered.directories
@@ -100,7 +93,7 @@ module _ (size : ℕ) (k k' : CurrentMap) (ppn protection first : ℕ) (puts : L
     volume = whole.volume;
     size_is = made.taken.size ∙ whole.size_is;
     chain = made.entered.chain;
-    inside = made_inside;
+    inside = made_inside size k k' ppn protection first puts whole made;
     aligned = made_aligned;
     each = subst (AllByRecursion (IsWholeDirectory size)) (sym made.entered.directories)
         (all_push (IsWholeDirectory size) k.directories (bare_known first) whole.each bare_whole);
@@ -224,22 +217,12 @@ module _ (size : ℕ) (k k' : CurrentMap) (ppn protection first : ℕ) (puts : L
             omega arith;
       }
 
-  pub puts_in_range : AllByRecursion (IsTarget size) (targets puts)
-  puts_in_range = made.put.in_range (made.entered.put.in_range size made_inside tt)
-
-  pub puts_few : length puts ≤ log_images size
-  puts_few = let a = made.put.few in let b = made.entered.few in omega arith
-
   -- a block in use is not written, except those of the master directory
   pub not_written : (n : ℕ) → space_start size ≤ n → times n k.master.blocks ≡ 0 → (IsFree k.table n → ⊥)
       → (n ≡ first) ⊎ (IsGateOrLog size n ⊎ IsPutIn puts n) → ⊥
   not_written n from none used = ⊎_elim
       (λ is. used (subst (IsFree k.table) (sym is) (made.free.0)))
-      (⊎_elim (λ log. let below = log.1 in
-      omega arith) (not_put puts n (λ c. made.put.others c n (inr from) ∙ made.entered.put.others c n out)))
-    where
-      out : times n k'.master.blocks ≡ 0
-      out =
-          let a = ap (times n) made.entered.blocks ∙ times-append n k.master.blocks made.grown in
-          let b = not_free n made.grown used made.free.1 in
-          omega arith
+      (space_not_written (puts_both size k k' ppn protection first puts whole made) n from
+      (let a = ap (times n) made.entered.blocks ∙ times-append n k.master.blocks made.grown in
+      let b = not_free n made.grown used made.free.1 in
+      omega arith))

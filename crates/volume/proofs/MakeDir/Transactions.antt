@@ -10,10 +10,10 @@ use Rattle.volume.specs.Common.{files_made, IsMade, IsSoundMemory}
 use Rattle.volume.specs.declared.error.CallError.{CallError}
 use Rattle.volume.specs.declared.error.CallError.TheVariants.{Device}
 use Rattle.volume.proofs.common.Edits.{IsEdit, interrupted, not_written_stays}
-use Rattle.volume.proofs.common.UnchangedHomes.{made_low}
+use Rattle.volume.proofs.common.ChainPuts.{both_in_range, both_few, low_not_put}
 use Rattle.volume.proofs.common.LiveBodies.{bodies_of, dated_of}
-use Rattle.volume.proofs.MakeDir.MadeDirectories.{made_memory, puts_in_range, puts_few, not_written}
-use Rattle.volume.proofs.MakeDir.Law.{making_leads}
+use Rattle.volume.proofs.MakeDir.MadeDirectories.{made_memory, not_written}
+use Rattle.volume.proofs.MakeDir.Law.{puts_both, making_leads}
 
 -- Memory states it of a disk of the size that it knows.
 pub made_sized : {size : ℕ} {c : MemoryMap} {k' : CurrentMap} {ppn protection first : ℕ} {puts : List Put}
@@ -36,9 +36,10 @@ made_edit {size} {c} {c'} {ppn} {protection} {first} {puts} whole is live pendin
       bodies = λ d. bodies_of d c c' live pending;
       dated = λ n. dated_of n c c' pending;
       quiet = λ n same. subst (IsFree c.known.table) (sym same) made.free.0;
-      in_range = puts_in_range size c.known c'.known ppn protection first puts whole.map made;
-      few = puts_few size c.known c'.known ppn protection first puts whole.map made;
-      low = made_low size c.known c'.known ppn protection first puts whole.map made;
+      in_range = both_in_range (puts_both size c.known c'.known ppn protection first puts whole.map made);
+      few = both_few (puts_both size c.known c'.known ppn protection first puts whole.map made);
+      low = λ n low. low_not_put (puts_both size c.known c'.known ppn protection first puts whole.map made) n
+          (omega arith);
       spares = λ n kept put. not_written size c.known c'.known ppn protection first puts whole.map made n kept.from
           (let apart = kept.apart in omega arith) kept.used (inr (inr put));
       leads = λ m d same held zeros. (

@@ -4,7 +4,7 @@ use Rattle.std.proofs.Common.{refl, sym, ap, subst, ◌∙◌, arith}
 use Rattle.std.specs.List.{AllByRecursion}
 use Rattle.blockdisk.specs.Common.{DiskState}
 use Rattle.spec_image.specs.declared.put.Put.{Put}
-use Rattle.spec_image.specs.Common.{blocks_of, InSpace, IsTarget, targets, total, times, log_images}
+use Rattle.spec_image.specs.Common.{blocks_of, file_words, InSpace, total, times}
 use Rattle.spec_image.proofs.Common.{some_same, some_none, times-append, each_times, all_left, all_right}
 use Rattle.alloctab.specs.Common.{bit, IsFree}
 use Rattle.changeset.specs.Common.{IsPutIn, times_head}
@@ -15,8 +15,8 @@ use Rattle.volume.specs.declared.live.LiveVersion.{LiveVersion}
 use Rattle.volume.specs.declared.pending.PendingVersion.{PendingVersion}
 use Rattle.volume.proofs.common.MapStays.{IsKept}
 use Rattle.volume.proofs.common.MarkedBlocks.{all_weaker}
-use Rattle.volume.proofs.common.UnchangedHomes.{published_low}
-use Rattle.volume.proofs.PublishVersion.Puts.{published_times, published_in_range, published_few, published_elsewhere}
+use Rattle.volume.proofs.common.ChainPuts.{PutsBoth, space_not_put}
+use Rattle.volume.proofs.PublishVersion.Puts.{published_times, puts_both}
 use Rattle.volume.proofs.PutWords.Memory.{waits}
 
 -- The version that was put into memory, under its new key, is the one that was written.
@@ -111,17 +111,10 @@ module _ {size : ℕ} {c c' : MemoryMap} {key : ℕ} {p : PendingVersion} {v : L
     unheld = is.unheld n (let sum = times-append n is.published.grown (v.at ∷ v.version.ribs) in omega arith);
   }
 
-  pub puts_in_range : AllByRecursion (IsTarget size) (targets puts)
-  puts_in_range = published_in_range size c.known c'.known p.prime.ppn p.prime.file v.at _
-      (before is.old) puts whole.map is.published
-
-  pub puts_few : length puts ≤ log_images size
-  puts_few = published_few size c.known c'.known p.prime.ppn p.prime.file v.at _
-      (before is.old) puts whole.map is.published
-
-  pub puts_low : (n : ℕ) → n ≤ 2 → IsPutIn puts n → ⊥
-  puts_low = published_low size c.known c'.known p.prime.ppn p.prime.file v.at _
-      (before is.old) puts whole.map is.published
+  abbrev pub published_both : PutsBoth file_words size c.known.table c'.known.table is.published.directory.chain
+      is.published.directory'.chain puts
+  published_both = puts_both size c.known c'.known p.prime.ppn p.prime.file v.at _ (before is.old) puts whole.map
+      is.published
 
   grown_free : (n : ℕ) → 0 < times n is.published.grown → IsFree c.known.table n
   grown_free n there = record {
@@ -145,5 +138,4 @@ module _ {size : ℕ} {c c' : MemoryMap} {key : ℕ} {p : PendingVersion} {v : L
 
   -- a block of a version in use isn't put
   pub kept_put : (n : ℕ) → IsKept size c n → IsPutIn puts n → ⊥
-  kept_put n kept = published_elsewhere size c.known c'.known p.prime.ppn p.prime.file v.at _
-      (before is.old) puts whole.map is.published n kept.from (kept_chain n kept)
+  kept_put n kept = space_not_put published_both n kept.from (kept_chain n kept)

@@ -25,11 +25,12 @@ use Rattle.volume.specs.Common.{MatchesMap, IsWholeMap, blocks_reached, Before, 
 use Rattle.volume.specs.Common.{IsPublished}
 use Rattle.volume.proofs.common.UsedBlocks.{reached_in_space}
 use Rattle.volume.proofs.common.OneDirectory.{directory_leads}
+use Rattle.volume.proofs.common.StoredDirectories.{stored_agrees, files_stand, known_with}
 use Rattle.volume.proofs.common.ReachedBlocks.{file_times}
-use Rattle.volume.proofs.PublishVersion.Puts.{given_up_is, was_whole, published_times, published_inside}
-use Rattle.volume.proofs.PublishVersion.Puts.{published_apart, published_stays}
+use Rattle.volume.proofs.PublishVersion.Puts.{given_up_is, was_whole, published_times, puts_both}
 use Rattle.volume.proofs.common.Lists.{head_front}
-use Rattle.volume.proofs.common.TableBits.{bits_same}
+use Rattle.volume.proofs.common.ChainPuts.{PutsBoth, out_of_chain, both_stay, homes_stay, both_on, both_bits}
+use Rattle.volume.proofs.common.ChainPuts.{both_undamaged}
 use Rattle.changeset.specs.Common.{some_or_none}
 
 -- The map with the file.
@@ -56,9 +57,7 @@ module _ (size : ℕ) (k k' : CurrentMap) (m : DiskMap) (ppn : ℕ) (name : File
   -- which blocks are meant
 
   stored_is : AgreesOnDirectory is.directory stored
-  stored_is =
-      let found = held.known.each is.place (ppn, is.word) is.directory is.there.is is.directory_at in
-      subst (AgreesOnDirectory is.directory) (some_same (sym found.1 ∙ stored_at)) found.2
+  stored_is = stored_agrees held.known is.place ppn is.word is.directory stored is.there.is is.directory_at stored_at
 
   stored_times : (n : ℕ) → times n stored.chain ≡ times n is.directory.chain.blocks
   stored_times n = ap (times n) stored_is.chain
@@ -109,23 +108,14 @@ module _ (size : ℕ) (k k' : CurrentMap) (m : DiskMap) (ppn : ℕ) (name : File
       let b = held.stands.marked.bits n in
       omega arith
 
-  out_of_chain : (n : ℕ) → (n < space_start size) ⊎ (size ≤ n) → times n is.directory'.chain.blocks ≡ 0
-  out_of_chain = published_apart size k k' ppn name at v old puts whole is
+  abbrev both : PutsBoth file_words size k.table k'.table is.directory.chain is.directory'.chain puts
+  both = puts_both size k k' ppn name at v old puts whole is
 
   -- what stays
 
-  others : (n : ℕ) → (n < table_start size) ⊎ (space_start size ≤ n) → times n is.directory'.chain.blocks ≡ 0
-      → with_puts puts c n ≡ c n
-  others = published_stays size k k' ppn name at v old puts whole is c
-
-  mid_table : (i : ℕ) → i < table_blocks size → with_puts is.chain_puts c (table_start size + i)
-      ≡ c (table_start size + i)
-  mid_table i below = is.put_chain.others c (table_start size + i)
-      (out_of_chain (table_start size + i) (inl (omega arith)))
-
   reached_stays : (n : ℕ) → 0 < reaches n m → times n is.directory.chain.blocks ≡ 0 → with_puts puts c n ≡ c n
   reached_stays n there none =
-      others n (inr (reached_in_space size c m held.stands n there).from)
+      both_stay both c n (inr (reached_in_space size c m held.stands n there).from)
       (let e = new_times n in
       ⊎_elim (λ grown. absurd (let z = grown_unreached n grown in omega arith)) (λ no. omega arith)
       (some_or_none (times n is.grown)))
@@ -133,23 +123,19 @@ module _ (size : ℕ) (k k' : CurrentMap) (m : DiskMap) (ppn : ℕ) (name : File
   new_version : IsVersion m.layout (with_puts puts c) (place_of ppn name) f
   new_version = version_kept m.layout c (with_puts puts c) (place_of ppn name) f version (λ n there.
       let g = fresh_times n in
-      others n (inr (each_times (InSpace size) (is.grown ++ blocks_reached at v.version) n is.inside
+      both_stay both c n (inr (each_times (InSpace size) (is.grown ++ blocks_reached at v.version) n is.inside
       (omega arith)).from) (new_apart n there))
 
   -- the chain of the directory
 
   new_on : IsOn file_words (with_puts puts c) is.directory'.chain
-  new_on = on_kept file_words (with_puts is.chain_puts c) (with_puts puts c) is.directory'.chain
-      (is.put_chain.spells c (held.chains is.place is.directory is.directory_at))
-      (λ n there. is.put.others c n (inr (each_times (InSpace size) is.directory'.chain.blocks n
-      (published_inside size k k' ppn name at v old puts whole is) there).from))
+  new_on = both_on both c (held.chains is.place is.directory is.directory_at)
 
   primes : from_entries is.directory'.chain.entries ≡ insert (primes_of stored) name f.prime
   primes = is.entry.names ∙ (λ i. insert (sym stored_is.names i) name (sym facts i).prime)
 
   new_chain : IsFileChain (with_puts puts c) is.directory'.chain.blocks (insert (primes_of stored) name f.prime)
-  new_chain = subst (IsFileChain (with_puts puts c) is.directory'.chain.blocks) primes
-      (chain_stands file_words IsFileEntry (with_puts puts c) is.directory'.chain is.entry.chain new_on)
+  new_chain = files_stand (with_puts puts c) is.directory'.chain _ is.entry.chain new_on primes
 
   first_block : head_or_zero is.directory'.chain.blocks ≡ head_or_zero stored.chain
   first_block =
@@ -161,14 +147,13 @@ module _ (size : ℕ) (k k' : CurrentMap) (m : DiskMap) (ppn : ℕ) (name : File
   -- the table
 
   new_bits : (n : ℕ) → table_bit size (with_puts puts c) n ≡ bit k'.table n
-  new_bits = is.put.spells c (λ n. bits_same size c (with_puts is.chain_puts c) mid_table n ∙ held.bits n)
+  new_bits = both_bits both c held.bits
 
   follows : TableFollows size c (with_puts puts c) (λ n. times n stored.chain
       + reaches_in_found n (get stored.files name)) (λ n. times n is.directory'.chain.blocks + reaches_in_file n f)
   follows = record {
-    undamaged = is.put.undamaged c
-        (λ i below. subst IsSome (sym (mid_table i below)) (held.stands.marked.undamaged i below));
-    inside = λ n past. let none = out_of_chain n (inr past) in let g = fresh_times n in
+    undamaged = both_undamaged both c held.stands.marked.undamaged;
+    inside = λ n past. let none = out_of_chain both n (inr past) in let g = fresh_times n in
         ⊎_elim (λ there. absurd (let below = (each_times (InSpace size) (is.grown
         ++ blocks_reached at v.version) n is.inside there).below in omega arith)) (λ no. omega arith)
         (some_or_none (times n (is.grown ++ blocks_reached at v.version)));
@@ -181,46 +166,17 @@ module _ (size : ℕ) (k k' : CurrentMap) (m : DiskMap) (ppn : ℕ) (name : File
       held.stands stored_at refl new_chain first_block
       new_version
       (record {
-        home = record {
-          first = others 1 (inl (omega arith)) (out_of_chain 1 (inl (omega arith)));
-          second = others 2 (inl (omega arith)) (out_of_chain 2 (inl (omega arith)));
-        };
+        home = homes_stay both c;
         others = λ n there none. reached_stays n there (let s = stored_times n in omega arith);
       })
       follows
-
-  -- memory
-
-  each_file : (i : ℕ) (e : SpecFileEntry) (u : CurrentVersion) → slice_get is.directory'.chain.entries i ≡ Some e
-      → slice_get is.directory'.versions i ≡ Some u
-      → AgreesOnFile (with_file stored is.directory'.chain.blocks name f) e u
-  each_file i e u here also = ⊎_elim
-      (λ new.
-      let entry : e ≡ (name, at) = new.0 in
-      let known : u ≡ v = new.1 in (
-        f,
-        ap (λ (z : SpecFileEntry). get (insert stored.files name f) z.0) entry
-            ∙ get-insert_same name_total stored.files name f,
-        facts ∙ sym (λ j. known_facts (entry j).1 (known j).prime (known j).version),
-      ))
-      (λ kept.
-      let found = stored_is.each kept.1 e u kept.2 kept.3 in
-      (found.0, get-insert_other name_total name_exact stored.files name f e.0 kept.0 ∙ found.1, found.2))
-      (is.entry.each i e u here also)
-
-  new_known : AgreesOnDirectory is.directory' (with_file stored is.directory'.chain.blocks name f)
-  new_known = record {
-    chain = refl;
-    names = map_values-insert name_total name_exact (λ x. x.prime) stored.files name f
-        ∙ sym primes;
-    each = each_file;
-  }
 
   pub publishing_leads_in : MatchesMap size k' (map_published m ppn stored is.directory'.chain.blocks name f)
       (with_puts puts c)
   publishing_leads_in = directory_leads size k k' m ppn is.place is.word is.directory is.directory' whole is.there
       is.directory_at is.master is.directories stored (with_file stored is.directory'.chain.blocks name f) stored_at c
-      held puts (λ n there none. reached_stays n there (let s = stored_times n in omega arith)) new_known
+      held puts (λ n there none. reached_stays n there (let s = stored_times n in omega arith))
+      (known_with is.directory is.directory' name at v old stored f is.entry stored_is facts)
       (λ i. (master_word stored.protection stored.quota, first_block i)) new_on new_map new_bits
 
 -- In the directory that the map has for the place in memory.

@@ -1,20 +1,16 @@
 -- A version becomes the file of its name: what is put, and which blocks that are.
-use Rattle.std.proofs.Common.{◌≡◌, ℕ, ◌+◌, ◌<◌, ◌≤◌, ◌⊎◌, inr, ⊎_elim, List, [], ◌∷◌, ◌++◌, length, Some, None, sym}
-use Rattle.std.proofs.Common.{◌∙◌, ap, subst, arith}
+use Rattle.std.proofs.Common.{◌≡◌, ℕ, ◌+◌, List, ◌++◌, Some, None, sym, ◌∙◌, ap, subst}
 use Rattle.std.specs.List.{AllByRecursion}
 use Rattle.words36.specs.declared.names.FileName.{FileName}
-use Rattle.blockdisk.specs.Common.{Contents}
 use Rattle.spec_image.specs.declared.put.Put.{Put}
-use Rattle.spec_image.specs.Common.{times, get, table_start, space_start, log_images, IsTarget, targets, with_puts}
-use Rattle.spec_image.specs.Common.{StoredFile, StoredDirectory, reaches_in_found, InSpace}
-use Rattle.spec_image.proofs.Common.{name_total, get-from_entries, get-map_values, times-append, each_times}
+use Rattle.spec_image.specs.Common.{times, get, file_words, StoredFile, StoredDirectory, reaches_in_found, InSpace}
+use Rattle.spec_image.proofs.Common.{name_total, get-from_entries, get-map_values, times-append}
 use Rattle.spec_image.proofs.Common.{all_append, all_left}
-use Rattle.changeset.specs.Common.{IsPutIn, some_or_none}
 use Rattle.volume.specs.Common.{CurrentVersion, CurrentDirectory, CurrentMap, AgreesOnDirectory, IsWholeDirectory}
 use Rattle.volume.specs.Common.{IsWholeMap}
 use Rattle.volume.specs.Common.{blocks_reached, Before, given_up, IsNamed, IsPublished}
 use Rattle.volume.proofs.VolumeStart.FoundDirectories.{all_at}
-use Rattle.volume.proofs.common.Puts.{not_put}
+use Rattle.volume.proofs.common.ChainPuts.{PutsBoth}
 use Rattle.volume.proofs.common.Lists.{none_mapped}
 use Rattle.volume.proofs.common.ReachedBlocks.{file_times}
 
@@ -49,24 +45,11 @@ module _ (size : ℕ) (k k' : CurrentMap) (ppn : ℕ) (name : FileName) (at : �
       (all_append (InSpace size) is.directory.chain.blocks is.grown was_whole.inside
       (all_left (InSpace size) is.grown (blocks_reached at v.version) is.inside))
 
-  pub published_apart : (n : ℕ) → (n < space_start size) ⊎ (size ≤ n) → times n is.directory'.chain.blocks ≡ 0
-  published_apart n out = ⊎_elim
-      (λ there. absurd (let in_space = each_times (InSpace size) is.directory'.chain.blocks n published_inside there in
-      let from = in_space.from in let below = in_space.below in
-      ⊎_elim (λ low. omega arith) (λ high. omega arith) out))
-      (λ none. none) (some_or_none (times n is.directory'.chain.blocks))
-
-  -- no other block changes than those of the table and of the chain
-  pub published_stays : (c : Contents) (n : ℕ) → (n < table_start size) ⊎ (space_start size ≤ n)
-      → times n is.directory'.chain.blocks ≡ 0 → with_puts puts c n ≡ c n
-  published_stays c n away none = is.put.others c n away ∙ is.put_chain.others c n none
-
-  pub published_in_range : AllByRecursion (IsTarget size) (targets puts)
-  published_in_range = is.put.in_range (is.put_chain.in_range size published_inside tt)
-
-  pub published_few : length puts ≤ log_images size
-  published_few = let a = is.put.few in let b = is.few in omega arith
-
-  -- a block of the free space isn't put, except those of the directory's chain
-  pub published_elsewhere : (n : ℕ) → space_start size ≤ n → times n is.directory'.chain.blocks ≡ 0 → IsPutIn puts n → ⊥
-  published_elsewhere n from none = not_put puts n (λ c. published_stays c n (inr from) none)
+  abbrev pub puts_both : PutsBoth file_words size k.table k'.table is.directory.chain is.directory'.chain puts
+  puts_both = record {
+    chain_puts = is.chain_puts;
+    chain = is.put_chain;
+    few = is.few;
+    table = is.put;
+    inside = published_inside;
+  }

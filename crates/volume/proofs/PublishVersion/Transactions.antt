@@ -1,7 +1,7 @@
 -- A version becomes the file of its name: this is one change of the volume, with its retrieval blocks written
 -- beforehand.
 use Rattle.std.proofs.Common.{◌≡◌, ℕ, ◌<◌, Bool, true, false, List, ◌∷◌, length, Some, Result, Ok, Err, OnOk, is_err}
-use Rattle.std.proofs.Common.{refl, sym, subst, ◌∙◌}
+use Rattle.std.proofs.Common.{refl, sym, subst, ◌∙◌, arith}
 use Rattle.blockdisk.specs.Common.{Contents, DiskState, MayLeave, SameDisk, Modifies}
 use Rattle.spec_image.specs.declared.put.Put.{Put}
 use Rattle.spec_image.specs.Common.{File, Files, pack_of, with_puts, get, times, IsRetrieved, HasBody, date_limit}
@@ -17,8 +17,8 @@ use Rattle.volume.specs.declared.live.LiveVersion.{LiveVersion}
 use Rattle.volume.specs.declared.pending.PendingVersion.{PendingVersion}
 use Rattle.volume.proofs.common.Edits.{IsEdit, interrupted, edited}
 use Rattle.volume.proofs.common.MapStays.{written_kept}
-use Rattle.volume.proofs.PublishVersion.Blocks.{IsMadeCurrent, retrieval_free, puts_in_range, puts_low, puts_few}
-use Rattle.volume.proofs.PublishVersion.Blocks.{kept_put}
+use Rattle.volume.proofs.common.ChainPuts.{both_in_range, both_few, low_not_put}
+use Rattle.volume.proofs.PublishVersion.Blocks.{IsMadeCurrent, retrieval_free, published_both, kept_put}
 use Rattle.volume.proofs.PublishVersion.Memory.{made_current_whole}
 use Rattle.volume.proofs.PublishVersion.Law.{map_published, published_files, publishing_leads_in, stored, stored_at}
 use Rattle.volume.proofs.PublishVersion.Slots.{made_current_bodies, published_dated}
@@ -107,9 +107,9 @@ module _ {size : ℕ} {c c' : MemoryMap} {key : ℕ} {p : PendingVersion} {v : L
       bodies = λ d. made_current_bodies d size c c' key p v.at v.version.ribs puts made_current.makes_current;
       dated = published_dated size c c' key p v.at v.version.ribs puts made_current.makes_current;
       quiet = retrieval_free whole made_current;
-      in_range = puts_in_range whole made_current;
-      few = puts_few whole made_current;
-      low = puts_low whole made_current;
+      in_range = both_in_range (published_both whole made_current);
+      few = both_few (published_both whole made_current);
+      low = λ n low. low_not_put (published_both whole made_current) n (omega arith);
       spares = kept_put whole made_current;
       leads = leads;
     }

@@ -39,6 +39,9 @@ use Rattle.volume.proofs.VolumeStart.FoundDirectories.{all_at}
 use Rattle.volume.proofs.common.Puts.{not_put}
 use Rattle.volume.proofs.common.UsedBlocks.{reached_in_space, element_at}
 use Rattle.volume.proofs.common.TableBits.{bits_same}
+use Rattle.volume.proofs.common.ChainPuts.{out_of_space}
+use Rattle.volume.proofs.common.StoredDirectories.{stored_agrees, files_stand, known_without, known_with}
+use Rattle.volume.proofs.common.MovedPrimes.{prime_at, prime_reached, file_parts, not_prime, moved_facts, moved_version}
 use Rattle.volume.proofs.common.Lists.{head_front, none_mapped, set_cases, other_key}
 
 -- The map with the file in the other directory.
@@ -106,54 +109,6 @@ same_entry ds ppn stored after at same =
     ∙ insert_same nat_cmp_total nat_cmp-IsAntisymmetric (map_values entry_of ds) ppn (entry_of stored)
     (get-map_values nat_cmp_total entry_of ds ppn ∙ ap (option_map entry_of) at)
 
--- One directory.
-
--- the directory without the file is the one in memory
-pub known_without : (d d' : CurrentDirectory) (name : FileName) (old : ℕ × CurrentVersion) (stored : StoredDirectory)
-    → IsEntryRemoved d d' name old → AgreesOnDirectory d stored
-    → AgreesOnDirectory d' (without_file stored d'.chain.blocks name)
-known_without d d' name old stored is known = record {
-  chain = refl;
-  names = map_values-remove name_total name_exact (λ x. x.prime) stored.files name
-      ∙ sym (is.names ∙ (λ i. remove (sym known.names i) name));
-  each = each_file;
-}
-  where
-    each_file : (i : ℕ) (e : SpecFileEntry) (u : CurrentVersion) → slice_get d'.chain.entries i ≡ Some e
-        → slice_get d'.versions i ≡ Some u → AgreesOnFile (without_file stored d'.chain.blocks name) e u
-    each_file i e u here also =
-        let kept = is.each i e u here also in
-        let found = known.each kept.1 e u kept.2 kept.3 in
-        (found.0, get-remove_other name_total name_exact stored.files name e.0 kept.0 ∙ found.1, found.2)
-
--- and so is the one with it
-pub known_with : (d d' : CurrentDirectory) (to : FileName) (at : ℕ) (v : CurrentVersion) (stored : StoredDirectory)
-    (f : StoredFile) → IsEntryPut d d' to at v None → AgreesOnDirectory d stored
-    → facts_of f ≡ known_facts at v.prime v.version
-    → AgreesOnDirectory d' (with_file stored d'.chain.blocks to f)
-known_with d d' to at v stored f is known facts = record {
-  chain = refl;
-  names = map_values-insert name_total name_exact (λ x. x.prime) stored.files to f
-      ∙ sym (is.names ∙ (λ i. insert (sym known.names i) to (sym facts i).prime));
-  each = each_file;
-}
-  where
-    each_file : (i : ℕ) (e : SpecFileEntry) (u : CurrentVersion) → slice_get d'.chain.entries i ≡ Some e
-        → slice_get d'.versions i ≡ Some u → AgreesOnFile (with_file stored d'.chain.blocks to f) e u
-    each_file i e u here also = ⊎_elim
-        (λ new.
-        let entry : e ≡ (to, at) = new.0 in
-        let same : u ≡ v = new.1 in (
-          f,
-          ap (λ (z : SpecFileEntry). get (insert stored.files to f) z.0) entry
-              ∙ get-insert_same name_total stored.files to f,
-          facts ∙ sym (λ j. known_facts (entry j).1 (same j).prime (same j).version),
-        ))
-        (λ kept.
-        let found = known.each kept.1 e u kept.2 kept.3 in
-        (found.0, get-insert_other name_total name_exact stored.files to f e.0 kept.0 ∙ found.1, found.2))
-        (is.each i e u here also)
-
 -- The puts.
 
 module _ (size : ℕ) (k k' : CurrentMap) (ppn : ℕ) (name : FileName) (to_ppn : ℕ) (to : FileName)
@@ -181,19 +136,11 @@ module _ (size : ℕ) (k k' : CurrentMap) (ppn : ℕ) (name : FileName) (to_ppn 
   target_inside = subst (AllByRecursion (InSpace size)) (sym is.to_blocks)
       (all_append (InSpace size) is.target.chain.blocks is.grown target_whole.inside is.inside)
 
-  out_of : (blocks : List ℕ) → AllByRecursion (InSpace size) blocks → (n : ℕ) → (n < space_start size) ⊎ (size ≤ n)
-      → times n blocks ≡ 0
-  out_of blocks inside n out = ⊎_elim
-      (λ there. absurd (let in_space = each_times (InSpace size) blocks n inside there in
-      let from = in_space.from in let below = in_space.below in
-      ⊎_elim (λ low. omega arith) (λ high. omega arith) out))
-      (λ none. none) (some_or_none (times n blocks))
-
   out_of_chains : (n : ℕ) → (n < space_start size) ⊎ (size ≤ n)
       → times n is.directory'.chain.blocks + times n is.target'.chain.blocks ≡ 0
   out_of_chains n out =
-      let source = out_of is.directory'.chain.blocks source_inside n out in
-      let target = out_of is.target'.chain.blocks target_inside n out in
+      let source = out_of_space size is.directory'.chain.blocks source_inside n out in
+      let target = out_of_space size is.target'.chain.blocks target_inside n out in
       omega arith
 
   abbrev prime_put : Put
@@ -275,23 +222,17 @@ module _ (size : ℕ) (k k' : CurrentMap) (ppn : ℕ) (name : FileName) (to_ppn 
     new_directories = insert (insert m.directories ppn after) to_ppn to_after
 
     stored_is : AgreesOnDirectory is.directory stored
-    stored_is =
-        let found = held.known.each is.place (ppn, is.word) is.directory is.there.is is.directory_at in
-        subst (AgreesOnDirectory is.directory) (some_same (sym found.1 ∙ stored_at)) found.2
+    stored_is = stored_agrees held.known is.place ppn is.word is.directory stored is.there.is is.directory_at stored_at
 
     to_stored_is : AgreesOnDirectory is.target to_stored
-    to_stored_is =
-        let found = held.known.each is.to_place (to_ppn, is.to_word) is.target is.to_there.is is.target_at in
-        subst (AgreesOnDirectory is.target) (some_same (sym found.1 ∙ to_stored_at)) found.2
+    to_stored_is = stored_agrees held.known is.to_place to_ppn is.to_word is.target to_stored is.to_there.is is.target_at
+        to_stored_at
 
     facts : facts_of f ≡ known_facts old.0 old.1.prime old.1.version
     facts =
         let was = is.removed.was in
         let found = stored_is.each was.0 (name, old.0) old.1 was.1.is was.2 in
         ap facts_of (some_same (sym f_at ∙ found.1)) ∙ found.2
-
-    prime_at : f.prime ≡ old.0
-    prime_at = ap (λ (x : Facts). x.prime) facts
 
     version : IsVersion m.layout c (place_of ppn name) f
     version = (held.stands.mapped.directories ppn stored stored_at).files name f f_at
@@ -333,27 +274,17 @@ module _ (size : ℕ) (k k' : CurrentMap) (ppn : ℕ) (name : FileName) (to_ppn 
         let fresh = is.fresh n in
         omega arith
 
-    prime_reached : (n : ℕ) → n ≡ old.0 → 0 < times n (f.prime ∷ [])
-    prime_reached n same = let head = times_head n f.prime [] (same ∙ sym prime_at) in omega arith
-
-    file_parts : (n : ℕ) → reaches_in_file n f ≡ times n (f.prime ∷ []) + times n (f.extensions ++ f.blocks)
-    file_parts n = omega arith
-
-    -- a block that isn't the file's isn't its prime block
-    not_prime : (n : ℕ) → reaches_in_file n f ≡ 0 → n ≡ old.0 → ⊥
-    not_prime n none same = let some = prime_reached n same in let parts = file_parts n in omega arith
-
     pub moved_across_prime_inside : InSpace size old.0
     moved_across_prime_inside = reached_in_space size c m held.stands old.0
-        (let some = prime_reached old.0 refl in
-        let parts = file_parts old.0 in
+        (let some = prime_reached old f facts old.0 refl in
+        let parts = file_parts old f facts old.0 in
         let most = in_map old.0 in
         omega arith)
 
     prime_apart : times old.0 is.directory'.chain.blocks + times old.0 is.target'.chain.blocks ≡ 0
     prime_apart =
-        let some = prime_reached old.0 refl in
-        let parts = file_parts old.0 in
+        let some = prime_reached old f facts old.0 refl in
+        let parts = file_parts old f facts old.0 in
         let one = few old.0 in
         let s = source_times old.0 in
         let t = target_times old.0 in
@@ -379,56 +310,23 @@ module _ (size : ℕ) (k k' : CurrentMap) (ppn : ℕ) (name : FileName) (to_ppn 
         → times n is.directory.chain.blocks + times n is.target.chain.blocks + reaches_in_file n f ≡ 0
         → with_puts puts c n ≡ c n
     reached_stays n there none =
-        stays c n (inr (reached_in_space size c m held.stands n there).from) (not_prime n (omega arith))
+        stays c n (inr (reached_in_space size c m held.stands n there).from) (not_prime old f facts n (omega arith))
         (let s = source_times n in let t = target_times n in let g = grown_unreached n there in omega arith)
 
     -- the prime block
 
-    said : with_length v.prime (length f.file.body) ≡ prime_of (place_of to_ppn to) file
-    said = λ i. record {
-      place = record { ppn = prime_is.owner i; name = prime_is.file i };
-      protection = prime_is.protected i;
-      mode = (ap mode_number prime_is.mode ∙ sym (ap (λ (x : Facts). x.mode) facts)) i;
-      time = (ap (λ x. x.minute) prime_is.moment ∙ sym (ap (λ (x : Facts). x.time) facts)) i;
-      date = (ap (λ x. x.date) prime_is.moment ∙ sym (ap (λ (x : Facts). x.date) facts)) i;
-      words = length f.file.body;
-    }
-
-    words_are : words ≡ prime_block (prime_of (place_of ppn name) f.file) version.retrieved.runs
-        (first_extension version.retrieved.further)
-    words_are = some_same (sym read ∙ ap c (sym prime_at) ∙ version.retrieved.prime_is)
-
-    anew_is : is.anew ≡ prime_block (prime_of (place_of to_ppn to) file) version.retrieved.runs
-        (first_extension version.retrieved.further)
-    anew_is = is.rewritten (prime_of (place_of ppn name) f.file) version.retrieved.runs
-        (first_extension version.retrieved.further) words_are
-        ∙ ap (λ (p : SpecPrime). prime_block p version.retrieved.runs (first_extension version.retrieved.further)) said
-
-    new_prime : with_puts puts c f.prime ≡ Some (prime_block (prime_of (place_of to_ppn to) file)
-        version.retrieved.runs (first_extension version.retrieved.further))
-    new_prime = ap (with_puts puts c) prime_at ∙ beside_table c old.0 (inr moved_across_prime_inside.from)
-        ∙ prime_before c ∙ ap Some anew_is
-
-    new_fits : IsPrime m.layout (prime_of (place_of to_ppn to) file)
-    new_fits = record {
-      protection = fits;
-      mode = version.retrieved.fits.mode;
-      time = version.retrieved.fits.time;
-      date = version.retrieved.fits.date;
-      few = version.retrieved.fits.few;
-    }
-
     -- the other blocks of the file stay
     new_version : IsVersion m.layout (with_puts puts c) (place_of to_ppn to) (in_place_of f file)
-    new_version = version_rewritten m.layout c (with_puts puts c) (place_of ppn name) (place_of to_ppn to) f file
-        version refl
-        new_fits new_prime (λ n there.
-        let parts = file_parts n in
+    new_version = moved_version old v f to_ppn to protection facts prime_is m.layout ppn name c version words is.anew
+        is.rewritten read fits (with_puts puts c)
+        (beside_table c old.0 (inr moved_across_prime_inside.from) ∙ prime_before c)
+        (λ n there.
+        let parts = file_parts old f facts n in
         let one = few n in
         let s = source_times n in
         let t = target_times n in
         stays c n (inr (reached_in_space size c m held.stands n (let most = in_map n in omega arith)).from)
-        (λ same. let some = prime_reached n same in absurd (omega arith)) (omega arith))
+        (λ same. let some = prime_reached old f facts n same in absurd (omega arith)) (omega arith))
 
     -- the chains of the two directories
 
@@ -458,15 +356,13 @@ module _ (size : ℕ) (k k' : CurrentMap) (ppn : ℕ) (name : FileName) (to_ppn 
     primes = is.removed.names ∙ (λ i. remove (sym stored_is.names i) name)
 
     to_primes : from_entries is.target'.chain.entries ≡ insert (primes_of to_stored) to f.prime
-    to_primes = is.entered.names ∙ (λ i. insert (sym to_stored_is.names i) to (sym prime_at i))
+    to_primes = is.entered.names ∙ (λ i. insert (sym to_stored_is.names i) to (sym (prime_at old f facts) i))
 
     new_chain : IsFileChain (with_puts puts c) chain (remove (primes_of stored) name)
-    new_chain = subst (IsFileChain (with_puts puts c) chain) primes
-        (chain_stands file_words IsFileEntry (with_puts puts c) is.directory'.chain is.removed.chain source_on)
+    new_chain = files_stand (with_puts puts c) is.directory'.chain _ is.removed.chain source_on primes
 
     new_to_chain : IsFileChain (with_puts puts c) to_chain (insert (primes_of to_stored) to f.prime)
-    new_to_chain = subst (IsFileChain (with_puts puts c) to_chain) to_primes
-        (chain_stands file_words IsFileEntry (with_puts puts c) is.target'.chain is.entered.chain target_on)
+    new_to_chain = files_stand (with_puts puts c) is.target'.chain _ is.entered.chain target_on to_primes
 
     first_block : head_or_zero chain ≡ head_or_zero stored.chain
     first_block =
@@ -513,26 +409,12 @@ module _ (size : ℕ) (k k' : CurrentMap) (ppn : ℕ) (name : FileName) (to_ppn 
 
     -- memory
 
-    new_facts : facts_of (in_place_of f file) ≡ known_facts old.0 v.prime v.version
-    new_facts =
-        let was = facts in
-        λ i. record {
-          protection = sym prime_is.protected i;
-          mode = (ap (λ (x : Facts). x.mode) was ∙ sym (ap mode_number prime_is.mode)) i;
-          time = (ap (λ (x : Facts). x.time) was ∙ sym (ap (λ x. x.minute) prime_is.moment)) i;
-          date = (ap (λ (x : Facts). x.date) was ∙ sym (ap (λ x. x.date) prime_is.moment)) i;
-          words = (ap (λ (x : Facts). x.words) was ∙ sym (ap (λ x. x.words) is.lies)) i;
-          prime = prime_at i;
-          ribs = (ap (λ (x : Facts). x.ribs) was ∙ sym (ap (λ x. x.ribs) is.lies)) i;
-          blocks = (ap (λ (x : Facts). x.blocks) was ∙ sym (ap (λ x. x.blocks) is.lies)) i;
-        }
-
     new_known : AgreesOnDirectory is.directory' after
     new_known = known_without is.directory is.directory' name old stored is.removed stored_is
 
     new_to_known : AgreesOnDirectory is.target' to_after
-    new_to_known = known_with is.target is.target' to old.0 v to_stored (in_place_of f file) is.entered to_stored_is
-        new_facts
+    new_to_known = known_with is.target is.target' to old.0 v None to_stored (in_place_of f file) is.entered to_stored_is
+        (moved_facts old v f to_ppn to protection facts prime_is is.lies)
 
     -- an entry in another place has another key
     other_source : (i : ℕ) (e : SpecMasterEntry) → slice_get k.master.entries i ≡ Some e → (i ≡ is.place → ⊥)

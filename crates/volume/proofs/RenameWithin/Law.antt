@@ -34,9 +34,12 @@ use Rattle.volume.specs.Common.{files_without, files_removed}
 use Rattle.volume.proofs.VolumeStart.FoundDirectories.{all_at}
 use Rattle.volume.proofs.common.Puts.{not_put}
 use Rattle.volume.proofs.common.UsedBlocks.{reached_in_space}
+use Rattle.volume.proofs.common.ChainPuts.{out_of_space}
 use Rattle.volume.proofs.common.TableBits.{bits_same}
 use Rattle.volume.proofs.common.Lists.{none_mapped}
 use Rattle.volume.proofs.common.OneDirectory.{directory_leads}
+use Rattle.volume.proofs.common.StoredDirectories.{stored_agrees, files_stand}
+use Rattle.volume.proofs.common.MovedPrimes.{prime_at, prime_reached, file_parts, not_prime, moved_facts, moved_version}
 
 -- The directory with the file so, and the map.
 
@@ -99,11 +102,7 @@ module _ (size : ℕ) (k k' : CurrentMap) (ppn : ℕ) (name to : FileName) (old 
   new_inside = subst (AllByRecursion (InSpace size)) (sym is.entry.blocks) was_whole.inside
 
   pub out_of_chain : (n : ℕ) → (n < space_start size) ⊎ (size ≤ n) → times n is.directory'.chain.blocks ≡ 0
-  out_of_chain n out = ⊎_elim
-      (λ there. absurd (let in_space = each_times (InSpace size) is.directory'.chain.blocks n new_inside there in
-      let from = in_space.from in let below = in_space.below in
-      ⊎_elim (λ low. omega arith) (λ high. omega arith) out))
-      (λ none. none) (some_or_none (times n is.directory'.chain.blocks))
+  out_of_chain = out_of_space size is.directory'.chain.blocks new_inside
 
   -- the prime block has its new words, and no other block changes than those of the chain
 
@@ -158,18 +157,13 @@ module _ (size : ℕ) (k k' : CurrentMap) (m : DiskMap) (ppn : ℕ) (name to : F
   after = directory_moved stored chain name to f protection
 
   stored_is : AgreesOnDirectory is.directory stored
-  stored_is =
-      let found = held.known.each is.place (ppn, is.word) is.directory is.there.is is.directory_at in
-      subst (AgreesOnDirectory is.directory) (some_same (sym found.1 ∙ stored_at)) found.2
+  stored_is = stored_agrees held.known is.place ppn is.word is.directory stored is.there.is is.directory_at stored_at
 
   facts : facts_of f ≡ known_facts old.0 old.1.prime old.1.version
   facts =
       let was = is.entry.was in
       let found = stored_is.each was.0 (name, old.0) old.1 was.1.is was.2 in
       ap facts_of (some_same (sym f_at ∙ found.1)) ∙ found.2
-
-  prime_at : f.prime ≡ old.0
-  prime_at = ap (λ (x : Facts). x.prime) facts
 
   version : IsVersion m.layout c (place_of ppn name) f
   version = (held.stands.mapped.directories ppn stored stored_at).files name f f_at
@@ -195,28 +189,18 @@ module _ (size : ℕ) (k k' : CurrentMap) (m : DiskMap) (ppn : ℕ) (name to : F
   few : (n : ℕ) → times n m.chain + times n is.directory.chain.blocks + reaches_in_file n f ≤ 1
   few n = let most = in_map n in let one = once size c m held.stands.marked n in omega arith
 
-  prime_reached : (n : ℕ) → n ≡ old.0 → 0 < times n (f.prime ∷ [])
-  prime_reached n same = let head = times_head n f.prime [] (same ∙ sym prime_at) in omega arith
-
-  file_parts : (n : ℕ) → reaches_in_file n f ≡ times n (f.prime ∷ []) + times n (f.extensions ++ f.blocks)
-  file_parts n = omega arith
-
-  -- a block that isn't the file's isn't its prime block
-  not_prime : (n : ℕ) → reaches_in_file n f ≡ 0 → n ≡ old.0 → ⊥
-  not_prime n none same = let some = prime_reached n same in let parts = file_parts n in omega arith
-
   prime_alone : times old.0 chain ≡ 0
   prime_alone =
-      let some = prime_reached old.0 refl in
-      let parts = file_parts old.0 in
+      let some = prime_reached old f facts old.0 refl in
+      let parts = file_parts old f facts old.0 in
       let one = few old.0 in
       let same = chain_times old.0 in
       omega arith
 
   pub prime_inside : InSpace size old.0
   prime_inside = reached_in_space size c m held.stands old.0
-      (let some = prime_reached old.0 refl in
-      let parts = file_parts old.0 in
+      (let some = prime_reached old f facts old.0 refl in
+      let parts = file_parts old f facts old.0 in
       let most = in_map old.0 in
       omega arith)
 
@@ -236,55 +220,21 @@ module _ (size : ℕ) (k k' : CurrentMap) (m : DiskMap) (ppn : ℕ) (name to : F
 
   reached_stays : (n : ℕ) → times n is.directory.chain.blocks + reaches_in_file n f ≡ 0 → with_puts puts c n ≡ c n
   reached_stays n none = others_put size k k' ppn name to old v words puts whole is c n
-      (not_prime n (omega arith)) (let same = chain_times n in omega arith)
+      (not_prime old f facts n (omega arith)) (let same = chain_times n in omega arith)
 
   mid_table : (i : ℕ) → i < table_blocks size → with_puts puts c (table_start size + i) ≡ c (table_start size + i)
   mid_table i below = stays_out (table_start size + i) (inl (omega arith))
 
   -- the prime block
 
-  said : with_length v.prime (length f.file.body) ≡ prime_of (place_of ppn to) file
-  said = λ i. record {
-    place = record { ppn = prime_is.owner i; name = prime_is.file i };
-    protection = prime_is.protected i;
-    mode = (ap mode_number prime_is.mode ∙ sym (ap (λ (x : Facts). x.mode) facts)) i;
-    time = (ap (λ x. x.minute) prime_is.moment ∙ sym (ap (λ (x : Facts). x.time) facts)) i;
-    date = (ap (λ x. x.date) prime_is.moment ∙ sym (ap (λ (x : Facts). x.date) facts)) i;
-    words = length f.file.body;
-  }
-
-  words_are : words ≡ prime_block (prime_of (place_of ppn name) f.file) version.retrieved.runs
-      (first_extension version.retrieved.further)
-  words_are = some_same (sym read ∙ ap c (sym prime_at) ∙ version.retrieved.prime_is)
-
-  anew_is : is.anew ≡ prime_block (prime_of (place_of ppn to) file) version.retrieved.runs
-      (first_extension version.retrieved.further)
-  anew_is = is.rewritten (prime_of (place_of ppn name) f.file) version.retrieved.runs
-      (first_extension version.retrieved.further) words_are
-      ∙ ap (λ (p : SpecPrime). prime_block p version.retrieved.runs (first_extension version.retrieved.further)) said
-
-  new_prime : with_puts puts c f.prime ≡ Some (prime_block (prime_of (place_of ppn to) file) version.retrieved.runs
-      (first_extension version.retrieved.further))
-  new_prime = ap (with_puts puts c) prime_at ∙ prime_put size k k' ppn name to old v words puts whole is c
-      ∙ ap Some anew_is
-
-  new_fits : IsPrime m.layout (prime_of (place_of ppn to) file)
-  new_fits = record {
-    protection = fits;
-    mode = version.retrieved.fits.mode;
-    time = version.retrieved.fits.time;
-    date = version.retrieved.fits.date;
-    few = version.retrieved.fits.few;
-  }
-
   new_version : IsVersion m.layout (with_puts puts c) (place_of ppn to) (in_place_of f file)
-  new_version = version_rewritten m.layout c (with_puts puts c) (place_of ppn name) (place_of ppn to) f file version
-      refl
-      new_fits new_prime (λ n there.
+  new_version = moved_version old v f ppn to protection facts prime_is m.layout ppn name c version words is.anew
+      is.rewritten read fits (with_puts puts c) (prime_put size k k' ppn name to old v words puts whole is c)
+      (λ n there.
       others_put size k k' ppn name to old v words puts whole is c n
-      (λ same. let some = prime_reached n same in let parts = file_parts n in let one = few n in
-      absurd (omega arith))
-      (let parts = file_parts n in let one = few n in let same = chain_times n in omega arith))
+      (λ same. let some = prime_reached old f facts n same in let parts = file_parts old f facts n in
+      let one = few n in absurd (omega arith))
+      (let parts = file_parts old f facts n in let one = few n in let same = chain_times n in omega arith))
 
   -- the chain of the directory
 
@@ -295,11 +245,10 @@ module _ (size : ℕ) (k k' : CurrentMap) (m : DiskMap) (ppn : ℕ) (name to : F
       (λ same. let none = prime_alone in let here = ap (λ (j : ℕ). times j chain) same in absurd (omega arith)))
 
   primes : from_entries is.directory'.chain.entries ≡ insert (remove (primes_of stored) name) to f.prime
-  primes = is.entry.names ∙ (λ i. insert (remove (sym stored_is.names i) name) to (sym prime_at i))
+  primes = is.entry.names ∙ (λ i. insert (remove (sym stored_is.names i) name) to (sym (prime_at old f facts) i))
 
   new_chain : IsFileChain (with_puts puts c) chain (insert (remove (primes_of stored) name) to f.prime)
-  new_chain = subst (IsFileChain (with_puts puts c) chain) primes
-      (chain_stands file_words IsFileEntry (with_puts puts c) is.directory'.chain is.entry.chain new_on)
+  new_chain = files_stand (with_puts puts c) is.directory'.chain _ is.entry.chain new_on primes
 
   first_block : head_or_zero chain ≡ head_or_zero stored.chain
   first_block = ap head_or_zero (is.entry.blocks ∙ sym stored_is.chain)
@@ -338,20 +287,6 @@ module _ (size : ℕ) (k k' : CurrentMap) (m : DiskMap) (ppn : ℕ) (name to : F
 
   -- memory
 
-  new_facts : facts_of (in_place_of f file) ≡ known_facts old.0 v.prime v.version
-  new_facts =
-      let was = facts in
-      λ i. record {
-        protection = sym prime_is.protected i;
-        mode = (ap (λ (x : Facts). x.mode) was ∙ sym (ap mode_number prime_is.mode)) i;
-        time = (ap (λ (x : Facts). x.time) was ∙ sym (ap (λ x. x.minute) prime_is.moment)) i;
-        date = (ap (λ (x : Facts). x.date) was ∙ sym (ap (λ x. x.date) prime_is.moment)) i;
-        words = (ap (λ (x : Facts). x.words) was ∙ sym (ap (λ x. x.words) is.entry.lies)) i;
-        prime = prime_at i;
-        ribs = (ap (λ (x : Facts). x.ribs) was ∙ sym (ap (λ x. x.ribs) is.entry.lies)) i;
-        blocks = (ap (λ (x : Facts). x.blocks) was ∙ sym (ap (λ x. x.blocks) is.entry.lies)) i;
-      }
-
   each_file : (i : ℕ) (e : SpecFileEntry) (u : CurrentVersion) → slice_get is.directory'.chain.entries i ≡ Some e
       → slice_get is.directory'.versions i ≡ Some u → AgreesOnFile after e u
   each_file i e u here also = ⊎_elim
@@ -361,7 +296,8 @@ module _ (size : ℕ) (k k' : CurrentMap) (m : DiskMap) (ppn : ℕ) (name to : F
         in_place_of f file,
         ap (λ (z : SpecFileEntry). get (insert (remove stored.files name) to (in_place_of f file)) z.0) entry
             ∙ get-insert_same name_total (remove stored.files name) to (in_place_of f file),
-        new_facts ∙ sym (λ j. known_facts (entry j).1 (known j).prime (known j).version),
+        moved_facts old v f ppn to protection facts prime_is is.entry.lies
+            ∙ sym (λ j. known_facts (entry j).1 (known j).prime (known j).version),
       ))
       (λ kept.
       let found = stored_is.each kept.2 e u kept.3 kept.4 in (

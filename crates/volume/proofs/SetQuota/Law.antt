@@ -14,18 +14,18 @@ use Rattle.spec_image.specs.Changes.{with_protection}
 use Rattle.spec_image.proofs.Common.{files_protected, directory_protected, once, some_same, get-insert_same}
 use Rattle.spec_image.proofs.Common.{get-insert_other, get-from_entries, get-map_values, map_values-insert}
 use Rattle.spec_image.proofs.Common.{each_times, quota_bound}
-use Rattle.changeset.specs.Common.{some_or_none}
 use Rattle.alloctab.specs.Common.{bit}
 use Rattle.directory.specs.Common.{IsOn, on_kept}
 use Rattle.volume.specs.Common.{word_limited, LimitsDirectory, CurrentDirectory, AgreesOnDirectory, MatchesMap}
 use Rattle.volume.specs.Common.{MemoryMap}
 use Rattle.volume.specs.Common.{IsWholeMemory}
-use Rattle.volume.proofs.common.UsedBlocks.{element_at, chain_reached}
-use Rattle.volume.proofs.common.TableBits.{bits_same}
+use Rattle.volume.proofs.common.UsedBlocks.{element_at, reached_in_space, chain_reached}
+use Rattle.volume.proofs.common.ChainPuts.{PutsBoth, out_of_chain, both_stay, homes_stay, both_on, both_bits}
+use Rattle.volume.proofs.common.ChainPuts.{both_undamaged}
 use Rattle.volume.proofs.MakeDir.Law.{master_stands}
 use Rattle.volume.proofs.common.Lists.{set_cases, other_key}
-use Rattle.volume.proofs.SetQuota.Memory.{next, word_with, limited_chain, put_chain}
-use Rattle.volume.proofs.SetQuota.Entries.{inserted_place, names_inserted}
+use Rattle.volume.proofs.SetQuota.Memory.{next, word_with, limited_chain, puts_both}
+use Rattle.volume.proofs.common.SameKeys.{inserted_place, names_inserted}
 
 -- the entry of a directory with another quota
 limited_entry : (s : StoredDirectory) (quota : ℕ) → s.quota < 262144
@@ -82,31 +82,22 @@ module _ (size : ℕ) (c c' : MemoryMap) (m : DiskMap) (ppn quota : ℕ) (puts :
   names = names_inserted c.known.master.entries ppn (word_limited word quota)
       ∙ (λ i. insert (sym held.known.names i) ppn (entry_is i))
 
-  -- what stays
+  abbrev both : PutsBoth master_words size c.known.table c.known.table c.known.master after.known.master puts
+  both = puts_both size c c' ppn quota puts memory limits
 
-  others : (n : ℕ) → times n c.known.master.blocks ≡ 0 → with_puts puts d n ≡ d n
-  others n none = (put_chain size c c' ppn quota puts memory limits).others d n none
+  -- what stays
 
   master_times : (n : ℕ) → times n m.chain ≡ times n c.known.master.blocks
   master_times n = ap (times n) held.known.chain
 
-  out_of_chain : (n : ℕ) → (n < space_start size) ⊎ (size ≤ n) → times n c.known.master.blocks ≡ 0
-  out_of_chain n out = ⊎_elim
-      (λ there. absurd (let inside = each_times (InSpace size) c.known.master.blocks n memory.map.inside there in
-      let from = inside.from in let below = inside.below in
-      ⊎_elim (λ low. omega arith) (λ high. omega arith) out))
-      (λ none. none) (some_or_none (times n c.known.master.blocks))
-
-  table_stays : (i : ℕ) → i < table_blocks size → with_puts puts d (table_start size + i) ≡ d (table_start size + i)
-  table_stays i below = others (table_start size + i) (out_of_chain (table_start size + i) (inl (omega arith)))
-
   reached_stays : (n : ℕ) → 0 < reaches n m → times n m.chain ≡ 0 → with_puts puts d n ≡ d n
-  reached_stays n there none = others n (sym (master_times n) ∙ none)
+  reached_stays n there none = both_stay both d n (inr (reached_in_space size d m held.stands n there).from)
+      (sym (master_times n) ∙ none)
 
   -- the chain of the master directory
 
   new_on : IsOn master_words (with_puts puts d) after.known.master
-  new_on = (put_chain size c c' ppn quota puts memory limits).spells d held.master
+  new_on = both_on both d held.master
 
   new_master : IsMasterChain (with_puts puts d) c.known.master.blocks
       (insert (entries_of m) ppn (entry_of changed))
@@ -116,28 +107,19 @@ module _ (size : ℕ) (c c' : MemoryMap) (m : DiskMap) (ppn quota : ℕ) (puts :
   -- the table
 
   new_bits : (n : ℕ) → table_bit size (with_puts puts d) n ≡ bit c.known.table n
-  new_bits n = bits_same size d (with_puts puts d) table_stays n ∙ held.bits n
+  new_bits = both_bits both d held.bits
 
   follows : TableFollows size d (with_puts puts d) (λ n. times n m.chain) (λ n. times n c.known.master.blocks)
   follows = record {
-    undamaged = λ i below. subst IsSome (sym (table_stays i below)) (held.stands.marked.undamaged i below);
-    inside = λ n past. out_of_chain n (inr past);
-    bits = λ n.
-        let same = bits_same size d (with_puts puts d) table_stays n in
-        let chain = master_times n in
-        omega arith;
+    undamaged = both_undamaged both d held.stands.marked.undamaged;
+    inside = λ n past. out_of_chain both n (inr past);
+    bits = λ n. let new = new_bits n in let old = held.bits n in let chain = master_times n in omega arith;
   }
 
   new_map : HasMap size (with_puts puts d) map_limited
   new_map = directory_protected size d (with_puts puts d) m c.known.master.blocks ppn in_map.0 in_map.0.protection quota
       held.stands in_map.1 whole_here.protection fits new_master (ap head_or_zero (sym held.known.chain))
-      (record {
-        home = record {
-          first = others 1 (out_of_chain 1 (inl (omega arith)));
-          second = others 2 (out_of_chain 2 (inl (omega arith)));
-        };
-        others = reached_stays;
-      })
+      (record { home = homes_stay both d; others = reached_stays })
       follows
 
   -- memory

@@ -4,7 +4,6 @@ use Rattle.std.proofs.Common.{subst, ◌∙◌, arith}
 use Rattle.std.specs.Ordering.{nat_cmp}
 use Rattle.std.specs.List.{AllByRecursion}
 use Rattle.words36.specs.declared.names.FileName.{FileName}
-use Rattle.changeset.specs.Common.{IsGateOrLog, IsPutIn}
 use Rattle.spec_image.specs.declared.put.Put.{Put}
 use Rattle.spec_image.specs.Common.{directory_cost, SpecMasterEntry, master_words, IsMasterEntryOf, IsTarget, targets}
 use Rattle.spec_image.specs.Common.{times, space_start, log_images}
@@ -13,10 +12,9 @@ use Rattle.volume.specs.Common.{IsDirectoryOf, word_limited, IsLimited, LimitsDi
 use Rattle.volume.specs.Common.{MemoryMap, cost_beyond, IsWholeMemory, prime_at}
 use Rattle.volume.proofs.common.Apart.{apart_same}
 use Rattle.volume.proofs.VolumeStart.FoundDirectories.{all_at}
-use Rattle.volume.proofs.common.UnchangedHomes.{out_of}
-use Rattle.volume.proofs.common.Puts.{not_put}
-use Rattle.volume.proofs.SetQuota.Entries.{SameKeys, keys_back, keys_length, keys_absent, keys_once, keys_stand}
-use Rattle.volume.proofs.SetQuota.Entries.{keys_prime, keys_growths, keys_set, inserted_place}
+use Rattle.volume.proofs.common.ChainPuts.{PutsBoth, table_itself}
+use Rattle.volume.proofs.common.SameKeys.{SameKeys, keys_back, keys_length, keys_absent, keys_once, keys_stand}
+use Rattle.volume.proofs.common.SameKeys.{keys_prime, keys_growths, keys_set, inserted_place}
 use Rattle.volume.proofs.common.Lists.{set_each}
 
 -- the word of a protection and a quota with another quota
@@ -119,24 +117,17 @@ module _ (size : ℕ) (c c' : MemoryMap) (ppn quota : ℕ) (memory : IsWholeMemo
 -- What is put.
 module _ (size : ℕ) (c c' : MemoryMap) (ppn quota : ℕ) (puts : List Put) (memory : IsWholeMemory size c)
     (limits : LimitsDirectory c c' ppn quota puts) where
-  pub put_chain : PutsChain master_words c.known.master (next size c c' ppn quota memory limits.limited).known.master []
+  put_chain : PutsChain master_words c.known.master (next size c c' ppn quota memory limits.limited).known.master []
       puts
   put_chain = subst (λ (x : MemoryMap). PutsChain master_words c.known.master x.known.master [] puts)
       limits.limited.map limits.put
 
-  pub puts_in_range : AllByRecursion (IsTarget size) (targets puts)
-  puts_in_range = put_chain.in_range size memory.map.inside tt
-
-  pub puts_few : length puts ≤ log_images size
-  puts_few = let few = limits.few in omega arith
-
-  -- no block of the free space is written, except those of the master directory
-  pub not_written : (n : ℕ) → space_start size ≤ n → times n c.known.master.blocks ≡ 0
-      → IsGateOrLog size n ⊎ IsPutIn puts n → ⊥
-  not_written n from none = ⊎_elim
-      (λ log. let below = log.1 in omega arith)
-      (not_put puts n (λ d. put_chain.others d n none))
-
-  pub limited_low : (n : ℕ) → n ≤ 2 → IsPutIn puts n → ⊥
-  limited_low n low = not_put puts n (λ d. put_chain.others d n (out_of size c.known.master.blocks memory.map.inside n
-      low))
+  pub puts_both : PutsBoth master_words size c.known.table c.known.table c.known.master
+      (next size c c' ppn quota memory limits.limited).known.master puts
+  puts_both = record {
+    chain_puts = puts;
+    chain = put_chain;
+    few = limits.few;
+    table = table_itself size c.known.table puts;
+    inside = memory.map.inside;
+  }

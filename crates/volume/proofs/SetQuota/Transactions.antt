@@ -5,7 +5,8 @@ use Rattle.spec_image.specs.Common.{files_limited, quota_limit}
 use Rattle.volume.specs.Common.{LimitsDirectory, MemoryMap, IsWholeMemory}
 use Rattle.volume.proofs.common.Edits.{Nowhere, Anyhow, IsEdit}
 use Rattle.volume.proofs.common.LiveBodies.{bodies_of, dated_of}
-use Rattle.volume.proofs.SetQuota.Memory.{limited_memory, puts_in_range, puts_few, not_written, limited_low}
+use Rattle.volume.proofs.common.ChainPuts.{both_in_range, both_few, low_not_put, space_not_put}
+use Rattle.volume.proofs.SetQuota.Memory.{limited_memory, puts_both}
 use Rattle.volume.proofs.SetQuota.Law.{map_limited, limiting_leads, files_next}
 use Rattle.spec_image.proofs.Common.{quota_bound}
 
@@ -25,11 +26,11 @@ module _ {size : ℕ} {c c' : MemoryMap} {ppn quota : ℕ} {puts : List Put} (wh
     bodies = λ d. bodies_of d c c' live pending;
     dated = λ n. dated_of n c c' pending;
     quiet = λ n none. absurd none;
-    in_range = puts_in_range size c c' ppn quota puts whole is;
-    few = puts_few size c c' ppn quota puts whole is;
-    low = limited_low size c c' ppn quota puts whole is;
-    spares = λ n kept put. not_written size c c' ppn quota puts whole is n kept.from
-        (let apart = kept.apart in omega arith) (inr put);
+    in_range = both_in_range (puts_both size c c' ppn quota puts whole is);
+    few = both_few (puts_both size c c' ppn quota puts whole is);
+    low = λ n low. low_not_put (puts_both size c c' ppn quota puts whole is) n (omega arith);
+    spares = λ n kept. space_not_put (puts_both size c c' ppn quota puts whole is) n kept.from
+        (let apart = kept.apart in omega arith);
     leads = λ m d same held ready.
         let in_map = subst (λ (l : ℕ). quota < quota_limit l) (sym same) fits in (
           map_limited size c c' m ppn quota puts whole is in_map d held,

@@ -9,13 +9,9 @@ use Rattle.spec_image.specs.declared.put.Put.{Put}
 use Rattle.spec_image.specs.Common.{InSpace, times}
 use Rattle.spec_image.proofs.Common.{fixed_below, each_times}
 use Rattle.alloctab.specs.Common.{bit}
-use Rattle.volume.specs.Common.{HasHomesFrom, KeepsHomes, CurrentMap, CurrentVersion, Before, IsWholeMap, IsMade}
-use Rattle.volume.specs.Common.{IsMovedWithin, IsPublished, IsDirectoryRemoved}
-use Rattle.volume.proofs.common.Puts.{not_put}
-use Rattle.volume.proofs.MakeDir.MadeDirectories.{made_inside}
-use Rattle.volume.proofs.PublishVersion.Puts.{published_apart, published_stays}
+use Rattle.volume.specs.Common.{HasHomesFrom, KeepsHomes, CurrentMap, CurrentVersion, IsWholeMap}
+use Rattle.volume.specs.Common.{IsMovedWithin}
 use Rattle.volume.proofs.RenameWithin.Law.{out_of_chain, moved_elsewhere}
-use Rattle.volume.proofs.DeleteDir.Memory.{removed_inside}
 
 -- On the disk.
 
@@ -72,30 +68,7 @@ clear_past size k whole n low clear =
     let bits = whole.bits n in
     omega arith
 
--- The puts of each call.
-
-pub made_low : (size : ℕ) (k k' : CurrentMap) (ppn protection first : ℕ) (puts : List Put) (whole : IsWholeMap size k)
-    (made : IsMade size k k' ppn protection first puts) → (n : ℕ) → n ≤ 2 → IsPutIn puts n → ⊥
-made_low size k k' ppn protection first puts whole made n low =
-    not_put puts n (λ c. made.put.others c n (inl (omega arith))
-    ∙ made.entered.put.others c n (out_of size k'.master.blocks
-    (made_inside size k k' ppn protection first puts whole made) n low))
-
-pub unmade_low : (size : ℕ) (k k' : CurrentMap) (ppn : ℕ) (puts : List Put) (whole : IsWholeMap size k)
-    (removed : IsDirectoryRemoved size k k' ppn puts) → (n : ℕ) → n ≤ 2 → IsPutIn puts n → ⊥
-unmade_low size k k' ppn puts whole removed n low =
-    not_put puts n (λ c. removed.put.others c n (inl (omega arith))
-    ∙ removed.put_chain.others c n (out_of size k'.master.blocks (removed_inside size k k' ppn puts whole removed)
-    n low))
-
-pub published_low : (size : ℕ) (k k' : CurrentMap) (ppn : ℕ) (name : FileName) (at : ℕ) (v : CurrentVersion)
-    (old : Before)
-    (puts : List Put) (whole : IsWholeMap size k) (is : IsPublished size k k' ppn name at v old puts) → (n : ℕ)
-    → n ≤ 2 → IsPutIn puts n → ⊥
-published_low size k k' ppn name at v old puts whole is n low =
-    not_put puts n (λ c. published_stays size k k' ppn name at v old puts whole is c n (inl (omega arith))
-    (published_apart size k k' ppn name at v old puts whole is n (inl (omega arith))))
-
+-- The puts of a rename within a directory.
 pub moved_low : (size : ℕ) (k k' : CurrentMap) (ppn : ℕ) (name to : FileName) (old : ℕ × CurrentVersion)
     (v : CurrentVersion)
     (words : List ℕ) (puts : List Put) (whole : IsWholeMap size k)

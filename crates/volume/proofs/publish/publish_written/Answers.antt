@@ -5,7 +5,8 @@ use Rattle.volume.specs.Common.{IsEdited, pending_at, memory_of, file_of, files_
 use Rattle.volume.specs.declared.error.CallError.TheVariants.{Device}
 use Rattle.volume.specs.declared.pending.PendingVersion.{PendingVersion}
 use Rattle.volume.proofs.PublishVersion.Blocks.{made_current_of, retrieval_inside, retrieval_apart, retrieval_nonzero}
-use Rattle.volume.proofs.PublishVersion.Blocks.{version_words, version_enough, version_fits, puts_in_range}
+use Rattle.volume.proofs.common.ChainPuts.{both_in_range}
+use Rattle.volume.proofs.PublishVersion.Blocks.{version_words, version_enough, version_fits, published_both}
 use Rattle.volume.proofs.PublishVersion.Transactions.{ok_is, published_ended, published_edited, published_sound}
 use Rattle.spec_image.proofs.Common.{some_is}
 use Rattle.volume.proofs.publish.publish_written.Given
@@ -81,7 +82,7 @@ commit_edit-requires-clause-in_range g c =
     let there = some_is (pending_at (memory_of c.args.map.now).pending c.args.key) c.requires.there in
     let made = made_current_of c.requires.sound (c.make_current-current.ensures there.0 there.1) c.in-Some.ensures in
     subst (λ (n : ℕ). AllByRecursion (IsTarget n) (targets c.make_current-current.new.set))
-    (sym c.write_retrieval_blocks-written.ensures.same.size) (puts_in_range c.requires.sound.whole made)
+    (sym c.write_retrieval_blocks-written.ensures.same.size) (both_in_range (published_both c.requires.sound.whole made))
 
 changed : (g : Given.Over) (c : goal.After-commit_edit g) (p : PendingVersion)
     → pending_at (memory_of c.args.map.now).pending c.args.key ≡ Some p → (body : List ℕ)

@@ -2,16 +2,16 @@ use Rattle.std.proofs.Common.{◌<◌, subst, sym}
 use Rattle.spec_image.specs.Common.{layout_number, files_limited, quota_limit}
 use Rattle.volume.specs.Common.{IsEdited, memory_of}
 use Rattle.volume.proofs.common.Edits.{edited_alone, edited_volume, files_stay, not_written_stays}
-use Rattle.volume.proofs.SetQuota.Memory.{puts_in_range, not_written, directory_stays, primes_stay}
+use Rattle.volume.proofs.common.ChainPuts.{both_in_range, space_not_written}
+use Rattle.volume.proofs.SetQuota.Memory.{puts_both, directory_stays, primes_stay}
 use Rattle.volume.proofs.SetQuota.Transactions.{limited_edit}
 use Rattle.volume.proofs.volume.Volume.set_quota.Given
 use Rattle.volume.proofs.volume.Volume.set_quota.Goals as goal
 
 pub commit_edit-requires-clause-in_range : goal.commit_edit-requires-clause-in_range
-commit_edit-requires-clause-in_range g c = puts_in_range (g.D.Disk.state c.self.inside.disk).size
+commit_edit-requires-clause-in_range g c = both_in_range (puts_both (g.D.Disk.state c.self.inside.disk).size
     (memory_of c.self.inside.map) (memory_of c.limit_directory.new.memory) c.args.ppn c.args.quota
-        c.limit_directory.new.set
-    c.self.invariant.map.whole c.limit_directory.ensures
+    c.limit_directory.new.set c.self.invariant.map.whole c.limit_directory.ensures)
 
 -- What becomes of the disk.
 
@@ -37,9 +37,8 @@ returns-clause-files g c = rw (← c.self.view_is) (edited g c).files
 pub returns-clause-kept : goal.returns-clause-kept
 returns-clause-kept g c = rw (← c.self.view_is) (λ h n from none closed.
     not_written_stays c.commit_edit.ensures h n
-    (not_written _ _ (memory_of c.limit_directory.new.memory) _ _ _ c.self.invariant.map.whole c.limit_directory.ensures
-        n
-    from none) closed)
+    (space_not_written (puts_both _ _ (memory_of c.limit_directory.new.memory) _ _ _ c.self.invariant.map.whole
+    c.limit_directory.ensures) n from none) closed)
 
 -- What becomes of memory.
 
