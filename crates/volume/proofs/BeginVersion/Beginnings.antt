@@ -1,6 +1,6 @@
 -- A version that begins: what it costs, and that memory stays whole.
 use Rattle.std.proofs.Common.{◌≡◌, ◌↔◌, ◌⊎◌, inl, inr, ⊎_elim, IsTrue, ℕ, ◌+◌, ◌^◌, ◌<◌, ◌≤◌, Bool, true, false}
-use Rattle.std.proofs.Common.{if◌then◌else◌, List, [], ◌∷◌, map, length, slice_get, slice_index, get_or, Option, Some}
+use Rattle.std.proofs.Common.{if◌then◌else◌, List, [], map, length, slice_get, slice_index, get_or, Option, Some}
 use Rattle.std.proofs.Common.{None, is_none, IfSome, IsSome, IsErrOf, Err, option_map, refl, sym, ap, subst, ◌∙◌}
 use Rattle.std.proofs.Common.{arith}
 use Rattle.std.proofs.lemmas.Bool.{cases_lt}

@@ -1,18 +1,18 @@
 -- The puts of a directory that is deleted lead from the map of the disk to the one without it.
-use Rattle.std.proofs.Common.{◌≡◌, ◌⊎◌, inl, inr, ⊎_elim, ℕ, ◌+◌, ◌<◌, ◌≤◌, List, slice_get, Some, IsSome, refl, sym}
-use Rattle.std.proofs.Common.{ap, subst, ◌∙◌, arith}
+use Rattle.std.proofs.Common.{◌≡◌, inr, ℕ, ◌+◌, ◌<◌, List, slice_get, Some, refl, sym}
+use Rattle.std.proofs.Common.{ap, ◌∙◌, arith}
 use Rattle.std.specs.Cmp.{nat_cmp_total}
 use Rattle.std.specs.FinMap.{nat_cmp-IsAntisymmetric}
 use Rattle.blockdisk.specs.Common.{Contents}
 use Rattle.spec_image.specs.declared.put.Put.{Put}
 use Rattle.spec_image.specs.Common.{head_or_zero, TableFollows, IsMasterChain, entries_of, without_directory}
-use Rattle.spec_image.specs.Common.{SpecMasterEntry, master_words, file_words, InSpace, name_cmp, with_puts, FinMap}
+use Rattle.spec_image.specs.Common.{SpecMasterEntry, master_words, file_words, name_cmp, with_puts, FinMap}
 use Rattle.spec_image.specs.Common.{get}
-use Rattle.spec_image.specs.Common.{empty, remove, times, map_values, from_entries, table_blocks, table_start}
-use Rattle.spec_image.specs.Common.{space_start, StoredFile, StoredDirectory, DiskMap, HasMap, entry_of, reaches}
+use Rattle.spec_image.specs.Common.{empty, remove, times, map_values, from_entries}
+use Rattle.spec_image.specs.Common.{StoredFile, StoredDirectory, DiskMap, HasMap, entry_of, reaches}
 use Rattle.spec_image.specs.Common.{table_bit}
 use Rattle.spec_image.proofs.Common.{directory_removed, once, same_map, get-empty, get-remove_other, get-map_values}
-use Rattle.spec_image.proofs.Common.{map_values-remove, name_total, name_exact, each_times}
+use Rattle.spec_image.proofs.Common.{map_values-remove, name_total, name_exact}
 use Rattle.alloctab.specs.Common.{bit}
 use Rattle.directory.specs.Common.{IsOn, on_kept}
 use Rattle.volume.specs.Common.{CurrentDirectory, CurrentMap, AgreesOnDirectory, MatchesMap, IsWholeMap}

@@ -1,11 +1,11 @@
 -- An empty directory is deleted: what is in memory stays whole.
-use Rattle.std.proofs.Common.{◌≡◌, ◌⊎◌, inr, ⊎_elim, ℕ, ◌+◌, ◌-◌, ◌<◌, ◌≤◌, List, [], ◌∷◌, ◌++◌, length, slice_index}
+use Rattle.std.proofs.Common.{◌≡◌, ◌⊎◌, ⊎_elim, ℕ, ◌+◌, ◌-◌, ◌<◌, ◌≤◌, List, [], ◌∷◌, ◌++◌, length, slice_index}
 use Rattle.std.proofs.Common.{Option, Some, refl, sym, ap, subst, ◌∙◌, arith, length-append}
 use Rattle.std.proofs.lemmas.Bool.{cases_eq}
 use Rattle.std.specs.List.{AllByRecursion, AllZip}
 use Rattle.changeset.specs.Common.{IsGateOrLog, IsPutIn}
 use Rattle.spec_image.specs.declared.put.Put.{Put}
-use Rattle.spec_image.specs.Common.{directory_cost, InSpace, IsTarget, targets, total, times, space_start, log_images}
+use Rattle.spec_image.specs.Common.{master_words, directory_cost, InSpace, total, times, space_start}
 use Rattle.spec_image.proofs.Common.{times-append, all_left}
 use Rattle.alloctab.specs.Common.{bit, holds}
 use Rattle.volume.specs.declared.pending.PendingVersion.{PendingVersion}

@@ -1,5 +1,5 @@
 -- An empty directory is deleted in memory: what each step requires, and the whole of it from what each step did.
-use Rattle.std.proofs.Common.{◌≡◌, ℕ, suc, ◌+◌, ◌-◌, ◌<◌, ◌≤◌, false, List, [], ◌∷◌, ◌++◌, map, length, replicate}
+use Rattle.std.proofs.Common.{◌≡◌, ℕ, suc, ◌+◌, ◌-◌, ◌<◌, ◌≤◌, false, List, [], ◌++◌, map, length, replicate}
 use Rattle.std.proofs.Common.{take, drop, get_or, swap_remove, option_to_list, is_some, Option, Some, None, sym, ap}
 use Rattle.std.proofs.Common.{subst, ◌∙◌, arith, length-append}
 use Rattle.std.proofs.lemmas.List.{length-map}

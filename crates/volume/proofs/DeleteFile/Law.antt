@@ -1,24 +1,23 @@
 -- A file is deleted: what the puts make of the disk's map.
-use Rattle.std.proofs.Common.{◌≡◌, ℕ, ◌+◌, ◌<◌, ◌≤◌, ◌⊎◌, inl, inr, ⊎_elim, List, ◌++◌, length, Some, option_map}
-use Rattle.std.proofs.Common.{slice_get, refl, sym, ◌∙◌, ap, subst, arith}
+use Rattle.std.proofs.Common.{◌≡◌, ℕ, ◌+◌, ◌<◌, inr, List, ◌++◌, Some, option_map}
+use Rattle.std.proofs.Common.{sym, ◌∙◌, ap, subst, arith}
 use Rattle.std.specs.List.{AllByRecursion}
-use Rattle.std.specs.Option.{IsSome}
 use Rattle.std.specs.Cmp.{nat_cmp_total}
 use Rattle.words36.specs.declared.names.FileName.{FileName}
 use Rattle.blockdisk.specs.Common.{Contents}
 use Rattle.spec_image.specs.declared.put.Put.{Put}
-use Rattle.spec_image.specs.Common.{times, get, remove, from_entries, head_or_zero, table_blocks, table_start}
-use Rattle.spec_image.specs.Common.{space_start, log_images, IsTarget, targets, with_puts, table_bit, master_word}
-use Rattle.spec_image.specs.Common.{SpecFileEntry, file_words, IsFileEntry, StoredFile, StoredDirectory, DiskMap}
+use Rattle.spec_image.specs.Common.{times, get, remove, from_entries, head_or_zero}
+use Rattle.spec_image.specs.Common.{with_puts, table_bit, master_word}
+use Rattle.spec_image.specs.Common.{file_words, StoredFile, StoredDirectory, DiskMap}
 use Rattle.spec_image.specs.Common.{HasMap}
 use Rattle.spec_image.specs.Common.{directory_of, files_of, reaches_in_file, reaches, TableFollows, IsFileChain}
 use Rattle.spec_image.specs.Common.{primes_of, with_directory, InSpace}
 use Rattle.spec_image.specs.Changes.{without_file}
-use Rattle.spec_image.proofs.Common.{name_total, name_exact, some_same, get-remove_other, get-map_values}
-use Rattle.spec_image.proofs.Common.{map_values-remove, times-append, each_times, removed, all_left}
+use Rattle.spec_image.proofs.Common.{get-map_values}
+use Rattle.spec_image.proofs.Common.{times-append, removed, all_left}
 use Rattle.spec_image.proofs.ChangedFiles.{files_removed as files_of_removed}
 use Rattle.alloctab.specs.Common.{bit}
-use Rattle.directory.specs.Common.{IsOn, chain_stands, on_kept}
+use Rattle.directory.specs.Common.{IsOn}
 use Rattle.volume.specs.Common.{CurrentVersion, CurrentMap, AgreesOnFile, AgreesOnDirectory, MatchesMap}
 use Rattle.volume.specs.Common.{IsWholeDirectory}
 use Rattle.volume.specs.Common.{IsWholeMap, blocks_reached, files_without, files_removed, IsRemoved}
@@ -56,7 +55,7 @@ module _ (size : ℕ) (k k' : CurrentMap) (ppn : ℕ) (name : FileName) (old : �
       ≡ times n is.directory'.chain.blocks + times n is.left
   chain_times n = ap (times n) is.blocks ∙ times-append n is.directory'.chain.blocks is.left
 
-  new_inside : AllByRecursion (InSpace size) is.directory'.chain.blocks
+  pub new_inside : AllByRecursion (InSpace size) is.directory'.chain.blocks
   new_inside = all_left (InSpace size) is.directory'.chain.blocks is.left
       (subst (AllByRecursion (InSpace size)) is.blocks was_whole.inside)
 

@@ -1,5 +1,5 @@
 -- A directory is made: what the puts make of the disk's map.
-use Rattle.std.proofs.Common.{◌≡◌, ℕ, zero, suc, ◌+◌, ◌*◌, ◌/◌, ◌<◌, ◌≤◌, ◌⊎◌, inl, inr, ⊎_elim, List, [], ◌∷◌, ◌++◌}
+use Rattle.std.proofs.Common.{◌≡◌, ℕ, zero, suc, ◌+◌, ◌<◌, ◌≤◌, ◌⊎◌, inl, inr, ⊎_elim, List, [], ◌∷◌, ◌++◌}
 use Rattle.std.proofs.Common.{map, length, replicate, Some, None, slice_get, refl, sym, ◌∙◌, ap, subst, arith}
 use Rattle.std.proofs.lemmas.Bool.{cases_eq}
 use Rattle.std.proofs.lemmas.Option.{slice_get_within}
@@ -10,7 +10,7 @@ use Rattle.std.specs.FinMap.{nat_cmp-IsAntisymmetric}
 use Rattle.blockdisk.specs.Common.{Contents}
 use Rattle.spec_image.specs.declared.put.Put.{Put}
 use Rattle.spec_image.specs.Common.{FinMap, times, get, insert, map_values, from_entries, head_or_zero, name_cmp}
-use Rattle.spec_image.specs.Common.{table_blocks, table_start, space_start, with_puts, table_bit, SpecMasterEntry}
+use Rattle.spec_image.specs.Common.{with_puts, table_bit, SpecMasterEntry}
 use Rattle.spec_image.specs.Common.{master_words, IsMasterEntry, master_word, file_words, IsFileEntry, items}
 use Rattle.spec_image.specs.Common.{StoredFile, StoredDirectory, DiskMap, HasMap, entry_of, reaches, TableFollows}
 use Rattle.spec_image.specs.Common.{IsMasterChain, entries_of, bare_directory, InSpace, IsMasterEntryOf}

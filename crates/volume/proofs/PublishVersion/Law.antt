@@ -1,25 +1,24 @@
 -- A version becomes the file of its name: what the puts make of the disk's map.
-use Rattle.std.proofs.Common.{◌≡◌, ℕ, ◌+◌, ◌<◌, ◌≤◌, ◌⊎◌, inl, inr, ⊎_elim, List, ◌∷◌, ◌++◌, Some, option_map}
-use Rattle.std.proofs.Common.{slice_get, refl, sym, ◌∙◌, ap, subst, arith}
-use Rattle.std.specs.Option.{IsSome}
+use Rattle.std.proofs.Common.{◌≡◌, ℕ, ◌+◌, ◌<◌, ◌≤◌, inr, ⊎_elim, List, ◌∷◌, ◌++◌, Some, option_map}
+use Rattle.std.proofs.Common.{refl, sym, ◌∙◌, ap, arith}
 use Rattle.std.specs.Cmp.{nat_cmp_total}
 use Rattle.std.specs.FinMap.{nat_cmp-IsAntisymmetric}
 use Rattle.words36.specs.declared.names.FileName.{FileName}
 use Rattle.blockdisk.specs.Common.{Contents}
 use Rattle.spec_image.specs.declared.put.Put.{Put}
-use Rattle.spec_image.specs.Common.{times, get, insert, from_entries, sum_over, head_or_zero, table_blocks}
-use Rattle.spec_image.specs.Common.{table_start, space_start, with_puts, table_bit, master_word, SpecFileEntry}
-use Rattle.spec_image.specs.Common.{file_words, IsFileEntry, StoredFile, StoredDirectory, DiskMap, HasMap, IsVersion}
+use Rattle.spec_image.specs.Common.{times, get, insert, from_entries, sum_over, head_or_zero}
+use Rattle.spec_image.specs.Common.{with_puts, table_bit, master_word}
+use Rattle.spec_image.specs.Common.{file_words, StoredFile, StoredDirectory, DiskMap, HasMap, IsVersion}
 use Rattle.spec_image.specs.Common.{directory_of, files_of, place_of, reaches_in_file, reaches_in_directory, reaches}
 use Rattle.spec_image.specs.Common.{TableFollows, IsFileChain, primes_of, reaches_in_found, with_directory, InSpace}
 use Rattle.spec_image.specs.Changes.{with_file}
-use Rattle.spec_image.proofs.Common.{name_total, name_exact, some_same, get-insert_same, get-insert_other}
-use Rattle.spec_image.proofs.Common.{get-map_values, map_values-insert, times-append, at-le-sum, found-le-sum}
+use Rattle.spec_image.proofs.Common.{name_total, name_exact}
+use Rattle.spec_image.proofs.Common.{get-map_values, times-append, at-le-sum, found-le-sum}
 use Rattle.spec_image.proofs.Common.{each_times, version_kept, published}
 use Rattle.spec_image.proofs.ChangedFiles.{files_published as files_of_published}
 use Rattle.alloctab.specs.Common.{bit}
-use Rattle.directory.specs.Common.{IsOn, chain_stands, on_kept}
-use Rattle.volume.specs.Common.{facts_of, known_facts, CurrentVersion, CurrentMap, AgreesOnFile, AgreesOnDirectory}
+use Rattle.directory.specs.Common.{IsOn}
+use Rattle.volume.specs.Common.{facts_of, known_facts, CurrentVersion, CurrentMap, AgreesOnDirectory}
 use Rattle.volume.specs.Common.{AgreesOnMap}
 use Rattle.volume.specs.Common.{MatchesMap, IsWholeMap, blocks_reached, Before, given_up, files_put_in, files_published}
 use Rattle.volume.specs.Common.{IsPublished}

@@ -1,5 +1,5 @@
 -- A file is moved to another directory: what the puts make of the disk's map.
-use Rattle.std.proofs.Common.{◌≡◌, ℕ, ◌+◌, ◌<◌, ◌≤◌, ◌⊎◌, inl, inr, ⊎_elim, List, [], ◌∷◌, ◌++◌, Some, None}
+use Rattle.std.proofs.Common.{◌≡◌, ℕ, ◌+◌, ◌<◌, ◌≤◌, ◌⊎◌, inl, inr, ⊎_elim, List, Some, None}
 use Rattle.std.proofs.Common.{option_map, length, slice_get, slice_set, refl, sym, ◌∙◌, ap, subst, arith}
 use Rattle.std.proofs.lemmas.Option.{slice_get_within}
 use Rattle.std.specs.List.{AllByRecursion}
@@ -9,32 +9,29 @@ use Rattle.std.specs.Cmp.{nat_cmp_total}
 use Rattle.std.specs.FinMap.{nat_cmp-IsAntisymmetric}
 use Rattle.words36.specs.declared.names.FileName.{FileName}
 use Rattle.blockdisk.specs.Common.{Contents}
-use Rattle.changeset.specs.Common.{IsPutIn, replaced, times_head, some_or_none, with_puts-replaced, with_puts_here}
+use Rattle.changeset.specs.Common.{IsPutIn, replaced, with_puts-replaced, with_puts_here}
 use Rattle.changeset.specs.Common.{with_puts_later, all_replaced, length-replaced}
 use Rattle.spec_image.specs.declared.put.Put.{Put}
 use Rattle.spec_image.specs.Common.{FinMap, times, get, insert, remove, map_values, from_entries, sum_over}
 use Rattle.spec_image.specs.Common.{head_or_zero, table_blocks, table_start, space_start, log_images, IsTarget}
 use Rattle.spec_image.specs.Common.{targets, with_puts, table_bit, SpecMasterEntry, master_words, master_word}
-use Rattle.spec_image.specs.Common.{SpecFileEntry}
-use Rattle.spec_image.specs.Common.{file_words, IsFileEntry, File, Files, Directory, SpecPrime, IsPrime, prime_of}
-use Rattle.spec_image.specs.Common.{prime_block, first_extension, StoredFile, StoredDirectory, DiskMap, HasMap}
+use Rattle.spec_image.specs.Common.{file_words, File, Files, Directory}
+use Rattle.spec_image.specs.Common.{StoredFile, StoredDirectory, DiskMap, HasMap}
 use Rattle.spec_image.specs.Common.{IsVersion, directory_of, files_of, entry_of, place_of, reaches_in_file}
 use Rattle.spec_image.specs.Common.{reaches_in_directory, reaches, TableFollows, IsFileChain, primes_of}
 use Rattle.spec_image.specs.Common.{with_directory, in_place_of, file_put, file_removed, InSpace}
 use Rattle.spec_image.specs.Changes.{with_file, without_file}
 use Rattle.spec_image.proofs.Common.{name_total, name_exact, some_same, get-insert_same, get-insert_other}
-use Rattle.spec_image.proofs.Common.{get-remove_other, insert_same, get-from_entries, get-map_values}
-use Rattle.spec_image.proofs.Common.{map_values-insert, map_values-remove, times-append, at-le-sum, two-le-sum, once}
-use Rattle.spec_image.proofs.Common.{each_times, all_append, version_rewritten, renamed_across, files_renamed_across}
+use Rattle.spec_image.proofs.Common.{insert_same, get-from_entries, get-map_values}
+use Rattle.spec_image.proofs.Common.{map_values-insert, times-append, at-le-sum, two-le-sum, once}
+use Rattle.spec_image.proofs.Common.{each_times, all_append, renamed_across, files_renamed_across}
 use Rattle.spec_image.proofs.Common.{all_left}
 use Rattle.alloctab.specs.Common.{bit}
-use Rattle.directory.specs.Common.{ChainState, IsOn, chain_stands, on_kept}
-use Rattle.retrieval.specs.Common.{mode_number, with_length}
-use Rattle.volume.specs.Common.{Facts, facts_of, known_facts, CurrentVersion, CurrentDirectory, CurrentMap}
-use Rattle.volume.specs.Common.{AgreesOnFile}
+use Rattle.directory.specs.Common.{ChainState, IsOn, on_kept}
+use Rattle.volume.specs.Common.{facts_of, known_facts, CurrentVersion, CurrentDirectory, CurrentMap}
 use Rattle.volume.specs.Common.{AgreesOnDirectory, MatchesMap, IsWholeMap, IsWholeDirectory, file_protected, file_in}
-use Rattle.volume.specs.Common.{files_moved_as, files_moved, IsPrimeMoved, IsMovedAcross, IsEntryPut, files_put_in}
-use Rattle.volume.specs.Common.{files_published, IsEntryRemoved, files_without, files_removed}
+use Rattle.volume.specs.Common.{files_moved_as, files_moved, IsPrimeMoved, IsMovedAcross, files_put_in}
+use Rattle.volume.specs.Common.{files_published, files_without, files_removed}
 use Rattle.volume.proofs.VolumeStart.FoundDirectories.{all_at}
 use Rattle.volume.proofs.common.Puts.{not_put}
 use Rattle.volume.proofs.common.UsedBlocks.{reached_in_space, element_at}
@@ -225,7 +222,8 @@ module _ (size : ℕ) (k k' : CurrentMap) (ppn : ℕ) (name : FileName) (to_ppn 
     stored_is = stored_agrees held.known is.place ppn is.word is.directory stored is.there.is is.directory_at stored_at
 
     to_stored_is : AgreesOnDirectory is.target to_stored
-    to_stored_is = stored_agrees held.known is.to_place to_ppn is.to_word is.target to_stored is.to_there.is is.target_at
+    to_stored_is = stored_agrees held.known is.to_place to_ppn is.to_word is.target to_stored is.to_there.is
+        is.target_at
         to_stored_at
 
     facts : facts_of f ≡ known_facts old.0 old.1.prime old.1.version
@@ -413,7 +411,8 @@ module _ (size : ℕ) (k k' : CurrentMap) (ppn : ℕ) (name : FileName) (to_ppn 
     new_known = known_without is.directory is.directory' name old stored is.removed stored_is
 
     new_to_known : AgreesOnDirectory is.target' to_after
-    new_to_known = known_with is.target is.target' to old.0 v None to_stored (in_place_of f file) is.entered to_stored_is
+    new_to_known = known_with is.target is.target' to old.0 v None to_stored (in_place_of f file) is.entered
+        to_stored_is
         (moved_facts old v f to_ppn to protection facts prime_is is.lies)
 
     -- an entry in another place has another key

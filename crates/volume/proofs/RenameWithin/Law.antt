@@ -1,5 +1,5 @@
 -- A file gets another name in its directory: what the puts make of the disk's map.
-use Rattle.std.proofs.Common.{◌≡◌, ℕ, ◌+◌, ◌<◌, ◌≤◌, ◌⊎◌, inl, inr, ⊎_elim, List, [], ◌∷◌, ◌++◌, Some, None}
+use Rattle.std.proofs.Common.{◌≡◌, ℕ, ◌+◌, ◌<◌, ◌≤◌, ◌⊎◌, inl, inr, ⊎_elim, List, Some, None}
 use Rattle.std.proofs.Common.{option_map, length, slice_get, refl, sym, ◌∙◌, ap, subst, arith}
 use Rattle.std.specs.List.{AllByRecursion}
 use Rattle.std.specs.Option.{IsSome}
@@ -7,26 +7,24 @@ use Rattle.std.specs.Cmp.{nat_cmp_total}
 use Rattle.std.specs.FinMap.{nat_cmp-IsAntisymmetric}
 use Rattle.words36.specs.declared.names.FileName.{FileName}
 use Rattle.blockdisk.specs.Common.{Contents}
-use Rattle.changeset.specs.Common.{IsPutIn, times_head, some_or_none, with_puts-replaced, with_puts_here}
+use Rattle.changeset.specs.Common.{IsPutIn, with_puts-replaced, with_puts_here}
 use Rattle.changeset.specs.Common.{with_puts_later, all_replaced, length-replaced}
 use Rattle.spec_image.specs.declared.put.Put.{Put}
 use Rattle.spec_image.specs.Common.{times, get, insert, remove, from_entries, sum_over, head_or_zero, table_blocks}
 use Rattle.spec_image.specs.Common.{table_start, space_start, log_images, IsTarget, targets, with_puts, table_bit}
-use Rattle.spec_image.specs.Common.{master_word, SpecFileEntry, file_words, IsFileEntry, File, Files, Directory}
-use Rattle.spec_image.specs.Common.{SpecPrime}
-use Rattle.spec_image.specs.Common.{IsPrime, prime_of, prime_block, first_extension, StoredFile, StoredDirectory}
+use Rattle.spec_image.specs.Common.{master_word, SpecFileEntry, file_words, File, Files, Directory}
+use Rattle.spec_image.specs.Common.{StoredFile, StoredDirectory}
 use Rattle.spec_image.specs.Common.{DiskMap, HasMap, IsVersion, directory_of, files_of, place_of, reaches_in_file}
 use Rattle.spec_image.specs.Common.{reaches_in_directory, reaches, TableFollows, IsFileChain, primes_of}
 use Rattle.spec_image.specs.Common.{with_directory, in_place_of, file_put, file_removed, InSpace}
 use Rattle.spec_image.specs.Changes.{with_file, without_file}
 use Rattle.spec_image.proofs.Common.{name_total, name_exact, some_same, get-insert_same, get-insert_other}
 use Rattle.spec_image.proofs.Common.{get-remove_other, insert-insert_same, get-from_entries, get-map_values}
-use Rattle.spec_image.proofs.Common.{map_values-insert, map_values-remove, at-le-sum, once, each_times}
-use Rattle.spec_image.proofs.Common.{version_rewritten, renamed_within, files_renamed_within}
+use Rattle.spec_image.proofs.Common.{map_values-insert, map_values-remove, at-le-sum, once}
+use Rattle.spec_image.proofs.Common.{renamed_within, files_renamed_within}
 use Rattle.alloctab.specs.Common.{bit}
-use Rattle.directory.specs.Common.{IsOn, chain_stands, on_kept}
-use Rattle.retrieval.specs.Common.{mode_number, with_length}
-use Rattle.volume.specs.Common.{Facts, facts_of, known_facts, CurrentVersion, CurrentMap, AgreesOnFile}
+use Rattle.directory.specs.Common.{IsOn, on_kept}
+use Rattle.volume.specs.Common.{facts_of, known_facts, CurrentVersion, CurrentMap, AgreesOnFile}
 use Rattle.volume.specs.Common.{AgreesOnDirectory}
 use Rattle.volume.specs.Common.{MatchesMap, IsWholeMap, IsWholeDirectory, file_protected, file_in, files_moved_as}
 use Rattle.volume.specs.Common.{files_moved, IsFreeFor, IsPrimeMoved, IsMovedWithin, files_put_in, files_published}

@@ -1,19 +1,19 @@
 -- The puts of a directory's quota lead from the map of the disk to the one with the quota.
-use Rattle.std.proofs.Common.{◌≡◌, ◌⊎◌, inl, inr, ⊎_elim, ℕ, ◌+◌, ◌*◌, ◌/◌, ◌^◌, ◌<◌, ◌≤◌, List, slice_get}
-use Rattle.std.proofs.Common.{option_map, Some, IsSome, refl, sym, ap, subst, ◌∙◌, arith}
+use Rattle.std.proofs.Common.{◌≡◌, inr, ⊎_elim, ℕ, ◌+◌, ◌*◌, ◌/◌, ◌^◌, ◌<◌, List, slice_get}
+use Rattle.std.proofs.Common.{option_map, Some, refl, sym, ap, subst, ◌∙◌, arith}
 use Rattle.std.specs.Cmp.{nat_cmp_total}
 use Rattle.std.specs.FinMap.{nat_cmp-IsAntisymmetric}
 use Rattle.blockdisk.specs.Common.{Contents}
 use Rattle.spec_image.specs.declared.put.Put.{Put}
 use Rattle.spec_image.specs.Common.{head_or_zero, TableFollows, IsMasterChain, entries_of, with_directory}
-use Rattle.spec_image.specs.Common.{SpecMasterEntry, master_word, master_words, file_words, InSpace, with_puts}
+use Rattle.spec_image.specs.Common.{SpecMasterEntry, master_word, master_words, file_words, with_puts}
 use Rattle.spec_image.specs.Common.{with_quota, files_limited, get, insert, times, map_values, from_entries}
-use Rattle.spec_image.specs.Common.{table_blocks, table_start, space_start, StoredDirectory, DiskMap, HasMap, IsWhole}
+use Rattle.spec_image.specs.Common.{StoredDirectory, DiskMap, HasMap, IsWhole}
 use Rattle.spec_image.specs.Common.{directory_of, entry_of, files_of, quota_limit, reaches, table_bit}
 use Rattle.spec_image.specs.Changes.{with_protection}
 use Rattle.spec_image.proofs.Common.{files_protected, directory_protected, once, some_same, get-insert_same}
 use Rattle.spec_image.proofs.Common.{get-insert_other, get-from_entries, get-map_values, map_values-insert}
-use Rattle.spec_image.proofs.Common.{each_times, quota_bound}
+use Rattle.spec_image.proofs.Common.{quota_bound}
 use Rattle.alloctab.specs.Common.{bit}
 use Rattle.directory.specs.Common.{IsOn, on_kept}
 use Rattle.volume.specs.Common.{word_limited, LimitsDirectory, CurrentDirectory, AgreesOnDirectory, MatchesMap}

@@ -1,12 +1,11 @@
 -- A directory gets another quota: what is in memory stays whole.
-use Rattle.std.proofs.Common.{◌≡◌, ◌⊎◌, ⊎_elim, ℕ, ◌+◌, ◌*◌, ◌/◌, ◌^◌, ◌<◌, ◌≤◌, List, [], length, refl, sym, ap}
+use Rattle.std.proofs.Common.{◌≡◌, ℕ, ◌+◌, ◌*◌, ◌/◌, ◌^◌, ◌<◌, List, [], refl, sym, ap}
 use Rattle.std.proofs.Common.{subst, ◌∙◌, arith}
 use Rattle.std.specs.Ordering.{nat_cmp}
 use Rattle.std.specs.List.{AllByRecursion}
 use Rattle.words36.specs.declared.names.FileName.{FileName}
 use Rattle.spec_image.specs.declared.put.Put.{Put}
-use Rattle.spec_image.specs.Common.{directory_cost, SpecMasterEntry, master_words, IsMasterEntryOf, IsTarget, targets}
-use Rattle.spec_image.specs.Common.{times, space_start, log_images}
+use Rattle.spec_image.specs.Common.{directory_cost, SpecMasterEntry, master_words, IsMasterEntryOf}
 use Rattle.directory.specs.Common.{IsChain, PutsChain, inserted}
 use Rattle.volume.specs.Common.{IsDirectoryOf, word_limited, IsLimited, LimitsDirectory, CurrentDirectory, IsWholeMap}
 use Rattle.volume.specs.Common.{MemoryMap, cost_beyond, IsWholeMemory, prime_at}

@@ -1,5 +1,5 @@
 -- A directory gets another quota: this is one change of the volume.
-use Rattle.std.proofs.Common.{◌≡◌, inr, ℕ, ◌<◌, List, refl, sym, ap, subst, arith}
+use Rattle.std.proofs.Common.{◌≡◌, ℕ, ◌<◌, List, refl, sym, ap, subst, arith}
 use Rattle.spec_image.specs.declared.put.Put.{Put}
 use Rattle.spec_image.specs.Common.{files_limited, quota_limit}
 use Rattle.volume.specs.Common.{LimitsDirectory, MemoryMap, IsWholeMemory}

@@ -36,7 +36,8 @@ table_itself size t puts = record {
 }
 
 -- The puts make the chain `new` of `old`, and the table `t'` of `t`.
-pub record PutsBoth {K V : Type 0} (words : K × V → List ℕ) (size : ℕ) (t t' : TableState) (old new : ChainState (K × V))
+pub record PutsBoth {K V : Type 0} (words : K × V → List ℕ) (size : ℕ) (t t' : TableState)
+    (old new : ChainState (K × V))
     (puts : List Put) : Type 0 where
   pub chain_puts : List Put
   pub chain : PutsChain words old new [] chain_puts

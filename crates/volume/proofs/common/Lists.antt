@@ -1,7 +1,7 @@
 -- Lists, of which one element is another, and sums over them.
-use Rattle.std.proofs.Common.{◌≡◌, ℕ, ◌+◌, ◌*◌, ◌/◌, ◌<◌, ◌≤◌, ◌⊎◌, List, [], ◌∷◌, ◌++◌, length, Option, Some, None}
-use Rattle.std.proofs.Common.{option_map, refl, ◌∙◌, arith, zero, suc, ◌-◌, ◌==◌, if◌then◌else◌, slice_get, slice_set}
-use Rattle.std.proofs.Common.{inl, inr, ⊎_elim, sym, ap, ◌^◌}
+use Rattle.std.proofs.Common.{◌≡◌, ℕ, ◌+◌, ◌<◌, ◌⊎◌, List, [], ◌∷◌, ◌++◌, length, Option, Some, None}
+use Rattle.std.proofs.Common.{option_map, refl, ◌∙◌, arith, zero, suc, slice_get, slice_set}
+use Rattle.std.proofs.Common.{inl, inr, ⊎_elim, sym, ap}
 use Rattle.spec_image.specs.Common.{head_or_zero, EachOnce, SpecMasterEntry, SpecFileEntry, name_cmp, total}
 use Rattle.spec_image.proofs.Common.{some_none, some_same, find_first, find_tail_none, name_total}
 use Rattle.std.specs.List.{AllByRecursion}

@@ -3,7 +3,7 @@ use Rattle.std.proofs.Common.{◌≡◌, ℕ, ◌+◌, ◌<◌, List, ◌∷◌,
 use Rattle.words36.specs.declared.names.FileName.{FileName}
 use Rattle.blockdisk.specs.Common.{Contents}
 use Rattle.changeset.specs.Common.{times_head}
-use Rattle.spec_image.specs.Common.{times, File, SpecPrime, IsPrime, prime_of, prime_block, first_extension}
+use Rattle.spec_image.specs.Common.{times, File, SpecPrime, prime_of, prime_block, first_extension}
 use Rattle.spec_image.specs.Common.{StoredFile, IsVersion, place_of, reaches_in_file, in_place_of}
 use Rattle.spec_image.proofs.Common.{some_same, version_rewritten}
 use Rattle.retrieval.specs.Common.{mode_number, with_length, IsRewritten}

@@ -1,6 +1,6 @@
 -- Errors that are passed on.
-use Rattle.std.proofs.Common.{◌≡◌, ℕ, ◌⊎◌, ⊎_elim, Result, Ok, Err, IfErr, refl, sym, subst, Bool, List, ◌+◌, ◌<◌}
-use Rattle.std.proofs.Common.{◌≤◌, [], ◌∷◌, ◌++◌, ◌-◌, IsErrOf, ◌∙◌, ap}
+use Rattle.std.proofs.Common.{◌≡◌, ℕ, ◌⊎◌, ⊎_elim, Result, Ok, Err, IfErr, refl, sym, subst, Bool, List}
+use Rattle.std.proofs.Common.{IsErrOf, ap}
 use Rattle.blockdisk.specs.Common.{Contents}
 use Rattle.spec_image.specs.Common.{Place, InSpace, IsBadVersion}
 use Rattle.volume.specs.declared.error.VolumeError.{VolumeError}

@@ -1,6 +1,6 @@
 -- How often a block occurs in what memory knows, entry by entry and directory by directory.
 use Rattle.std.proofs.Common.{◌≡◌, ℕ, ◌+◌, ◌<◌, List, [], ◌∷◌, ◌++◌, map, length, get_or, take, sym, ap, ◌∙◌, arith}
-use Rattle.std.proofs.Common.{◌-◌, ◌≤◌, ◌==◌, ◌⊎◌, if◌then◌else◌, refl}
+use Rattle.std.proofs.Common.{refl}
 use Rattle.std.proofs.lemmas.List.{length-map, length-take, map-append}
 use Rattle.spec_image.specs.Common.{times, total, SpecFileEntry, StoredFile, reaches_in_file}
 use Rattle.volume.specs.Common.{CurrentVersion, blocks_reached, reaches_in_entries, IsAdded, CurrentDirectory}

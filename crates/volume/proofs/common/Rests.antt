@@ -1,5 +1,5 @@
 -- What any event says of the disk, from what is known of it.
-use Rattle.std.proofs.Common.{◌≡◌, ℕ, ◌+◌, ◌<◌, ◌≤◌, ◌⊎◌, inl, inr, ⊎_elim, Bool, true, false, [], ◌∷◌, ◌++◌, ◌-◌}
+use Rattle.std.proofs.Common.{◌≡◌, ℕ, ◌⊎◌, inl, inr, ⊎_elim, Bool, true, false}
 use Rattle.std.proofs.Common.{refl, sym, ◌∙◌, subst}
 use Rattle.blockdisk.specs.Common.{DiskState, LeavesOnly, leaves_weaker}
 use Rattle.spec_image.specs.Common.{File, Files, pack_in, pack_of, DiskMap, files_of}
