@@ -9,7 +9,7 @@ use words36::{BLOCK_WORDS, Block, Word};
 /// Returns the words of table block `i`, out of those of all table blocks.
 fn table_block(words: &[Word], i: usize) -> Block
     requires low { i < 32 }
-    requires inside { 128 * (i + 1) ≤ length words.now }
+    requires inside { BLOCK_WORDS * (i + 1) ≤ length words.now }
     ensures { result ≡ table_words (word_bit words.now) i }
 {
     let mut block = [Word::ZERO; BLOCK_WORDS];
@@ -24,7 +24,7 @@ fn table_block(words: &[Word], i: usize) -> Block
 pub fn put_changed(words: &[Word], changed: &[bool], start: u32, set: &mut ChangeSet)
     requires low { start ≤ 64 }
     requires short { length changed.now < 32 }
-    requires long { length words.now ≡ 128 * length changed.now }
+    requires long { length words.now ≡ BLOCK_WORDS * length changed.now }
     requires room { length set.old + sum_below (digit_at changed.now) (length changed.now) ≤ MAX_PUTS }
     ensures { set.new ≡ with_changed start (word_bit words.now) (flag_at changed.now) (length changed.now) set.old }
 {

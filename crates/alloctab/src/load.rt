@@ -5,6 +5,7 @@ ghost use Rattle.changeset.specs.Common.{OnlyReads};
 ghost use Rattle.spec_image.specs.Common.{IsVolumeSize, table_blocks};
 ghost use Rattle.alloctab.specs.Common.{InTable, word_bit, IsClearFrom, IsTableOf, IsBadTableBlock, ReadsBits};
 ghost use Rattle.alloctab.specs.declared.error.TableError.TheVariants.{TableWrong, NoMemory, Device};
+ghost use Rattle.words36.specs.declared.word.TheConstants.{BLOCK_WORDS};
 
 use crate::TableError;
 use crate::bits::{copy_words, has_bit_past};
@@ -15,7 +16,7 @@ use words36::Word;
 /// Reads table block `i`, and copies its words to their place among those of all table blocks.
 fn read_bits<D: Disk>(disk: &mut D, i: u32, set: &mut [Word]) -> Result<(), TableError>
     requires volume { IsVolumeSize (D.state disk.old).size }
-    requires long { length set.old ≡ 128 * table_blocks (D.state disk.old).size }
+    requires long { length set.old ≡ BLOCK_WORDS * table_blocks (D.state disk.old).size }
     requires in_table { i < table_blocks (D.state disk.old).size }
     ensures read { (D.state disk.new).honest
         → OnOk result (ReadsBits (D.state disk.old).size (D.state disk.old).contents i set.old set.new) }
@@ -47,7 +48,7 @@ fn read_bits<D: Disk>(disk: &mut D, i: u32, set: &mut [Word]) -> Result<(), Tabl
 /// Reads the words of all table blocks of a disk.
 pub fn read_table<D: Disk>(disk: &mut D, set: &mut [Word]) -> Result<(), TableError>
     requires volume { IsVolumeSize (D.state disk.old).size }
-    requires long { length set.old ≡ 128 * table_blocks (D.state disk.old).size }
+    requires long { length set.old ≡ BLOCK_WORDS * table_blocks (D.state disk.old).size }
     ensures read { (D.state disk.new).honest
         → OnOk result (IsTableOf (D.state disk.old).size (D.state disk.old).contents (word_bit set.new)) }
     ensures wrong { (D.state disk.new).honest → (n : ℕ) → IsErrOf result (TableWrong n)

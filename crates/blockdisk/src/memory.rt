@@ -211,7 +211,7 @@ fn copy_blocks(from: &Vec<Option<Block>>, to: &mut Vec<Option<Block>>)
 
 /// Returns this number of blocks of zeros.
 fn zero_blocks(alloc: Global, size: usize) -> Result<Vec<Option<Block>>, AllocError>
-    ensures { IfOk result (λ blocks. blocks.items ≡ replicate size (Some (replicate 128 0))) }
+    ensures { IfOk result (λ blocks. blocks.items ≡ replicate size (Some (replicate BLOCK_WORDS 0))) }
 {
     let mut blocks = Vec::with_capacity(alloc, size)?;
     for _made in 0..size {

@@ -21,7 +21,7 @@ const OPEN_WORD: u64 = 0o252525252525;
 pub fn has_open_words<D: Disk>(disk: &mut D) -> Result<bool, Fault>
     requires { 3 < (D.state disk.old).size }
     ensures answer { (D.state disk.new).honest
-        → IfOk result (λ is_open. IsTrue is_open ↔ ((D.state disk.old).contents 3 ≡ Some open_gate)) }
+        → IfOk result (λ is_open. IsTrue is_open ↔ ((D.state disk.old).contents GATE ≡ Some open_gate)) }
     ensures keeps { (D.state disk.new).honest → Keeps (D.state disk.old) (D.state disk.new) }
     ensures same { SameDisk (D.state disk.old) (D.state disk.new) }
     ensures device { IsErrOf result Damaged → ⊥ }
@@ -43,7 +43,7 @@ pub fn has_open_words<D: Disk>(disk: &mut D) -> Result<bool, Fault>
 /// `Device` if the device failed.
 pub fn open_gate<D: Disk>(disk: &mut D) -> Result<(), Fault>
     requires { 3 < (D.state disk.old).size }
-    ensures gate { (D.state disk.new).honest → OnOk result ((D.state disk.new).contents 3 ≡ Some open_gate) }
+    ensures gate { (D.state disk.new).honest → OnOk result ((D.state disk.new).contents GATE ≡ Some open_gate) }
     ensures settled { (D.state disk.new).honest → OnOk result (NoneOpen (D.state disk.new)) }
     ensures modified { (D.state disk.new).honest → OnOk result (Modifies IsGate (D.state disk.old) (D.state disk.new)) }
     ensures near { (D.state disk.new).honest
@@ -63,7 +63,8 @@ pub fn open_gate<D: Disk>(disk: &mut D) -> Result<(), Fault>
 /// `Device` if the device failed.
 pub fn close_gate<D: Disk>(disk: &mut D) -> Result<(), Fault>
     requires { 3 < (D.state disk.old).size }
-    ensures gate { (D.state disk.new).honest → OnOk result ((D.state disk.new).contents 3 ≡ Some (replicate 128 0)) }
+    ensures gate { (D.state disk.new).honest
+        → OnOk result ((D.state disk.new).contents GATE ≡ Some (replicate BLOCK_WORDS 0)) }
     ensures settled { (D.state disk.new).honest → OnOk result (NoneOpen (D.state disk.new)) }
     ensures modified { (D.state disk.new).honest → OnOk result (Modifies IsGate (D.state disk.old) (D.state disk.new)) }
     ensures near { (D.state disk.new).honest

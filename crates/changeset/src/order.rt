@@ -8,6 +8,8 @@ ghost use Rattle.changeset.specs.Common.{IsGate, IsGateOrLog, IsShut, SettlesAs,
 ghost use Rattle.changeset.specs.Common.{AreDistinct};
 ghost use Rattle.changeset.specs.declared.error.LogError.TheVariants.{Device as Failed, TooMany, BadLog};
 ghost use Rattle.spec_image.specs.Common.{IsTarget, targets, with_puts, IsVolumeSize, log_images};
+ghost use Rattle.words36.specs.declared.word.TheConstants.{BLOCK_WORDS};
+ghost use Rattle.spec_image.specs.declared.layout.TheConstants.{GATE};
 
 use crate::gate::{close_gate, open_gate};
 use crate::log::write_log;
@@ -37,7 +39,7 @@ pub fn commit<D: Disk>(disk: &mut D, set: &ChangeSet) -> Result<(), LogError>
         (D.state disk.new).contents) }
     ensures settled { (D.state disk.new).honest → OnOk result (NoneOpen (D.state disk.new)) }
     ensures gate { (D.state disk.new).honest → 0 < length set.now
-        → OnOk result ((D.state disk.new).contents 3 ≡ Some (replicate 128 0)) }
+        → OnOk result ((D.state disk.new).contents GATE ≡ Some (replicate BLOCK_WORDS 0)) }
     ensures shut { (D.state disk.new).honest → IsShut (D.state disk.old) → OnOk result (IsShut (D.state disk.new)) }
 
     // No other block is written, and none at all if there are no puts. If a sync failed, the blocks that
@@ -87,7 +89,8 @@ fn commit_some<D: Disk>(disk: &mut D, puts: &[Put]) -> Result<(), Fault>
         → OnOk result (SameOutside (IsGateOrLog (D.state disk.old).size)
         (with_puts puts.now (D.state disk.old).contents) (D.state disk.new).contents) }
     ensures settled { (D.state disk.new).honest → OnOk result (NoneOpen (D.state disk.new)) }
-    ensures gate { (D.state disk.new).honest → OnOk result ((D.state disk.new).contents 3 ≡ Some (replicate 128 0)) }
+    ensures gate { (D.state disk.new).honest
+        → OnOk result ((D.state disk.new).contents GATE ≡ Some (replicate BLOCK_WORDS 0)) }
     // Which blocks are written, whatever the result.
     ensures modified { (D.state disk.new).honest
         → OnOk result (Modifies (λ n. IsGateOrLog (D.state disk.old).size n ⊎ IsPutIn puts.now n) (D.state disk.old)
@@ -125,7 +128,8 @@ pub fn redo<D: Disk>(disk: &mut D, puts: &[Put]) -> Result<(), Fault>
         → OnOk result (SameOutside IsGate (with_puts puts.now (D.state disk.old).contents)
         (D.state disk.new).contents) }
     ensures settled { (D.state disk.new).honest → OnOk result (NoneOpen (D.state disk.new)) }
-    ensures gate { (D.state disk.new).honest → OnOk result ((D.state disk.new).contents 3 ≡ Some (replicate 128 0)) }
+    ensures gate { (D.state disk.new).honest
+        → OnOk result ((D.state disk.new).contents GATE ≡ Some (replicate BLOCK_WORDS 0)) }
     // Which blocks are written, whatever the result.
     ensures modified { (D.state disk.new).honest
         → OnOk result (Modifies (λ n. IsGate n ⊎ IsPutIn puts.now n) (D.state disk.old) (D.state disk.new)) }

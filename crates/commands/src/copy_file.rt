@@ -101,7 +101,8 @@ fn open_both<S: FileService>(
     from: Spec,
 ) -> Result<Word, Reply>
     ensures { (next : ℕ → Plan) → FollowsPlan S.machine service.old service.new
-        (each moment (lookup_events moment from ++ enter_events moment to ++ list_events 128) (examines moment (file_words + 3) next))
+        (each moment (lookup_events moment from ++ enter_events moment to ++ list_events BLOCK_WORDS)
+        (examines moment (file_words + 3) next))
         (followed moment result next) }
 {
     ask_all(alloc, service, &lookup_events(moment, from))?;
@@ -119,7 +120,7 @@ fn copy_file<S: FileService>(
     from: Spec,
 ) -> Result<(), Reply>
     ensures { (next : Plan) → FollowsPlan S.machine service.old service.new
-        (each moment (lookup_events moment from ++ enter_events moment to ++ list_events 128)
+        (each moment (lookup_events moment from ++ enter_events moment to ++ list_events BLOCK_WORDS)
         (examines moment (file_words + 3) (λ size. copy_body_plan moment (said_blocks size) size
         (until_end moment (each moment (call_event moment (Close 2 0) ∷ []) next)))))
         (followed moment result (λ unit. next)) }

@@ -112,7 +112,7 @@ fn announce<S: FileService>(
 /// Returns the address at which words are deposited before they are put.
 fn part_address(encoding: Encoding) -> u32
     ensures value { result ≡ address_of encoding }
-    ensures low { result ≤ 128 }
+    ensures low { result ≤ BLOCK_WORDS }
 {
     match encoding {
         Encoding::Characters => BUFFER_DATA,
@@ -250,7 +250,8 @@ pub fn put_file<S: FileService>(
     words: &[Word],
 ) -> Result<Vec<u8>, AllocError>
     ensures { FinishesPlan (λ bytes. bytes.items) result S.machine service.old service.new
-        (put_plan_as file.now.existing moment file.now.owner file.now.encoding (own_file file.now.name) (Some words.now))
+        (put_plan_as file.now.existing moment file.now.owner file.now.encoding (own_file file.now.name)
+        (Some words.now))
         tally.old tally.new }
 {
     let written = write_file(alloc, service, moment, file, words);

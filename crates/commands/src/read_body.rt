@@ -46,7 +46,8 @@ pub fn blocks_said(size: Word) -> u32
 /// Makes every word of the block this one.
 fn fill<S: FileService>(alloc: Global, service: &mut S, word: Word) -> Result<(), Reply>
     ensures { (moment : moments.Moment) (next : Plan) → FollowsPlan S.machine service.old service.new
-        (each moment (deposit_events block_address (replicate 128 word)) next) (followed moment result (λ unit. next)) }
+        (each moment (deposit_events block_address (replicate BLOCK_WORDS word)) next)
+        (followed moment result (λ unit. next)) }
 {
     for place in 0..BLOCK_WORDS as u32 {
         ask_all(alloc, service, &[fill_event(place, word)])?;
@@ -56,7 +57,7 @@ fn fill<S: FileService>(alloc: Global, service: &mut S, word: Word) -> Result<()
 
 /// Returns the first `count` words of the block, with zeros after them.
 fn fetch<S: FileService>(alloc: Global, service: &mut S, count: u32) -> Result<Block, Reply>
-    requires { count ≤ 128 }
+    requires { count ≤ BLOCK_WORDS }
     ensures { (moment : moments.Moment) (next : List ℕ → Plan) → FollowsPlan S.machine service.old service.new
         (fetches moment count block_address next) (followed moment result (λ block. next (take count block))) }
 {
@@ -90,7 +91,7 @@ fn take_over<S: FileService>(
 /// Returns in how many places two blocks have the same word.
 fn same_words(zeros: &Block, ones: &Block) -> u32
     ensures value { result ≡ plans.same_words zeros.now ones.now }
-    ensures few { result ≤ 128 }
+    ensures few { result ≤ BLOCK_WORDS }
 {
     let mut count = 0;
     for place in 0..BLOCK_WORDS {
@@ -112,7 +113,7 @@ pub fn last_count<S: FileService>(
 ) -> Result<u32, Reply>
     ensures led { (next : ℕ → Plan) → FollowsPlan S.machine service.old service.new
         (sizes moment n size next) (followed moment result next) }
-    ensures few { IfOk result (λ count. count ≤ 128) }
+    ensures few { IfOk result (λ count. count ≤ BLOCK_WORDS) }
 {
     if let Some(words) = words_said(size) {
         return Ok((words - 1) % BLOCK_WORDS as u32 + 1);

@@ -165,7 +165,7 @@ pub fn close_event(moment: Moment) -> Event
 
 /// Returns the event that makes this word of the block the given one.
 pub fn fill_event(place: u32, word: Word) -> Event
-    requires { place < 128 }
+    requires { place < BLOCK_WORDS }
     ensures { result ≡ Deposit 1 (block_address + place) word }
 {
     Event::Deposit(SESSION_JOB, BLOCK_AREA + place, word)
@@ -224,7 +224,8 @@ pub fn delete_events(moment: Moment) -> [Event; 2]
 /// Returns the events that give the file that was looked up another protection: it gets its own place once more.
 pub fn protect_events(moment: Moment, spec: &Spec, protection: u32) -> [Event; 5]
     requires { protection < 512 }
-    ensures { result ≡ plans.name_events file_words spec.now protection ++ plans.call_event moment (Rename 1 file_words) ∷ [] }
+    ensures { result ≡ plans.name_events file_words spec.now protection
+        ++ plans.call_event moment (Rename 1 file_words) ∷ [] }
 {
     [
         Event::Deposit(SESSION_JOB, FILE_WORDS, spec.name.name),

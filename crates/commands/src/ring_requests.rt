@@ -3,6 +3,7 @@ ghost use Rattle.std.specs.Prelude.{◌≡◌, ◌≤◌, ◌+◌, ◌-◌};
 ghost use Rattle.words36.specs.Common.{join};
 ghost use Rattle.spec_language.specs.declared.encoding.Encoding.TheVariants.{Characters};
 ghost use Rattle.spec_language.specs.Errands as errands;
+ghost use Rattle.words36.specs.declared.word.TheConstants.{BLOCK_WORDS};
 
 use crate::answer::SESSION_JOB;
 use crate::requests::{DISK, NEW_WORDS, OPEN_WORDS, WRITER, extension_word, out_event, owner_word};
@@ -48,7 +49,7 @@ pub fn create_text_events(moment: Moment, spec: Spec) -> [Event; 11]
 
 /// Returns the byte pointer after the first `count` words of the buffer.
 fn pointer_behind(count: u32) -> Word
-    requires { count ≤ 128 }
+    requires { count ≤ BLOCK_WORDS }
     ensures { result ≡ join 0o010700 (errands.data_address - 1 + count) }
 {
     Word::from_halves(
@@ -59,7 +60,7 @@ fn pointer_behind(count: u32) -> Word
 
 /// Returns the events that put the first `count` words of the buffer.
 pub fn size_text_events(moment: Moment, count: u32) -> [Event; 2]
-    requires { count ≤ 128 }
+    requires { count ≤ BLOCK_WORDS }
     ensures { result ≡ errands.size_events moment Characters count }
 {
     [

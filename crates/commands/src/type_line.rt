@@ -265,7 +265,8 @@ fn type_last<S: FileService>(
     size: Word,
     typed: &mut Typed,
 ) -> Result<(), Reply>
-    ensures { HasTyped S.machine service.old service.new moment (type_last_plan moment n size) result typed.old typed.new }
+    ensures { HasTyped S.machine service.old service.new moment
+        (type_last_plan moment n size) result typed.old typed.new }
 {
     let count = last_count(alloc, service, moment, n, size)?;
     ask_all(alloc, service, &list_events(count))?;
@@ -300,7 +301,7 @@ fn open_one<S: FileService>(
     spec: Spec,
 ) -> Result<Word, Reply>
     ensures { (next : ℕ → Plan) → FollowsPlan S.machine service.old service.new
-        (each moment (lookup_events moment spec ++ list_events 128) (examines moment (file_words + 3) next))
+        (each moment (lookup_events moment spec ++ list_events BLOCK_WORDS) (examines moment (file_words + 3) next))
         (followed moment result next) }
 {
     ask_all(alloc, service, &lookup_events(moment, spec))?;
@@ -317,7 +318,7 @@ fn type_file<S: FileService>(
     typed: &mut Typed,
 ) -> Result<(), Reply>
     ensures { HasTyped S.machine service.old service.new moment
-        (λ next. each moment (lookup_events moment spec ++ list_events 128)
+        (λ next. each moment (lookup_events moment spec ++ list_events BLOCK_WORDS)
         (examines moment (file_words + 3) (λ size. type_body_plan moment (said_blocks size) size
         (λ words. until_end moment (next words))))) result typed.old typed.new }
 {

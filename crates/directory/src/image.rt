@@ -8,7 +8,7 @@ use words36::{BLOCK_WORDS, Block, Word};
 
 /// Puts the words of an entry at a place of a block, counted in words.
 fn put_words(block: &mut Block, at: usize, words: &[Word; 3])
-    requires { at + 3 ≤ 128 }
+    requires { at + 3 ≤ BLOCK_WORDS }
     ensures { block.new ≡ take at block.old ++ (words.now ++ drop (at + 3) block.old) }
 {
     let place = &mut block[..];

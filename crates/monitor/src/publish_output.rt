@@ -8,6 +8,7 @@ ghost use Rattle.usercore.specs.declared.error.CoreError.TheVariants.{AddressChe
 ghost use Rattle.volume.specs.Common.{pending_at, IsPlaced};
 ghost use Rattle.volume.specs.declared.pending.PendingVersion.{PendingVersion};
 ghost use Rattle.monitor.specs.Common.{IsIdle, unpublished_by, last_at, MayPublish, IsPublishing};
+ghost use Rattle.words36.specs.declared.word.TheConstants.{BLOCK_WORDS};
 
 use crate::channel::OpenChannel;
 use crate::out::is_barred;
@@ -28,7 +29,7 @@ use words36::Word;
 /// `AddressCheck` if the buffer isn't valid.
 fn last_words<'a>(core: &'a Core, channel: &OpenChannel) -> Result<&'a [Word], CoreError>
     ensures words { IfOk result (λ words. last_at core.now channel.now ≡ Some words.now) }
-    ensures few { IfOk result (λ words. length words.now ≤ 128) }
+    ensures few { IfOk result (λ words. length words.now ≤ BLOCK_WORDS) }
     ensures none { OnErr result (last_at core.now channel.now ≡ None) }
     ensures refused { IfErr result (λ error. error ≡ AddressCheck) }
 {

@@ -56,9 +56,9 @@ fn read_run<D: Disk>(disk: &mut D, first: u32, run: &mut [Block]) -> Result<(), 
 
 /// Returns the first `count` words of a block.
 fn first_words(block: &Block, count: usize) -> &[Word]
-    requires { count ≤ 128 }
+    requires { count ≤ BLOCK_WORDS }
     ensures words { result.now ≡ take count block.now }
-    ensures whole { length block.now ≡ 128 }
+    ensures whole { length block.now ≡ BLOCK_WORDS }
 {
     &block[..count]
 }
@@ -68,12 +68,14 @@ fn push_blocks(blocks: &[Block], wanted: usize, words: &mut Vec<Word>)
     requires few { length words.old.items ≤ wanted }
     requires room { wanted ≤ vec_capacity words.old }
     ensures room { wanted ≤ vec_capacity words.new }
-    ensures long { length words.new.items ≡ min (length words.old.items + length blocks.now * 128) wanted }
+    ensures long { length words.new.items ≡ min (length words.old.items + length blocks.now * BLOCK_WORDS) wanted }
     ensures kept { (p : ℕ) → p < length words.old.items
         → slice_index words.new.items p ≡ slice_index words.old.items p }
-    ensures whole { (i : ℕ) → i < length blocks.now → length (get_or blocks.now i []) ≡ 128 }
-    ensures put { (i k : ℕ) → i < length blocks.now → k < 128 → length words.old.items + i * 128 + k < wanted
-        → slice_index words.new.items (length words.old.items + i * 128 + k) ≡ slice_index (get_or blocks.now i []) k }
+    ensures whole { (i : ℕ) → i < length blocks.now → length (get_or blocks.now i []) ≡ BLOCK_WORDS }
+    ensures put { (i k : ℕ) → i < length blocks.now → k < BLOCK_WORDS
+        → length words.old.items + i * BLOCK_WORDS + k < wanted
+        → slice_index words.new.items (length words.old.items + i * BLOCK_WORDS + k)
+        ≡ slice_index (get_or blocks.now i []) k }
 {
     for place in 0..blocks.len() {
         let here = (wanted - words.len()).min(BLOCK_WORDS);
@@ -97,11 +99,13 @@ fn get_blocks<D: Disk>(
     requires few { length words.old.items ≤ wanted }
     requires room { wanted ≤ vec_capacity words.old }
     ensures room { wanted ≤ vec_capacity words.new }
-    ensures long { OnOk result (length words.new.items ≡ min (length words.old.items + length run.old * 128) wanted) }
+    ensures long { OnOk result (length words.new.items
+        ≡ min (length words.old.items + length run.old * BLOCK_WORDS) wanted) }
     ensures kept { OnOk result ((p : ℕ) → p < length words.old.items
         → slice_index words.new.items p ≡ slice_index words.old.items p) }
     ensures words { (D.state disk.new).honest → OnOk result ((i : ℕ) → i < length run.old
-        → StandsAt (D.state disk.old).contents (first + i) (length words.old.items + i * 128) wanted words.new.items) }
+        → StandsAt (D.state disk.old).contents (first + i)
+        (length words.old.items + i * BLOCK_WORDS) wanted words.new.items) }
     ensures bad { (D.state disk.new).honest → (k : ℕ) → IsErrOf result (BadData k)
         → (first ≤ k) × (k < first + length run.old) × ((D.state disk.old).contents k ≡ None) }
     ensures memory { IsErrOf result NoMemory → ⊥ }
@@ -129,11 +133,12 @@ fn get_run<D: Disk>(
     requires few { length words.old.items ≤ wanted }
     requires room { wanted ≤ vec_capacity words.old }
     ensures room { wanted ≤ vec_capacity words.new }
-    ensures long { OnOk result (length words.new.items ≡ min (length words.old.items + count * 128) wanted) }
+    ensures long { OnOk result (length words.new.items ≡ min (length words.old.items + count * BLOCK_WORDS) wanted) }
     ensures kept { OnOk result ((p : ℕ) → p < length words.old.items
         → slice_index words.new.items p ≡ slice_index words.old.items p) }
     ensures words { (D.state disk.new).honest → OnOk result ((i : ℕ) → i < count
-        → StandsAt (D.state disk.old).contents (first + i) (length words.old.items + i * 128) wanted words.new.items) }
+        → StandsAt (D.state disk.old).contents (first + i)
+        (length words.old.items + i * BLOCK_WORDS) wanted words.new.items) }
     ensures bad { (D.state disk.new).honest → (k : ℕ) → IsErrOf result (BadData k)
         → (first ≤ k) × (k < first + count) × ((D.state disk.old).contents k ≡ None) }
     ensures memory { IsErrOf result NoMemory → ⊥ }
@@ -182,7 +187,7 @@ pub fn get_words<D: Disk>(
         → HasBody (D.state disk.old).contents version.now.blocks body
         → IfOk result (λ words. words.items ≡ take count (words_from body block)) }
     // A damaged block is never returned as words.
-    ensures whole { (D.state disk.new).honest → IfOk result (λ words. (i : ℕ) → i * 128 < length words.items
+    ensures whole { (D.state disk.new).honest → IfOk result (λ words. (i : ℕ) → i * BLOCK_WORDS < length words.items
         → (D.state disk.old).contents (slice_index version.now.blocks (block - 1 + i)) ≡ None → ⊥) }
     ensures few { IfOk result (λ words. length words.items ≡ min count (version.now.words - block_start block)) }
     ensures damaged { (D.state disk.new).honest → (k : ℕ) → IsErrOf result (BadData k)

@@ -8,6 +8,7 @@ ghost use Rattle.spec_image.specs.Common.{blocks_of, InSpace, times};
 ghost use Rattle.alloctab.specs.Common.{holds, space, uses, bit};
 ghost use Rattle.retrieval.specs.Common.{IsOwn, AddsFree, KeepsOwn, StandAlone, AtPlace, HoldsNew, IsPartlyPlaced};
 ghost use Rattle.retrieval.specs.Common.{IsFixed};
+ghost use Rattle.spec_image.specs.Common.{most_blocks};
 
 use crate::block_list::BlockList;
 use crate::unchanged::{UnchangedWords, new_block};
@@ -87,7 +88,7 @@ fn own_places(table: &mut Table, blocks: &mut BlockList, first: usize, end: usiz
 /// Returns how many blocks from place `i` are filled by `count` words that are put from place `at`.
 fn filled_from(at: usize, count: usize, i: usize) -> usize
     ensures from { 0 < result → at ≤ i }
-    ensures within { 0 < result → (i - at + result) * 128 ≤ count }
+    ensures within { 0 < result → (i - at + result) * BLOCK_WORDS ≤ count }
 {
     if i < at {
         return 0;
@@ -111,7 +112,7 @@ fn write_some<D: Disk>(
 ) -> Result<usize, Fault>
     requires left { i < at + blocks_of (length words.now) }
     requires fits { at + blocks_of (length words.now) ≤ length blocks.now.blocks }
-    requires few { length blocks.now.blocks ≤ 16384 }
+    requires few { length blocks.now.blocks ≤ most_blocks }
     requires inside { AllByRecursion (InSpace (D.state disk.old).size) blocks.now.blocks }
     requires apart { StandAlone blocks.now.blocks i (at + blocks_of (length words.now)) }
     ensures some { IfOk result (λ count. 0 < count) }
@@ -154,7 +155,7 @@ fn write_all<D: Disk>(
     words: &[Word],
 ) -> Result<(), Fault>
     requires fits { at + blocks_of (length words.now) ≤ length blocks.now.blocks }
-    requires few { length blocks.now.blocks ≤ 16384 }
+    requires few { length blocks.now.blocks ≤ most_blocks }
     requires order { first ≤ at + blocks_of (length words.now) }
     requires inside { AllByRecursion (InSpace (D.state disk.old).size) blocks.now.blocks }
     requires apart { StandAlone blocks.now.blocks first (at + blocks_of (length words.now)) }
@@ -197,7 +198,7 @@ pub(crate) fn write_places<D: Disk>(
     // The words and the places that they go to.
     requires size { table.old.size ≡ (D.state disk.old).size }
     requires fits { at + blocks_of (length words.now) ≤ length blocks.old.blocks }
-    requires few { length blocks.old.blocks ≤ 16384 }
+    requires few { length blocks.old.blocks ≤ most_blocks }
     requires order { first ≤ at }
     requires spare { 2 * (at + blocks_of (length words.now) - first) ≤ blocks.old.spare }
     // The blocks of the version are held, and enough more may be taken.

@@ -34,7 +34,7 @@ fn prepare<D: Disk>(
     // What the caller ensures.
     requires inside { AllByRecursion (InSpace (D.state disk.old).size) blocks.old.blocks }
     requires counted { length blocks.old.blocks ≡ blocks_of total }
-    requires fits { at * 128 + count ≤ 2097152 }
+    requires fits { at * BLOCK_WORDS + count ≤ most_blocks * BLOCK_WORDS }
 
     // What is read of the words that stay.
     ensures same_blocks { blocks.new.blocks ≡ blocks.old.blocks }
@@ -42,7 +42,7 @@ fn prepare<D: Disk>(
     ensures kept { (D.state disk.new).honest → (body : List ℕ) → length body ≡ total
         → AreWhole (D.state disk.old).contents blocks.old.blocks
         → HasBody (D.state disk.old).contents blocks.old.blocks body
-        → IfOk result (λ kept. Stays body (min at (total / 128)) at count kept.place kept.words) }
+        → IfOk result (λ kept. Stays body (min at (total / BLOCK_WORDS)) at count kept.place kept.words) }
     ensures whole { (D.state disk.new).honest → OnOk result ((n : ℕ) → IsEdgeBlock blocks.old.blocks total at count n
         → (D.state disk.old).contents n ≡ None → ⊥) }
     // Which refusal comes when, and what it leaves.
@@ -102,7 +102,7 @@ fn put_into<D: Disk>(
     requires held { (n : ℕ) → times n blocks.old.blocks ≤ holds table.old n }
     requires first { 0 < block }
     requires some { 0 < length words.now }
-    requires fits { length_after old block (length words.now) ≤ most_blocks * 128 }
+    requires fits { length_after old block (length words.now) ≤ most_blocks * BLOCK_WORDS }
     requires booked { uses table.old + (blocks_of (length_after old block (length words.now))
         - length blocks.old.blocks) < table.old.booked }
     requires room { table.old.booked ≤ space table.old.size }
@@ -179,7 +179,7 @@ pub fn put_words<D: Disk>(
     requires counted { length version.old.blocks ≡ blocks_of version.old.words }
     requires held { (n : ℕ) → times n version.old.blocks ≤ holds table.old n }
     requires first { 0 < block }
-    requires fits { length_after version.old.words block (length words.now) ≤ most_blocks * 128 }
+    requires fits { length_after version.old.words block (length words.now) ≤ most_blocks * BLOCK_WORDS }
     requires booked { uses table.old + (blocks_of (length_after version.old.words block (length words.now))
         - length version.old.blocks) < table.old.booked }
     requires room { table.old.booked ≤ space table.old.size }

@@ -41,9 +41,9 @@ fn read_block<D: Disk>(disk: &mut D, n: u32) -> Result<Block, RetrievalError>
 
 /// Returns how many blocks `words` words take.
 fn blocks_of(words: u32) -> u32
-    requires { words ≤ 2097152 }
+    requires { words ≤ most_blocks * BLOCK_WORDS }
     ensures value { result ≡ blocks_of words }
-    ensures few { result ≤ 16384 }
+    ensures few { result ≤ most_blocks }
 {
     words.div_ceil(BLOCK_WORDS as u32)
 }
@@ -91,7 +91,7 @@ fn extend_version(
     version: &mut Version,
 ) -> Result<u32, RetrievalError>
     requires volume { IsVolumeSize size }
-    requires words { version.old.words ≤ 2097152 }
+    requires words { version.old.words ≤ most_blocks * BLOCK_WORDS }
     requires room { length version.old.blocks ≤ blocks_of version.old.words }
     ensures ok { IfOk result (λ next. Extends size block.now n next version.old version.new) }
     ensures bad { (k : ℕ) → IsErrOf result (BadRetrieval k) → ((k ≡ n) × IsBadExtension size block.now)
@@ -153,7 +153,7 @@ pub fn read_version<D: Disk>(
     ensures blocks_inside { IfOk result (λ read. AllByRecursion (InSpace (D.state disk.old).size) read.1.blocks) }
     ensures ribs_inside { IfOk result (λ read. AllByRecursion (InSpace (D.state disk.old).size) read.1.ribs) }
     ensures counted { IfOk result (λ read. length read.1.blocks ≡ blocks_of read.1.words) }
-    ensures few { IfOk result (λ read. read.1.words ≤ most_blocks * 128) }
+    ensures few { IfOk result (λ read. read.1.words ≤ most_blocks * BLOCK_WORDS) }
     ensures few_ribs { IfOk result (λ read. length read.1.ribs ≤ rib_count (length read.1.blocks)) }
     // The device: what failed, and how often.
     ensures keeps { (D.state disk.new).honest → Keeps (D.state disk.old) (D.state disk.new) }

@@ -4,6 +4,7 @@ ghost use Rattle.std.specs.List.{AllByRecursion};
 ghost use Rattle.spec_image.specs.Common.{IsVolumeSize, RunsInSpace, InSpace, IsRun, run_blocks, count_up};
 ghost use Rattle.retrieval.specs.Common.{run_of, runs_of, with_blocks};
 ghost use Rattle.retrieval.specs.declared.runs.RunError.TheVariants.{Outside, TooMany};
+ghost use Rattle.spec_image.specs.Common.{most_blocks};
 
 use crate::Version;
 use crate::space::is_run_in_space;
@@ -47,7 +48,7 @@ fn push_pointer(word: Word, size: u32, limit: u32, version: &mut Version) -> Res
     requires volume { IsVolumeSize size }
     requires run { IsRun (run_of word) }
     requires room { length version.old.blocks ≤ limit }
-    requires few { limit ≤ 16384 }
+    requires few { limit ≤ most_blocks }
     ensures ok { OnOk result (version.new ≡ with_blocks version.old (run_blocks (run_of word))) }
     ensures room { OnOk result (length version.new.blocks ≤ limit) }
     ensures inside { OnOk result (AllByRecursion (InSpace size) (run_blocks (run_of word))) }
@@ -79,7 +80,7 @@ pub fn push_runs(
     requires volume { IsVolumeSize size }
     requires runs { AllByRecursion IsRun (runs_of pointers.now) }
     requires room { length version.old.blocks ≤ limit }
-    requires few { limit ≤ 16384 }
+    requires few { limit ≤ most_blocks }
     ensures ok { OnOk result (version.new ≡ with_blocks version.old (flat_map run_blocks (runs_of pointers.now))) }
     ensures room { OnOk result (length version.new.blocks ≤ limit) }
     ensures inside { OnOk result (RunsInSpace size (runs_of pointers.now)) }

@@ -6,6 +6,7 @@ ghost use Rattle.blockdisk.specs.Common.{Keeps, SameDisk, one_more};
 ghost use Rattle.spec_image.specs.Common.{blocks_of, InSpace, times, HasBody};
 ghost use Rattle.retrieval.specs.Common.{AreWhole, unchanged_word, IsEdge, IsEdgeBlock, Stays, IsNewBlock};
 ghost use Rattle.retrieval.specs.declared.error.BodyError.TheVariants.{BadData, Device, NoMemory};
+ghost use Rattle.spec_image.specs.Common.{most_blocks};
 
 use crate::BodyError;
 use crate::block_list::BlockList;
@@ -24,10 +25,11 @@ pub(crate) struct UnchangedWords {
 /// Returns the place of the block that is read before `count` words are put from block `at` of a body: the last
 /// block, if the words begin after it, or the one in which they end. `None` if no word stays.
 fn unchanged_place(total: usize, at: usize, count: usize) -> Option<usize>
-    requires { at * 128 + count ≤ 2097152 }
+    requires { at * BLOCK_WORDS + count ≤ most_blocks * BLOCK_WORDS }
     ensures some { IfSome result (λ place. IsEdge total at count place) }
-    ensures put_behind { IfNone result (total < at * 128 → total % 128 ≡ 0) }
-    ensures put_inside { IfNone result (at * 128 + count < total → (at * 128 + count) % 128 ≡ 0) }
+    ensures put_behind { IfNone result (total < at * BLOCK_WORDS → total % BLOCK_WORDS ≡ 0) }
+    ensures put_inside { IfNone result (at * BLOCK_WORDS + count < total
+        → (at * BLOCK_WORDS + count) % BLOCK_WORDS ≡ 0) }
 {
     let start = at * BLOCK_WORDS;
     let end = start + count;
@@ -42,8 +44,8 @@ fn unchanged_place(total: usize, at: usize, count: usize) -> Option<usize>
 
 /// Returns the first `count` words of a block, with zeros after them.
 fn front_of(block: &Block, count: usize) -> Block
-    ensures front { (k : ℕ) → k < 128 → k < count → slice_index result k ≡ slice_index block.now k }
-    ensures zeros { (k : ℕ) → k < 128 → count ≤ k → slice_index result k ≡ 0 }
+    ensures front { (k : ℕ) → k < BLOCK_WORDS → k < count → slice_index result k ≡ slice_index block.now k }
+    ensures zeros { (k : ℕ) → k < BLOCK_WORDS → count ≤ k → slice_index result k ≡ 0 }
 {
     let mut front = [Word::ZERO; BLOCK_WORDS];
     let count = count.min(BLOCK_WORDS);
@@ -65,12 +67,12 @@ pub(crate) fn read_unchanged<D: Disk>(
 ) -> Result<UnchangedWords, BodyError>
     requires inside { AllByRecursion (InSpace (D.state disk.old).size) blocks.now.blocks }
     requires counted { length blocks.now.blocks ≡ blocks_of total }
-    requires fits { at * 128 + count ≤ 2097152 }
+    requires fits { at * BLOCK_WORDS + count ≤ most_blocks * BLOCK_WORDS }
 
     ensures kept { (D.state disk.new).honest → (body : List ℕ) → length body ≡ total
         → AreWhole (D.state disk.old).contents blocks.now.blocks
         → HasBody (D.state disk.old).contents blocks.now.blocks body
-        → IfOk result (λ kept. Stays body (min at (total / 128)) at count kept.place kept.words) }
+        → IfOk result (λ kept. Stays body (min at (total / BLOCK_WORDS)) at count kept.place kept.words) }
     // A damaged block is never taken for words; only a block whose words stay is refused.
     ensures whole { (D.state disk.new).honest → OnOk result ((n : ℕ) → IsEdgeBlock blocks.now.blocks total at count n
         → (D.state disk.old).contents n ≡ None → ⊥) }
@@ -95,7 +97,8 @@ pub(crate) fn read_unchanged<D: Disk>(
 
 /// Returns the words that stay in the block at a place, with zeros where none stays.
 fn unchanged_block(kept: &UnchangedWords, i: usize) -> Block
-    ensures { (k : ℕ) → k < 128 → slice_index result k ≡ unchanged_word kept.now.place kept.now.words (i * 128 + k) }
+    ensures { (k : ℕ) → k < BLOCK_WORDS → slice_index result k
+        ≡ unchanged_word kept.now.place kept.now.words (i * BLOCK_WORDS + k) }
 {
     if i == kept.place {
         kept.words
@@ -106,7 +109,8 @@ fn unchanged_block(kept: &UnchangedWords, i: usize) -> Block
 
 /// Returns a block with words put over its first ones, as many as it has room for.
 fn put_over(block: &Block, words: &[Word]) -> Block
-    ensures { result ≡ take (min (length words.now) 128) words.now ++ drop (min (length words.now) 128) block.now }
+    ensures { result ≡ take (min (length words.now) BLOCK_WORDS) words.now
+        ++ drop (min (length words.now) BLOCK_WORDS) block.now }
 {
     let mut new = *block;
     let count = words.len().min(BLOCK_WORDS);
@@ -116,8 +120,8 @@ fn put_over(block: &Block, words: &[Word]) -> Block
 
 /// Returns the new words of the block at place `i` when words are put from block `at`. Both are counted from 0.
 pub(crate) fn new_block(kept: &UnchangedWords, at: usize, words: &[Word], i: usize) -> Block
-    requires fits { (i - at) * 128 ≤ length words.now }
-    requires few { i < 16384 }
+    requires fits { (i - at) * BLOCK_WORDS ≤ length words.now }
+    requires few { i < most_blocks }
     ensures { IsNewBlock at words.now kept.now.place kept.now.words i result }
 {
     let block = unchanged_block(kept, i);

@@ -1,5 +1,5 @@
 //! The retrieval blocks of a version, taken from the table and written.
-ghost use Rattle.std.specs.Prelude.{◌≡◌, ◌+◌, ◌-◌, ◌/◌, ◌<◌, ◌≤◌, ◌^◌, ◌∷◌, ℕ, map, length, take, drop, Some, OnOk};
+ghost use Rattle.std.specs.Prelude.{◌≡◌, ◌*◌, ◌+◌, ◌-◌, ◌/◌, ◌<◌, ◌≤◌, ◌^◌, ◌∷◌, ℕ, map, length, take, drop, Some, OnOk};
 ghost use Rattle.std.specs.Prelude.{IfOk, IsErrOf};
 ghost use Rattle.std.specs.List.{AllByRecursion};
 ghost use Rattle.blockdisk.specs.Common.{SameDisk, Modifies, one_more};
@@ -10,6 +10,7 @@ ghost use Rattle.alloctab.specs.Common.{IsTable, IsFree, holds, space, used_in_s
 ghost use Rattle.retrieval.specs.Common.{pairs_of, longest_runs, ribs_of, with_length, IsStandingVersion, rib_count};
 ghost use Rattle.retrieval.specs.Common.{Takes, AreApart, IsFixed, extensions_of};
 ghost use Rattle.retrieval.specs.declared.error.RetrievalError.TheVariants.{BadRetrieval, Device, NoMemory};
+ghost use Rattle.spec_image.specs.Common.{most_blocks};
 
 use crate::build::{first_of, pointer_to, prime_block};
 use crate::head::EXTENSION_HALF;
@@ -127,7 +128,7 @@ pub fn write_retrieval_blocks<D: Disk>(
     requires apart { AreApart (at ∷ version.now.ribs) }
     requires nonzero { times 0 version.now.ribs ≡ 0 }
     requires count { length version.now.ribs ≡ ribs_of version.now.blocks }
-    requires words { version.now.words ≤ 2097152 }
+    requires words { version.now.words ≤ most_blocks * BLOCK_WORDS }
     requires enough { length version.now.blocks ≡ blocks_of version.now.words }
     requires fit { AllByRecursion (λ n. n < 2 ^ 18) version.now.blocks }
     // What is there then, in each layout that has the date.
@@ -171,7 +172,7 @@ pub fn write_version<D: Disk>(
 ) -> Result<u32, RetrievalError>
     requires volume { IsVolumeSize (D.state disk.old).size }
     requires size { table.old.size ≡ (D.state disk.old).size }
-    requires words { version.old.words ≤ 2097152 }
+    requires words { version.old.words ≤ most_blocks * BLOCK_WORDS }
     requires enough { length version.old.blocks ≡ blocks_of version.old.words }
     requires blocks { AllByRecursion (λ n. n < 2 ^ 18) version.old.blocks }
     requires fixed { IsFixed table.old }

@@ -13,7 +13,9 @@ pub struct Put {
 }
 
 impl Default for Put {
-    ghost is_default = { λ put. (put.block ≡ 0) × (put.words ≡ replicate 128 0) };
+    ghost use Rattle.words36.specs.declared.word.TheConstants.{BLOCK_WORDS};
+
+    ghost is_default = { λ put. (put.block ≡ 0) × (put.words ≡ replicate BLOCK_WORDS 0) };
 
     /// Returns zeros for block 0, which no change set writes: they fill the unused room of a list.
     fn default() -> Self {

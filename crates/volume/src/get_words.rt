@@ -9,6 +9,7 @@ ghost use Rattle.alloctab.specs.Common.{IsTable};
 ghost use Rattle.retrieval.specs.Common.{VersionState};
 ghost use Rattle.volume.specs.Common.{DeviceAnswer, IsWholeMemory, memory_of, version_under, IsReadable, RestsAt};
 ghost use Rattle.volume.specs.declared.error.CallError.TheVariants.{Refused, Device, NoMemory, Failed};
+ghost use Rattle.words36.specs.declared.word.TheConstants.{BLOCK_WORDS};
 
 use crate::CallError;
 use crate::handles::VersionHandle;
@@ -61,7 +62,7 @@ impl<D: Disk> Volume<D> {
         // A damaged block is never returned as words.
         ensures whole { (D.state self.new.disk).honest → (v : VersionState)
             → version_under self.old.map handle ≡ Some v
-            → IfOk result (λ words. (i : ℕ) → i * 128 < length words.items
+            → IfOk result (λ words. (i : ℕ) → i * BLOCK_WORDS < length words.items
             → (D.state self.old.disk).contents (slice_index v.blocks (block - 1 + i)) ≡ None → ⊥) }
         ensures few { (v : VersionState) → version_under self.old.map handle ≡ Some v
             → IfOk result (λ words. length words.items ≡ min count (v.words - block_start block)) }

@@ -35,10 +35,10 @@ use words36::{BLOCK_WORDS, Word};
 pub(crate) fn length_with(words: u32, block: u32, count: usize) -> Option<u32>
     requires first { 0 < block }
     requires some { 0 < count }
-    requires few { words ≤ most_blocks * 128 }
+    requires few { words ≤ most_blocks * BLOCK_WORDS }
     ensures length { IfSome result (λ after. after ≡ length_after words block count) }
-    ensures few { IfSome result (λ after. after ≤ most_blocks * 128) }
-    ensures none { IfNone result (most_blocks * 128 < length_after words block count) }
+    ensures few { IfSome result (λ after. after ≤ most_blocks * BLOCK_WORDS) }
+    ensures none { IfNone result (most_blocks * BLOCK_WORDS < length_after words block count) }
 {
     let start = u64::from(block - 1) * BLOCK_WORDS as u64;
     let count = count as u64;
@@ -55,11 +55,11 @@ pub(crate) fn growth(version: &Version, block: u32, count: usize) -> Option<u32>
     requires counted { length version.now.blocks ≡ blocks_of version.now.words }
     requires first { 0 < block }
     requires some { 0 < count }
-    requires few { version.now.words ≤ most_blocks * 128 }
+    requires few { version.now.words ≤ most_blocks * BLOCK_WORDS }
     ensures more { IfSome result (λ more. more + cost_of_blocks (length version.now.blocks)
         ≡ version_cost (length_after version.now.words block count)) }
-    ensures few { IfSome result (λ more. length_after version.now.words block count ≤ most_blocks * 128) }
-    ensures none { IfNone result (most_blocks * 128 < length_after version.now.words block count) }
+    ensures few { IfSome result (λ more. length_after version.now.words block count ≤ most_blocks * BLOCK_WORDS) }
+    ensures none { IfNone result (most_blocks * BLOCK_WORDS < length_after version.now.words block count) }
 {
     let after = length_with(version.length(), block, count)?;
     let blocks = after.div_ceil(BLOCK_WORDS as u32);
@@ -90,7 +90,7 @@ fn put_booked<D: Disk>(
     // what is put,
     requires first { 0 < block }
     requires some { 0 < length words.now }
-    requires fits { length_after version.old.words block (length words.now) ≤ most_blocks * 128 }
+    requires fits { length_after version.old.words block (length words.now) ≤ most_blocks * BLOCK_WORDS }
     // and what may be booked.
     requires used { uses table.old < table.old.booked }
     requires cost { cost_of_blocks (length version.old.blocks) ≤ table.old.booked }
@@ -248,8 +248,10 @@ pub(crate) fn put_in_memory<D: Disk>(
     ensures live { (memory_of map.new).live ≡ (memory_of map.old).live }
     ensures versions { map.new.versions ≡ map.old.versions }
     ensures keys { (memory_of map.new).keys ≡ (memory_of map.old).keys }
-    ensures known { (memory_of map.new).known ≡ record (memory_of map.old).known { table = (memory_of map.new).known.table } }
-    ensures kept { (D.state disk.new).honest → (p : PendingVersion) → pending_at (memory_of map.old).pending key ≡ Some p
+    ensures known { (memory_of map.new).known
+        ≡ record (memory_of map.old).known { table = (memory_of map.new).known.table } }
+    ensures kept { (D.state disk.new).honest → (p : PendingVersion)
+        → pending_at (memory_of map.old).pending key ≡ Some p
         → (n : ℕ) → (IsOwn (memory_of map.old).known.table p.version.blocks n → ⊥)
         → (D.state disk.new).contents n ≡ (D.state disk.old).contents n }
     // So no reader and no other writer sees a block of theirs change.

@@ -11,6 +11,7 @@ ghost use Rattle.volume.specs.Common.{KeepsDisk, IsFileFound, IsOtherPlace, IsRe
 ghost use Rattle.volume.specs.Common.{IsVersionRefusal, IsDataRefusal, IsFileRefusal, NamesInSpace};
 ghost use Rattle.volume.specs.declared.error.VolumeError.TheVariants.{BadRetrieval, BlockTwice, Device, NoMemory};
 ghost use Rattle.volume.specs.declared.error.VolumeError.TheVariants.{BadData};
+ghost use Rattle.words36.specs.declared.word.TheConstants.{BLOCK_WORDS};
 
 use crate::VolumeError;
 use crate::marks::mark_version;
@@ -57,7 +58,7 @@ pub fn read_named<D: Disk>(
     ensures blocks_inside { IfOk result (λ v. AllByRecursion (InSpace (D.state disk.old).size) v.version.blocks) }
     ensures ribs_inside { IfOk result (λ v. AllByRecursion (InSpace (D.state disk.old).size) v.version.ribs) }
     ensures counted { IfOk result (λ v. length v.version.blocks ≡ blocks_of v.version.words) }
-    ensures few { IfOk result (λ v. v.version.words ≤ most_blocks * 128) }
+    ensures few { IfOk result (λ v. v.version.words ≤ most_blocks * BLOCK_WORDS) }
     ensures few_ribs { IfOk result (λ v. length v.version.ribs ≤ rib_count (length v.version.blocks)) }
     // Which refusal comes when.
     ensures bad_version { (D.state disk.new).honest → (k : ℕ) → IsErrOf result (BadRetrieval k)
@@ -157,7 +158,7 @@ pub fn read_file<D: Disk>(
     ensures blocks_inside { IfOk result (λ v. AllByRecursion (InSpace (D.state disk.old).size) v.version.blocks) }
     ensures ribs_inside { IfOk result (λ v. AllByRecursion (InSpace (D.state disk.old).size) v.version.ribs) }
     ensures counted { IfOk result (λ v. length v.version.blocks ≡ blocks_of v.version.words) }
-    ensures few { IfOk result (λ v. v.version.words ≤ most_blocks * 128) }
+    ensures few { IfOk result (λ v. v.version.words ≤ most_blocks * BLOCK_WORDS) }
     ensures few_ribs { IfOk result (λ v. length v.version.ribs ≤ rib_count (length v.version.blocks)) }
     ensures length { length reached.new ≡ length reached.old }
     // Which refusal comes when.

@@ -30,7 +30,8 @@ pub fn block_from_bytes(bytes: &[u8; BLOCK_BYTES]) -> Result<Block, WordError>
     ensures read { IfOk result (λ words. block_bytes words ≡ bytes.now) }
     ensures words { IfOk result IsBlock }
     ensures of_block { (words : List ℕ) → IsBlock words → block_bytes words ≡ bytes.now → result ≡ Ok words }
-    ensures bad { (place : ℕ) → (IsErrOf result (WordError.BadWord place) ↔ IsFirstBadWord 128 bytes.now place) }
+    ensures bad { (place : ℕ) → (IsErrOf result
+        (WordError.BadWord place) ↔ IsFirstBadWord BLOCK_WORDS bytes.now place) }
     ensures refused { IfErr result (λ error. (place : ℕ) × (error ≡ WordError.BadWord place)) }
 {
     let mut block = [Word::ZERO; BLOCK_WORDS];
