@@ -2,7 +2,7 @@
 ghost use Rattle.std.specs.Prelude.{◌≡◌, ◌≤◌, ◌+◌, ◌^◌, ◌++◌, ◌∷◌, [], length, Some};
 ghost use Rattle.spec_language.specs.Common.{Plan, each, deposit_events, call_event, size_events, create_events};
 ghost use Rattle.spec_language.specs.Common.{login_events, fill_events};
-ghost use Rattle.spec_language.specs.Common.{fills_all as filled_all, own_file, part_address as address_of};
+ghost use Rattle.spec_language.specs.Common.{fill_all_plan as filled_all, own_file, part_address as address_of};
 ghost use Rattle.spec_language.specs.Common.{part_words as words_of};
 ghost use Rattle.spec_machine.specs.declared.call.Call.TheVariants.{Close};
 ghost use Rattle.commands.specs.Common.{FinishesPlan, FollowsPlan, followed, absent, if_absent, put_plan_as, makes_way};

@@ -222,7 +222,7 @@ fn type_runs<S: FileService>(
     typed: &mut Typed,
 ) -> Result<(), Reply>
     requires { count ≤ 2048 }
-    ensures { HasTyped S.machine service.old service.new moment (plans.types_runs moment runs count)
+    ensures { HasTyped S.machine service.old service.new moment (plans.type_runs_plan moment runs count)
         result typed.old typed.new }
 {
     for _ in 0..runs {
@@ -240,7 +240,7 @@ fn type_blocks<S: FileService>(
     count: u32,
     typed: &mut Typed,
 ) -> Result<(), Reply>
-    ensures { HasTyped S.machine service.old service.new moment (plans.types_blocks moment count)
+    ensures { HasTyped S.machine service.old service.new moment (plans.type_blocks_plan moment count)
         result typed.old typed.new }
 {
     ask_all(alloc, service, &list_events(RUN_WORDS))?;
