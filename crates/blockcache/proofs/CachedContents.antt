@@ -70,7 +70,7 @@ pub held_kept : (kept new : CachedBlocks) (contents : Contents) (n : ℕ) (words
     → AreCached kept.entries contents → contents n ≡ Some words → AreCached new.entries contents
 held_kept kept new contents n words is held here = ⊎_elim
     (λ put. subst (λ (c : CachedBlocks). AreCached c.entries contents) (sym put)
-        (held_put kept contents n words held here))
+    (held_put kept contents n words held here))
     (λ same. subst (λ (c : CachedBlocks). AreCached c.entries contents) (sym same) held) is
 
 -- a put changes the cache, or is refused and changes nothing

@@ -25,8 +25,10 @@ module _ {S : Type 0} (machine : S → Machine) (stands : AlwaysStands machine) 
   -- no call was made
   pub same_goes : (old new : S) → new ≡ old → Goes machine old new
   same_goes old new same =
-      record { acts = []; goes = subst (λ (s : S). GoesBy machine old s []) (sym same) (goes_nowhere machine stands old)
-          }
+      record {
+        acts = [];
+        goes = subst (λ (s : S). GoesBy machine old s []) (sym same) (goes_nowhere machine stands old);
+      }
 
   pub then_goes : (old mid new : S) → Goes machine old mid → Goes machine mid new → Goes machine old new
   then_goes old mid new one next = record {

@@ -54,7 +54,7 @@ ok_none_then (Err error) f p = tt
 -- There is no name if neither the own one is a name nor, if that is allowed, the shorter one.
 pub no_name : (shortens : Bool) (path : List ℕ)
     → ((text : List ℕ) (file : FileName) → IsOwnText path (Some text) → IsFileName (map upper text) file.name file.ext
-        → ⊥)
+    → ⊥)
     → (shortens ≡ true → (text : List ℕ) (file : FileName) → IsShortText path (Some text)
     → IsFileName (map upper text) file.name file.ext → ⊥)
     → (text : List ℕ) (file : FileName) → IsNameFor shortens path text file → ⊥
@@ -75,5 +75,5 @@ pub ended_plain : (done goal part : List ℕ) (room n : ℕ) → length part ≤
     → done ≡ goal
 ended_plain done goal part room n all p =
     sym (append-nil done) ∙ ap (λ l. done ++ l) (sym (plain_none room))
-        ∙ ap (λ l. done ++ plain room l) (sym (drop_all n part all))
+    ∙ ap (λ l. done ++ plain room l) (sym (drop_all n part all))
     ∙ p

@@ -60,7 +60,7 @@ abbrev pub IsSourcePut : {S : Type 0} → (S → Machine) → ImportTask → Lis
 IsSourcePut machine task path text name source sink full old new result =
     IsImported machine task path text name source sink full old new result
     ⊎ ((task.dated ≡ true) × (source.changed ≡ None) × IsTurnedDown path sink full old new (codes "?Date out of range")
-        result)
+    result)
     ⊎ IsUnnamed sink full old new result
 
 -- What the host returned for a file that gets this name, which a text spells, and what became of it.

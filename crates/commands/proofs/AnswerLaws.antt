@@ -50,7 +50,7 @@ module _ {V E S : Type 0} (machine : S → Machine) (stands : AlwaysStands machi
 
   spoke_refusal : (old new : S) (user : Option ℕ) (meant : Option Command) (acts : List Act) (reply : Reply)
       (words : List ℕ) (broken : Bool) → Speaks moment user meant acts (refuses reply) user
-          → GoesBy machine old new acts
+      → GoesBy machine old new acts
       → words ≡ refusal reply → broken ≡ is_broken reply → counted.refused ≡ true
       → counted.broke ≡ tally.broke || broken → IfOk result (λ v. bytes v ≡ line words)
       → CommandDone bytes result machine old new moment user user tally counted meant
@@ -118,7 +118,7 @@ module _ {V E S : Type 0} (machine : S → Machine) (stands : AlwaysStands machi
       → CommandDone bytes result machine old new moment user user tally counted (Some (LoginLine owner))
   spoke_login_refused old new user owner reply words broken h answered same_words same_broken refused broke text =
       spoke_refusal old new user (Some (LoginLine owner)) (Asks (Login 1 owner core_words) reply ∷ []) reply words
-          broken
+      broken
       (login_refused user owner reply h) (goes_answered machine stands old new (LogsIn 1 owner core_words) reply
       answered)
       same_words same_broken refused broke text
@@ -145,7 +145,7 @@ module _ {V E S : Type 0} (machine : S → Machine) (stands : AlwaysStands machi
       → ((acts : List Act) (said : Spoken) → RunsPlan (line_plan moment me command) acts said
       → Speaks moment (Some me) (Some command) acts said (Some me))
       → FollowsPlan machine old mid (line_plan moment me command) rest
-          → FinishesPlan bytes result machine mid new rest tally counted
+      → FinishesPlan bytes result machine mid new rest tally counted
       → CommandDone bytes result machine old new moment (Some me) (Some me) tally counted (Some command)
   spoke_concluded old mid new me command rest speaks led p =
       let whole = led_on machine old mid new (line_plan moment me command) rest (Say p.said) led p.led in

@@ -83,7 +83,7 @@ module _ {S : Type 0} (machine : S → Machine) (first size word : ℕ) where
         subst (λ (r : Result (Unit {0}) Reply).
         FollowsPlan machine a c (each moment (deposit_events first (replicate size word)) next)
         (followed moment r (λ unit. each moment (deposit_events (first + (i + 1)) (replicate (size - (i + 1)) word))
-            next)))
+        next)))
         ok (fills_then moment next)
 
     pub fills_broken : (reply : Reply) → result ≡ Err reply → (moment : Moment) (next : Plan)
@@ -92,7 +92,7 @@ module _ {S : Type 0} (machine : S → Machine) (first size word : ℕ) where
         subst (λ (r : Result (Unit {0}) Reply).
         FollowsPlan machine a c (each moment (deposit_events first (replicate size word)) next)
         (followed moment r (λ unit. each moment (deposit_events (first + (i + 1)) (replicate (size - (i + 1)) word))
-            next)))
+        next)))
         err (fills_then moment next)
 
   pub fills_all : (a b : S) (i : ℕ) → size ≤ i → Fills a b i → (moment : Moment) (next : Plan)
@@ -223,7 +223,7 @@ module _ {S : Type 0} (machine : S → Machine) (moment : Moment) (first size n 
 
   module _ (a b : S) (filled : Result (Unit {0}) Reply) (fills : (at : Moment) (next : Plan)
       → FollowsPlan machine a b (each at (deposit_events first (replicate size word)) next)
-          (followed at filled (λ unit. next))) where
+      (followed at filled (λ unit. next))) where
     over_filled : (next : List ℕ → Plan)
         → FollowsPlan machine a b (Over next)
         (followed moment filled (λ unit. each moment then_taken (fetches moment size first next)))
@@ -231,7 +231,7 @@ module _ {S : Type 0} (machine : S → Machine) (moment : Moment) (first size n 
         subst (λ (p : Plan). FollowsPlan machine a b p
         (followed moment filled (λ unit. each moment then_taken (fetches moment size first next))))
         (sym (each_append moment (deposit_events first (replicate size word)) then_taken
-            (fetches moment size first next)))
+        (fetches moment size first next)))
         (fills moment (each moment then_taken (fetches moment size first next)))
 
     pub over_unfilled : (reply : Reply) → filled ≡ Err reply → (next : List ℕ → Plan)
@@ -278,7 +278,7 @@ module _ {S : Type 0} (machine : S → Machine) (moment : Moment) (first size n 
           → ((block : List ℕ) → fetched ≡ Ok block → length block ≡ size)
           → ((at : Moment) (next : List ℕ → Plan)
           → FollowsPlan machine c d (fetches at size first next)
-              (followed at fetched (λ block. next (take size block))))
+          (followed at fetched (λ block. next (take size block))))
           → (next : List ℕ → Plan) → FollowsPlan machine a d (Over next) (followed moment fetched next)
       over_all one done d (Ok block) long led next = over_fetched one done d block next (omega (arith, long block refl))
           (led moment next)
@@ -332,7 +332,7 @@ module _ {S : Type 0} (machine : S → Machine) (moment : Moment) (n size : ℕ)
           → FollowsPlan machine b c (takes_over moment n one next) (followed moment second next)) where
         second_taken : (next : ℕ → Plan)
             → FollowsPlan machine a c (sizes moment n size next)
-                (followed moment second (λ ones. next (same_words zeros ones)))
+            (followed moment second (λ ones. next (same_words zeros ones)))
         second_taken next =
             led_on machine a b c _ _ _
             (subst (λ (r : Result (List ℕ) Reply). FollowsPlan machine a b (sizes moment n size next)

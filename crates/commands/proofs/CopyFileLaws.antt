@@ -43,7 +43,7 @@ one_before more = omega arith
 
 body_copied : (moment : Moment) (blocks size : ℕ) (next : Plan) → 0 < blocks
     → copy_body_plan moment blocks size next ≡ copy_blocks_plan moment (blocks - 1)
-        (copy_last_plan moment blocks size next)
+    (copy_last_plan moment blocks size next)
 body_copied moment zero size next h = absurd (omega arith)
 body_copied moment (suc more) size next h = ap
     (λ (k : ℕ). copy_blocks_plan moment k (copy_last_plan moment (suc more) size next)) (one_before more)
@@ -56,7 +56,7 @@ module _ {S : Type 0} (machine : S → Machine) where
   -- the events of a plan that begins with these
   pub led_each : (a b : S) (moment : Moment) (asked : List Event) (events : List Event) (next rest : Plan)
       → asked ≡ events → FollowsPlan machine a b (each moment asked next) rest
-          → FollowsPlan machine a b (each moment events next) rest
+      → FollowsPlan machine a b (each moment events next) rest
   led_each a b moment asked events next rest e p = subst
       (λ (l : List Event). FollowsPlan machine a b (each moment l next) rest)
       e p
@@ -84,7 +84,7 @@ module _ {S : Type 0} (machine : S → Machine) where
         (sym (ap (λ (k : ℕ). copy_runs_plan moment k next) (one_less count i h)
         ∙ run_copied moment (count - (i + 1)) next))
         (led_each b c moment asked (in_event moment ∷ out_event moment ∷ [])
-            (copy_runs_plan moment (count - (i + 1)) next)
+        (copy_runs_plan moment (count - (i + 1)) next)
         rest is_asked p))
 
     pub runs_more : ((next : Plan) → FollowsPlan machine b c (each moment asked next) next) → (next : Plan)
@@ -99,7 +99,7 @@ module _ {S : Type 0} (machine : S → Machine) where
 
   pub runs_all : (a b : S) (moment : Moment) (count i : ℕ) → count ≤ i
       → ((next : Plan) → FollowsPlan machine a b (copy_runs_plan moment count next)
-          (copy_runs_plan moment (count - i) next))
+      (copy_runs_plan moment (count - i) next))
       → (next : Plan) → FollowsPlan machine a b (copy_runs_plan moment count next) next
   runs_all a b moment count i h p next =
       subst (λ (l : Plan). FollowsPlan machine a b (copy_runs_plan moment count next) l)
@@ -140,7 +140,7 @@ module _ {S : Type 0} (machine : S → Machine) (moment : Moment) where
       → first ≡ f → second ≡ s → third ≡ t
       → ((then : Plan) → FollowsPlan machine a b (each moment first then) then)
       → ((then : Plan) → FollowsPlan machine b c (each moment second then) then)
-          → FollowsPlan machine c d (each moment third next) rest
+      → FollowsPlan machine c d (each moment third next) rest
       → FollowsPlan machine a d (each moment (f ++ (s ++ t)) next) rest
   third_led a b c d first second third f s t next rest is_first is_second is_third p q r =
       led_on machine a b d (each moment (f ++ (s ++ t)) next) (each moment (s ++ t) next) rest

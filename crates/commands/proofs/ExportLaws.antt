@@ -69,7 +69,7 @@ module _ {V E X S : Type 0} (machine : S → Machine) (items : V → List ℕ) (
   words_out x result e fresh kept =
       let q = subst (λ (r : Result X Reply). HasTyped machine a b moment (λ next. each moment
       (lookup_events moment spec ++ list_events 128)
-          (examines moment (file_words + 3) (λ size. type_body_plan moment (blocks_said size)
+      (examines moment (file_words + 3) (λ size. type_body_plan moment (blocks_said size)
       size (λ words. until_end moment (next words))))) r before after) e p in
       record {
         said = file_said Words q.words;
@@ -89,7 +89,7 @@ module _ {V E X S : Type 0} (machine : S → Machine) (items : V → List ℕ) (
   words_refused reply e =
       let q = subst (λ (r : Result X Reply). HasTyped machine a b moment (λ next. each moment
       (lookup_events moment spec ++ list_events 128)
-          (examines moment (file_words + 3) (λ size. type_body_plan moment (blocks_said size)
+      (examines moment (file_words + 3) (λ size. type_body_plan moment (blocks_said size)
       size (λ words. until_end moment (next words))))) r before after) e p in
       record {
         said = refuses reply;

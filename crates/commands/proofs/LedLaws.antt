@@ -187,7 +187,7 @@ module _ {S : Type 0} (machine : S → Machine) where
         → FollowsPlan machine a b (examines moment address next) (fails moment reply)
     led_untold a b address reply moment next other answered =
         subst (λ (p : Plan). FollowsPlan machine a b (examines moment address next) p)
-            (if_untold moment next reply other)
+        (if_untold moment next reply other)
         (led_asked a b (Examine 1 address) reply (if_told moment next) answered)
 
     -- all channels are closed

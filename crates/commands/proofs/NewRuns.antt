@@ -262,7 +262,7 @@ module _ (pack : Pack) (s : State) (j0 : SpecJob) (there : job_at s 1 ≡ Some j
       → (IsPut moment me s encoding spec words said new × IsFree me s spec) ⊎ IsLineRefused s.files said new
   sought encoding j is free come =
       by (asked pack (Serving (at s (seeking j spec))) (call_event moment (Lookup 1 file_words)) (if_absent moment next)
-          said
+      said
       new come)
     where
       next : Plan
@@ -276,7 +276,7 @@ module _ (pack : Pack) (s : State) (j0 : SpecJob) (there : job_at s 1 ≡ Some j
           (λ none.
           let st = refused_steps (at s (seeking j spec)) (call_event moment (Lookup 1 file_words)) mid
           (subst (λ r. Answers pack (Serving (at s (seeking j spec))) (call_event moment (Lookup 1 file_words)) r mid)
-              none
+          none
           answers) in
           let m = misses pack s j0 there moment me j spec st.0 is few st.2 in
           let rest = subst (λ (p : Plan). Comes pack (Serving st.0) p said new) (ap (if_absent moment next) none)
@@ -288,7 +288,7 @@ module _ (pack : Pack) (s : State) (j0 : SpecJob) (there : job_at s 1 ≡ Some j
           (λ (other, is). inr (failed pack s.files mid moment other said new
           (answered_files pack (at s (seeking j spec)) (call_event moment (Lookup 1 file_words)) reply mid
           (λ t steps. quiet_files pack (at s (seeking j spec)) (call_event moment (Lookup 1 file_words)) reply t tt
-              steps)
+          steps)
           answers)
           (subst (λ (p : Plan). Comes pack mid p said new) is more)))
           (reply_says next reply)

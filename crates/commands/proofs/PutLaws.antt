@@ -45,7 +45,7 @@ module _ {S : Type 0} (machine : S → Machine) (first : ℕ) (words : List ℕ)
   deposits_none stands a moment next =
       let place : first ≡ first + 0 = omega arith in
       subst (λ (n : ℕ). FollowsPlan machine a a (each moment (deposit_events first words) next)
-          (each moment (deposit_events n words) next))
+      (each moment (deposit_events n words) next))
       place (led_still machine stands a (each moment (deposit_events first words) next))
 
   module _ (a b c : S) (i word : ℕ) (h : i < length words) (at : word ≡ get_or words i word) (p : Deposits a b i)
@@ -66,7 +66,7 @@ module _ {S : Type 0} (machine : S → Machine) (first : ℕ) (words : List ℕ)
 
     pub deposits_broken : (reply : Reply)
         → ((moment : Moment) (next : Plan) → FollowsPlan machine b c (each moment (event ∷ []) next)
-            (fails moment reply))
+        (fails moment reply))
         → (moment : Moment) (next : Plan)
         → FollowsPlan machine a c (each moment (deposit_events first words) next) (fails moment reply)
     deposits_broken reply asked moment next = deposit_then moment next (fails moment reply)
@@ -112,7 +112,7 @@ first_part moment encoding words part rest next h is_part is_rest =
     ap (λ (n : ℕ). fill_parts_plan moment encoding n words next) count
     ∙ part_filled moment encoding (parts_of encoding (length behind)) words next
     ∙ (λ i. each moment (fill_events moment encoding (sym is_part i))
-        (fill_all_plan moment encoding (sym is_rest i) next))
+    (fill_all_plan moment encoding (sym is_rest i) next))
 
 pub no_part : (moment : Moment) (encoding : Encoding) (words : List ℕ) (next : Plan) → length words ≡ 0
     → fill_all_plan moment encoding words next ≡ next
@@ -158,7 +158,7 @@ module _ {S : Type 0} (machine : S → Machine) (moment : Moment) (encoding : En
       (p : Filled a b rest) where
     part_then : (next end : Plan)
         → FollowsPlan machine b c
-            (each moment (fill_events moment encoding part) (fill_all_plan moment encoding after next)) end
+        (each moment (fill_events moment encoding part) (fill_all_plan moment encoding after next)) end
         → FollowsPlan machine a c (fill_all_plan moment encoding words next) end
     part_then next end q = led_on machine a b c (fill_all_plan moment encoding words next)
         (fill_all_plan moment encoding rest next) end (p next)
@@ -173,7 +173,7 @@ module _ {S : Type 0} (machine : S → Machine) (moment : Moment) (encoding : En
 
     pub filled_broken : (reply : Reply)
         → ((next : Plan) → FollowsPlan machine b c (each moment (fill_events moment encoding part) next)
-            (fails moment reply))
+        (fails moment reply))
         → (next : Plan) → FollowsPlan machine a c (fill_all_plan moment encoding words next) (fails moment reply)
     filled_broken reply broken next = part_then next (fails moment reply)
         (broken (fill_all_plan moment encoding after next))
@@ -202,22 +202,22 @@ module _ {S : Type 0} (machine : S → Machine) (moment : Moment) (encoding : En
       → ((moment : Moment) (next : Plan) → FollowsPlan machine a b (each moment (deposit_events address part) next)
       (fails moment reply))
       → (next : Plan) → FollowsPlan machine a b (each moment (fill_events moment encoding part) next)
-          (fails moment reply)
+      (fails moment reply)
   part_deposited a b address is reply failed next = led_first machine a b moment (deposit_events address part)
       (deposit_events (part_address encoding) part) (size_events moment encoding (length part)) next
-          (fails moment reply)
+      (fails moment reply)
       (ap (λ (n : ℕ). deposit_events n part) is)
-          (failed moment (each moment (size_events moment encoding (length part)) next))
+      (failed moment (each moment (size_events moment encoding (length part)) next))
 
   pub part_announced : (a b c : S) (address : ℕ) → address ≡ part_address encoding
       → (result : Result (Unit {0}) Reply)
       → ((moment : Moment) (next : Plan) → FollowsPlan machine a b (each moment (deposit_events address part) next)
-          next)
+      next)
       → ((next : Plan) → FollowsPlan machine b c (each moment (size_events moment encoding (length part)) next)
       (followed moment result (λ unit. next)))
       → (next : Plan)
       → FollowsPlan machine a c (each moment (fill_events moment encoding part) next)
-          (followed moment result (λ unit. next))
+      (followed moment result (λ unit. next))
   part_announced a b c address is result deposited announced next =
       let behind = each moment (size_events moment encoding (length part)) next in
       led_on machine a b c (each moment (fill_events moment encoding part) next) behind _

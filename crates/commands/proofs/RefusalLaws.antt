@@ -113,7 +113,7 @@ module _ (language : Language) (moment : Moment) where
       let s : here ≡ both_said said here = joined-silent said here p.1 in
       let r : later ≡ refused ++ later = ap (λ (l : List ℕ). l ++ later) (sym p.3) in
       subst (λ (v : List ℕ). IsNumberedTranscript language moment user more (acts ++ next) (both_said said here) after
-          v)
+      v)
       r
       (subst (λ (v : Option ℕ). IsNumberedTranscript language moment v more (acts ++ next) (both_said said here) after
       later) w

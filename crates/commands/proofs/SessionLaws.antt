@@ -34,9 +34,9 @@ pub record Streams {S : Type 0} (language : Language) (source left sink full : O
 
 pub stream_starts : {S : Type 0} (language : Language) (machine : S
     → Machine) (stands : AlwaysStands machine) (source sink : Option (List ℕ)) (m : S) (moment : Moment)
-        (session : SessionState)
+    (session : SessionState)
     → IsPartialLine session.held [] → session.line ≡ 1 → session.user ≡ None → session.tally ≡ fresh
-        → session.waiting.items ≡ []
+    → session.waiting.items ≡ []
     → Streams language source source sink sink machine m m moment session
 stream_starts language machine stands source sink m moment session held line user tally waits = record {
   read = [];
@@ -64,20 +64,20 @@ stream_starts language machine stands source sink m moment session held line use
 pub stream_more : {S : Type 0} (language : Language) (machine : S
     → Machine) (source left rest sink full over : Option (List ℕ)) (old now new : S) (moment : Moment)
     (session after : SessionState) (bytes : List ℕ) → Streams language source left sink full machine old now moment
-        session
+    session
     → Consumes left rest bytes → StepsOn language machine now new full over moment session after bytes
     → after.waiting.items ≡ [] → Streams language source rest sink over machine old new moment after
 stream_more language machine source left rest sink full over old now new moment session after bytes s c t waits =
     record {
-  read = s.read ++ bytes;
-  written = s.written ++ t.written;
-  acts = s.acts ++ t.acts;
-  consumed = Consumes-trans source left rest s.read bytes s.consumed c;
-  appended = Appends-trans sink full over s.written t.written s.appended t.appended;
-  goes = goes_on machine old now new s.acts t.acts s.goes t.goes;
-  so = t.steps s.read s.written s.acts s.so;
-  waits = waits;
-}
+      read = s.read ++ bytes;
+      written = s.written ++ t.written;
+      acts = s.acts ++ t.acts;
+      consumed = Consumes-trans source left rest s.read bytes s.consumed c;
+      appended = Appends-trans sink full over s.written t.written s.appended t.appended;
+      goes = goes_on machine old now new s.acts t.acts s.goes t.goes;
+      so = t.steps s.read s.written s.acts s.so;
+      waits = waits;
+    }
 
 -- the reader failed
 pub stream_stops : {S : Type 0} (language : Language) (machine : S
@@ -161,7 +161,7 @@ stream_breaks language machine at_end source left rest sink full over old now ne
 
 pub stream_ends : {S : Type 0} (language : Language) (machine : S
     → Machine) (source left rest sink full over : Option (List ℕ)) (old now new : S) (moment : Moment)
-        (session : SessionState)
+    (session : SessionState)
     (result : Result Tally SessionError) → Streams language source left sink full machine old now moment session
     → Consumes left rest [] → IsAtEnd rest
     → IfOk result (λ tally. EndsWell language machine now new full over moment session tally)

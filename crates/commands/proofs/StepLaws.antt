@@ -39,7 +39,7 @@ use Rattle.spec_machine.specs.declared.call.Call.TheVariants as played
 
 pub steps_none : {S : Type 0} (language : Language) (machine : S
     → Machine) (stands : AlwaysStands machine) (m : S) (sink : Option (List ℕ)) (moment : Moment)
-        (session : SessionState)
+    (session : SessionState)
     → StepsOn language machine m m sink sink moment session session []
 steps_none language machine stands m sink moment session = record {
   acts = [];
@@ -161,7 +161,7 @@ steps_all language machine a c p r moment x z piece i h s = subst
 -- A byte that is no line feed.
 pub step_byte : {S : Type 0} (language : Language) (machine : S
     → Machine) (stands : AlwaysStands machine) (m : S) (sink : Option (List ℕ)) (moment : Moment)
-        (session : SessionState)
+    (session : SessionState)
     (held : PartialLine) (b : ℕ) → b ≢ 10
     → ((seen : List ℕ) → IsPartialLine session.held seen → IsPartialLine held (seen ++ b ∷ []))
     → StepsOn language machine m m sink sink moment session (record session { held = held }) (b ∷ [])
@@ -187,7 +187,7 @@ step_byte language machine stands m sink moment session held b other keeps = rec
         (spoken ((past ++ []) ++ session.waiting.items) session.tally) session.user so.refused) (sym (append-nil done))
         (subst (λ (l : List ℕ). IsNumberedTranscript language moment None (numbered so.front) done
         (spoken (l ++ session.waiting.items) session.tally) session.user so.refused) (sym (append-nil past))
-            so.refuses);
+        so.refuses);
     reason = so.reason;
   };
 }
@@ -241,7 +241,7 @@ pub step_feed : {S : Type 0} (language : Language) (machine : S
     → ((seen : List ℕ) → IsPartialLine session.held seen
     → IsParsedLine language moment (fitting seen (without_return seen)) parsed)
     → ReplyWritten result machine a b p q moment session.user after.user session.tally after.tally session.line parsed
-        session.waiting.items
+    session.waiting.items
     after.waiting.items
     → OnOk result (StepsOn language machine a b p q moment session after (byte ∷ []))
 step_feed language machine (Err error) a b p q moment session after parsed byte feed none next line_acts t = tt
@@ -294,12 +294,12 @@ record Last (language : Language) (at_end : Type 0) (moment : Moment) (parsed : 
 -- It broke off there.
 module _ {S : Type 0} (language : Language) (machine : S → Machine) (at_end : Type 0) (a b : S)
     (p q : Option (List ℕ)) (moment : Moment) (session after : SessionState) (parsed : ParsedLine)
-        (waits bytes : List ℕ) where
+    (waits bytes : List ℕ) where
   breaks_last : (error : SessionError) → ((read past : List ℕ) (done : List Act)
       → (so : SoFar language moment session read past done)
       → Last language at_end moment parsed so.front (read ++ bytes))
       → ReplyWritten (Err error) machine a b p q moment session.user after.user session.tally after.tally session.line
-          parsed
+      parsed
       session.waiting.items waits
       → BreaksOff language at_end machine a b p q moment session error bytes
   breaks_last Read ends t = absurd t.adds
@@ -321,9 +321,9 @@ module _ {S : Type 0} (language : Language) (machine : S → Machine) (at_end : 
           transcript = subst (λ (k : List Line). IsServedTranscript language moment None k (done ++ t.acts)
               (spoken text after.tally) after.user) (sym l.same)
               (transcript_more language moment session after.user after.tally parsed read past done so l.here t.acts
-                  t.said
+              t.said
               text (said_on past session.waiting.items t.said.text t.adds.0 t.adds.1 t.adds.3) t.refused t.broke
-                  l.line_acts
+              l.line_acts
               t.line_acts);
           unwritten = t.adds.1;
           parts = refl;
@@ -338,7 +338,7 @@ module _ {S : Type 0} (language : Language) (machine : S → Machine) (at_end : 
     breaks = λ read past done so.
         let l = ends read past done so in
         let k = parsed_line language moment session.user l.here parsed t.acts t.said after.user (t.line refl)
-            l.line_acts t.line_acts in
+        l.line_acts t.line_acts in
         record {
           front = read ++ bytes;
           behind = [];
@@ -366,7 +366,7 @@ pub break_feed : {S : Type 0} (language : Language) (machine : S
     → ((seen : List ℕ) → IsPartialLine session.held seen
     → IsParsedLine language moment (fitting seen (without_return seen)) parsed)
     → ReplyWritten result machine a b p q moment session.user after.user session.tally after.tally session.line parsed
-        session.waiting.items
+    session.waiting.items
     after.waiting.items
     → IfErr result (λ error. BreaksOff language ⊥ machine a b p q moment session error (byte ∷ []))
 break_feed language machine (Ok v) a b p q moment session after parsed byte feed line_acts t = tt
@@ -419,7 +419,7 @@ steps_flushed language machine a b p q r moment session mid after (Ok unit) byte
 
 pub steps_unwritten : {S : Type 0} (language : Language) (machine : S → Machine) (a b : S) (p q r : Option (List ℕ))
     (moment : Moment) (session mid : SessionState) (waits : List ℕ) (result : Result (Unit {0}) SessionError)
-        (bytes : List ℕ)
+    (bytes : List ℕ)
     → StepsOn language machine a b p q moment session mid bytes → IsFlushed q r mid.waiting.items waits result
     → IfErr result (λ error. BreaksOff language ⊥ machine a b p r moment session error bytes)
 steps_unwritten language machine a b p q r moment session mid waits (Ok unit) bytes s f = tt
@@ -486,7 +486,7 @@ pub break_end : {S : Type 0} (language : Language) (machine : S → Machine) (er
     (p q : Option (List ℕ)) (moment : Moment) (session after : SessionState) (parsed : ParsedLine) (waits : List ℕ)
     → ((seen : List ℕ) → IsPartialLine session.held seen → IsParsedLine language moment (fitting seen seen) parsed)
     → ReplyWritten (Err error) machine a b p q moment session.user after.user session.tally after.tally session.line
-        parsed
+    parsed
     session.waiting.items waits
     → BreaksOff language (Unit {0}) machine a b p q moment session error []
 break_end language machine error a b p q moment session after parsed waits line_acts t =
@@ -502,7 +502,7 @@ pub end_well : {S : Type 0} (language : Language) (machine : S → Machine) (a b
     (p q : Option (List ℕ)) (moment : Moment) (session after : SessionState) (parsed : ParsedLine) (waits : List ℕ)
     → ((seen : List ℕ) → IsPartialLine session.held seen → IsParsedLine language moment (fitting seen seen) parsed)
     → ReplyWritten (Ok tt) machine a b p q moment session.user after.user session.tally after.tally session.line parsed
-        session.waiting.items
+    session.waiting.items
     waits → waits ≡ [] → Closed language machine b c moment
     → EndsWell language machine a c p q moment session after.tally
 end_well language machine a b c p q moment session after parsed waits line_acts t none end = record {
@@ -522,13 +522,13 @@ end_well language machine a b c p q moment session after parsed waits line_acts 
             (sym (lines_ended read so.front so.seen so.parted so.ended so.unended))
             (transcript_more language moment session after.user after.tally parsed read past done so
             (fitting so.seen so.seen) t.acts t.said text whole t.refused t.broke (line_acts so.seen so.held)
-                t.line_acts);
+            t.line_acts);
         refused = so.refused ++ mark t.said.refused (feeds so.front + 1);
         refuses = subst (λ (l : List (ℕ × Line)). IsNumberedTranscript language moment None l (done ++ t.acts)
             (spoken text after.tally) after.user (so.refused ++ mark t.said.refused (feeds so.front + 1)))
             (sym (numbered_ended read so.front so.seen so.parted so.ended so.unended))
             (refusals_more language moment session after.user after.tally parsed read past done so
-                (fitting so.seen so.seen)
+            (fitting so.seen so.seen)
             t.acts t.said text whole t.refused t.broke (line_acts so.seen so.held) t.line_acts);
         reason = t.reason ∙ ap (λ (n : ℕ). counts session.tally.reason n t.said.refused) so.line
             ∙ reason_more so.refused (feeds so.front + 1) t.said.refused session.tally.reason so.reason;
@@ -560,7 +560,7 @@ closed_still machine stands language a moment e = subst (λ (l : Language). Clos
 pub told_nothing : {S : Type 0} (machine : S → Machine) (stands : AlwaysStands machine) (m : S) (sink : Option (List ℕ))
     (moment : Moment) (user : Option ℕ) (tally : Tally) (number : ℕ) (parsed : ParsedLine) (waiting : List ℕ)
     → parsed ≡ NoLine → ReplyWritten (Ok tt) machine m m sink sink moment user user tally tally number parsed waiting
-        waiting
+    waiting
 told_nothing machine stands m sink moment user tally number parsed waiting e = record {
   acts = [];
   said = silent;

@@ -38,7 +38,7 @@ module _ {S : Type 0} (machine : S → Machine) (style : Style) (owners : List �
       (result : Result V E) (q : HasShown text result machine b c style owner counted mid) where
     next_led : FollowsPlan machine a c (directories_plan style owners (spoken [] tally))
         (directories_plan style (drop (i + 1) owners)
-            (both_said (spoken bytes counted) (list_said style owner q.answer)))
+        (both_said (spoken bytes counted) (list_said style owner q.answer)))
     next_led =
         let at : drop i owners ≡ owner ∷ drop (i + 1) owners = drop_more owners i owner h
         ∙ ap (λ (o : ℕ). o ∷ drop (i + 1) owners) (sym is) in
@@ -47,7 +47,7 @@ module _ {S : Type 0} (machine : S → Machine) (style : Style) (owners : List �
         (directories_plan style l (spoken bytes counted))) at p)
         (subst (λ (l : Plan). FollowsPlan machine b c l
         (directories_plan style (drop (i + 1) owners)
-            (both_said (spoken bytes counted) (list_said style owner q.answer))))
+        (both_said (spoken bytes counted) (list_said style owner q.answer))))
         (sym (shows_next style owner (drop (i + 1) owners) (spoken bytes counted)))
         (q.led (λ answer. directories_plan style (drop (i + 1) owners)
         (both_said (spoken bytes counted) (list_said style owner answer)))))
@@ -83,15 +83,15 @@ module _ {V E S : Type 0} (machine : S → Machine) (bytes : V → List ℕ) (re
     (moment : Moment) (style : Style) (owners : List ℕ) (tally counted : Tally) (user : ℕ) (is : user ≡ operator) where
   pub survey_carried : tally ≡ fresh → counted.reason ≡ tally.reason
       → FollowsPlan machine a b (each moment (login_events user) (directories_plan style owners silent))
-          (directories_plan style owners silent)
+      (directories_plan style owners silent)
       → IfOk result (λ v. FollowsPlan machine b c (directories_plan style owners (spoken [] tally))
-          (Say (spoken (bytes v) counted)))
+      (Say (spoken (bytes v) counted)))
       → IfErr result (λ error. (rest : Plan) × FollowsPlan machine b c (directories_plan style owners (spoken [] tally))
-          rest)
+      rest)
       → Carries bytes result machine a c (list_plan moment style owners) counted
   survey_carried none reason entered ok err =
       let led = subst (λ (n : ℕ). FollowsPlan machine a b
-          (each moment (login_events n) (directories_plan style owners silent))
+      (each moment (login_events n) (directories_plan style owners silent))
       (directories_plan style owners silent)) is entered in
       let start : spoken [] tally ≡ silent = ap (λ (t : Tally). spoken [] t) none in
       by result (subst (λ (said : Spoken). IfOk result
@@ -101,7 +101,7 @@ module _ {V E S : Type 0} (machine : S → Machine) (bytes : V → List ℕ) (re
     where
       by : (r : Result V E)
           → IfOk r (λ v. FollowsPlan machine b c (directories_plan style owners silent)
-              (Say (spoken (bytes v) counted)))
+          (Say (spoken (bytes v) counted)))
           → IfErr r (λ error. (rest : Plan) × FollowsPlan machine b c (directories_plan style owners silent) rest)
           → FollowsPlan machine a b (list_plan moment style owners) (directories_plan style owners silent)
           → Carries bytes r machine a c (list_plan moment style owners) counted
@@ -115,12 +115,12 @@ module _ {V E S : Type 0} (machine : S → Machine) (bytes : V → List ℕ) (re
 
   pub survey_refused : (reply : Reply) → tally ≡ fresh
       → FollowsPlan machine a b (each moment (login_events user) (directories_plan style owners silent))
-          (fails moment reply)
+      (fails moment reply)
       → FinishesPlan bytes result machine b c (fails moment reply) tally counted
       → Carries bytes result machine a c (list_plan moment style owners) counted
   survey_refused reply none entered p =
       let led = subst (λ (n : ℕ). FollowsPlan machine a b
-          (each moment (login_events n) (directories_plan style owners silent))
+      (each moment (login_events n) (directories_plan style owners silent))
       (fails moment reply)) is entered in
       carried_behind machine bytes result a b c (list_plan moment style owners) (fails moment reply) counted led
       (carried machine bytes result b c (fails moment reply) tally counted none p)

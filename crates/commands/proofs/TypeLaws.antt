@@ -306,7 +306,7 @@ module _ {S : Type 0} (machine : S → Machine) where
             mid after) was words in
             let was_read = next_run in
             subst (λ (r : Result X Reply). HasTyped machine a d moment (type_runs_plan moment runs count) r before
-                after)
+            after)
             (sym is) (record {
               words = was_read.words ++ q.words;
               types = put_more before mid after was_read.words q.words was_read.types q.types;
@@ -354,7 +354,7 @@ module _ {S : Type 0} (machine : S → Machine) where
         → HasTyped machine a c moment types_listed result before after
     read_listed a b c before after result listed p = typed_behind a b c moment types_listed
         (type_runs_plan moment runs count) before after result (λ next. listed (type_runs_plan moment runs count next))
-            p
+        p
 
   module _ (moment : Moment) (blocks : ℕ) where
     abbrev by_runs : (List ℕ → Plan) → Plan
@@ -412,14 +412,14 @@ module _ {S : Type 0} (machine : S → Machine) where
           failed_at a c moment (type_last_plan moment n size) t result reply e
           (λ next. led_then (last_at next)
           (failed (each moment (useti_event moment n ∷ in_event moment ∷ [])
-              (fetches moment count block_address next))))
+          (fetches moment count block_address next))))
 
       module _ (listed : (next : Plan) → FollowsPlan machine b c (each moment (list_events count) next) next)
           (d : S) where
         pub no_last : {X : Type 0} (result : Result X Reply) (reply : Reply) → result ≡ Err reply
             → ((next : Plan)
             → FollowsPlan machine c d (each moment (useti_event moment n ∷ in_event moment ∷ []) next)
-                (fails moment reply))
+            (fails moment reply))
             → HasTyped machine a d moment (type_last_plan moment n size) result t t
         no_last result reply e failed =
             failed_at a d moment (type_last_plan moment n size) t result reply e
@@ -460,7 +460,7 @@ module _ {S : Type 0} (machine : S → Machine) where
       let last = subst (λ n. HasTyped machine b c moment (type_last_plan moment n size) result mid after) e q in
       subst (λ n. HasTyped machine a c moment (type_body_plan moment n size) result before after) (sym e)
       (typed_both a b c moment (type_blocks_plan moment more) (type_last_plan moment (suc more) size) before mid after y
-          result
+      result
       p last)
 
   pub no_body : {X Y : Type 0} (a b : S) (moment : Moment) (blocks : ℕ) (more : ℕ) (size : ℕ) (before after : Typed)
@@ -485,7 +485,7 @@ module _ {S : Type 0} (machine : S → Machine) where
 
     opened_at : (next : ℕ → Plan)
         → plan next ≡ each moment (lookup_events moment spec)
-            (each moment (list_events 128) (examines moment (file_words + 3) next))
+        (each moment (list_events 128) (examines moment (file_words + 3) next))
     opened_at next = each_append moment (lookup_events moment spec) (list_events 128)
         (examines moment (file_words + 3) next)
 

@@ -167,7 +167,7 @@ pub record StepsOn {S : Type 0} (language : Language) (machine : S → Machine) 
 -- or breaks off in them,
 pub record BreaksOff {S : Type 0} (language : Language) (at_end : Type 0) (machine : S
     → Machine) (old new : S) (sink full : Option (List ℕ)) (moment : Moment) (session : SessionState)
-        (error : SessionError)
+    (error : SessionError)
     (bytes : List ℕ) : Type 0 where
   pub acts : List Act
   pub goes : GoesBy machine old new acts

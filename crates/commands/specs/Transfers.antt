@@ -75,7 +75,7 @@ fresh = record { refused = false; broke = false; reason = None }
 abbrev pub Carries : {V E S : Type 0} → (V → List ℕ) → Result V E → (S → Machine) → S → S → Plan → Tally → Type 0
 Carries bytes result machine old new plan counted =
     MatchResult result (λ v. FollowsPlan machine old new plan (Say (spoken (bytes v) counted))
-        × (counted.reason ≡ None))
+    × (counted.reason ≡ None))
     (λ error. (rest : Plan) × FollowsPlan machine old new plan rest)
 
 -- By these acts a plan was done to its end, and these bytes are its text; or the writer refused the end of the text; or

@@ -40,7 +40,7 @@ joined read turns held piece front after p q = ap (λ l. l ++ piece) p ∙ appen
 module _ {S : Type 0} (machine : S → Machine) where
   pub stream_starts : AlwaysStands machine → (source sink : Option (List ℕ)) (m : S) (waiting : Waiting)
       → waiting.held.items ≡ [] → waiting.answers.items ≡ [] → waiting.tally ≡ fresh
-          → InStream source source sink sink machine m m waiting
+      → InStream source source sink sink machine m m waiting
   stream_starts stands source sink m waiting held waits tally = record {
     read = [];
     written = [];

@@ -215,8 +215,11 @@ served_image facts state path form u task source left sink full status image end
   subst (λ n. IsTaskRun state (begun_image form n u) task source left sink full end status) (sym size)
       (⊎_elim (λ p. inl (served_since form u (state image) began sound state end status
       (Attends state task source left sink full) p))
-      (λ p. inr (p.0, unserved_since form u (state image) began sound (state p.0) source left sink full status p.1,
-          p.2))
+      (λ p. inr (
+        p.0,
+        unserved_since form u (state image) began sound (state p.0) source left sink full status p.1,
+        p.2,
+      ))
       ran),
 )
 

@@ -31,7 +31,7 @@ Attends state (Put file existing at) source left sink full first last result =
     (put_plan_as existing at file.owner file.encoding (own_file file.name)) result
 Attends state (Get file at) source left sink full first last result = (left ≡ source)
     × Errand sink full (machine_over state) first last (get_plan at file.owner file.encoding (own_file file.name))
-        result
+    result
 Attends state (Delete owner name) source left sink full first last result = (left ≡ source)
     × (at : Moment) × IsFirstMoment at
     × Errand sink full (machine_over state) first last (delete_plan at owner (own_file name)) result

@@ -21,7 +21,7 @@ use Rattle.salvage.proofs.TreesRead.{nothing_read, tree_read}
 pub directory_on : {T E : Type 0} (size size' layout : ℕ) (contents contents' : Contents)
     (directories : List SpecMasterEntry) (e : SpecMasterEntry) (word : ℕ) (chain : ChainState SpecFileEntry)
     (files files' : List SavedFile) (findings findings' : List Finding) (result : Result T E) → size' ≡ size
-        → contents' ≡ contents
+    → contents' ≡ contents
     → IsDirectoryNamed size contents layout e.0 word e.1.1 → find nat_cmp e.0 directories ≡ None
     → IsChain name_cmp IsFileEntry chain → IsOn file_words contents chain
     → LeadsAlong file_words contents e.1.1 (nodes_of chain.blocks chain.entries) 0

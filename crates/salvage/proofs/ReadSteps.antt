@@ -125,7 +125,7 @@ module _ (size layout : ℕ) (contents : Contents) (directories : List SpecMaste
 pub file_added_on : {T E : Type 0} (size layout : ℕ) (contents : Contents) (directories : List SpecMasterEntry)
     (ppn : ℕ)
     (names : List SpecFileEntry) (files files' : List SavedFile) (findings : List Finding) (e : SpecFileEntry)
-        (f : SavedFile)
+    (f : SavedFile)
     (result : Result T E) → IsReadTo size layout contents directories ppn names files findings
     → find nat_cmp ppn directories ≡ None → find name_cmp e.0 names ≡ None
     → IsNamedIn size layout contents ppn e → InSpace size e.1 → IsRead size layout contents f → f.at ≡ e.1

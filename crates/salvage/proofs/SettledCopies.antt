@@ -19,7 +19,7 @@ recovered_stands size before now files r stands =
     let pack = pack_in layout size in
     let there : SettledStandsOn pack r.settled
     files = subst (λ c. SettledStandsOn pack c files)
-        (settled_same size before stands.0 r.settled stands.1 r.is_settled)
+    (settled_same size before stands.0 r.settled stands.1 r.is_settled)
     (stands.2.0, stands.2.1, stands.2.2, refl) in
     let after = stands_ignores_gate pack files r.settled now r.others there in
     (after.0, after.1, after.2)
@@ -41,7 +41,7 @@ copy_recovered from copied copy unread size has_bad_log copies same good recover
         refl,
         recovered_stands from.size copied (held copy.blocks) files r
             (stands_agree from.size from.contents copied
-                (copies_of_all from.size from.contents copied unread copies none) files stands),
+            (copies_of_all from.size from.contents copied unread copies none) files stands),
       );
     })
 
@@ -56,6 +56,6 @@ copy_lost from copied copy unread size has_bad_log copies same is lost_log kept 
       settled = lost bad kept;
       stands = λ none files stands.
           let there = stands_agree from.size from.contents copied
-              (copies_of_all from.size from.contents copied unread copies none) files stands in
+          (copies_of_all from.size from.contents copied unread copies none) files stands in
           absurd (bad there.0 there.1);
     })

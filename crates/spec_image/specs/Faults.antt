@@ -178,7 +178,7 @@ pub data IsBadRetrieval (size : ℕ) (contents : Contents) (n : ℕ) : Type 0 wh
   -- it isn't a valid prime block of the place that names it
   of_another_place : (layout : ℕ) (place : Place) → IsFileNamed size contents layout place n
       → ((p : SpecPrime) (runs : List SpecRun) (next : ℕ) → contents n ≡ Some (prime_block p runs next)
-          → p.place ≡ place
+      → p.place ≡ place
       → IsPrime layout p → length runs ≤ 112 → AllByRecursion IsRun runs → ⊥)
       → IsBadRetrieval size contents n
 

@@ -61,7 +61,7 @@ found_map layout nodes directories = record {
 abbrev pub FoundMapIsMapped : Type 0
 FoundMapIsMapped =
     (size layout : ℕ) (contents : Contents) (nodes : List (Node SpecMasterEntry))
-        (directories : List (ℕ × StoredDirectory))
+    (directories : List (ℕ × StoredDirectory))
     → IsHome size contents (record { layout = layout; master = first_of nodes })
     → IsChainRead nat_cmp master_words IsMasterEntry contents nodes
     → map (λ e. (e.0, entry_of e.1)) directories ≡ items nodes
@@ -80,7 +80,7 @@ FoundMapReaches =
 abbrev pub FoundMapStands : Type 0
 FoundMapStands =
     (size layout : ℕ) (contents : Contents) (nodes : List (Node SpecMasterEntry))
-        (directories : List (ℕ × StoredDirectory))
+    (directories : List (ℕ × StoredDirectory))
     → IsVolumeSize size
     → IsHome size contents (record { layout = layout; master = first_of nodes })
     → IsChainRead nat_cmp master_words IsMasterEntry contents nodes

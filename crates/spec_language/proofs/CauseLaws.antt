@@ -139,7 +139,7 @@ module _ (moment : Moment) (IsEnd : Plan → Type 0) where
       each_goes (deposit_events block_address (replicate 128 word) ++ useti_event moment n ∷ in_event moment ∷ [])
       (fetches moment 128 block_address next)
       (all_append WantsDone (deposit_events block_address (replicate 128 word))
-          (useti_event moment n ∷ in_event moment ∷ [])
+      (useti_event moment n ∷ in_event moment ∷ [])
       (want_deposits (replicate 128 word) block_address) (tt, (tt, tt)))
       (fetches_goes 128 block_address next g)
 
@@ -246,7 +246,7 @@ copies_go_on moment to from = each_goes moment (ClosesAtEnd moment)
     (examines moment (file_words + 3) (λ size. copy_body_plan moment (blocks_said size) size (closing moment)))
     (all_append WantsDone (lookup_events moment from ++ enter_events moment to) (list_events 128)
     (all_append WantsDone (lookup_events moment from) (enter_events moment to) (want_finds moment from)
-        (want_writes moment to))
+    (want_writes moment to))
     (want_lists 128))
     (examines_goes moment (ClosesAtEnd moment) (file_words + 3)
     (λ size. copy_body_plan moment (blocks_said size) size (closing moment))
@@ -273,7 +273,7 @@ puts_go_on moment me encoding spec words =
     let is = SaysOk moment in
     let close = each moment (call_event moment (Close 2 0) ∷ []) (ends moment ok) in
     each_goes moment is (login_events me)
-        (each moment (create_events moment encoding spec) (fill_all_plan moment encoding words close))
+    (each moment (create_events moment encoding spec) (fill_all_plan moment encoding words close))
     (tt, tt)
     (each_goes moment is (create_events moment encoding spec) (fill_all_plan moment encoding words close)
     (want_creates moment encoding spec)

@@ -106,7 +106,7 @@ module _ (pack : Pack) (s : State) (j0 : SpecJob) (there : job_at s 1 ≡ Some j
   runs_copied : (me : ℕ) (from : Place) (v : SpecVersion) (to : Place) (kind : Kind) (file : File) (said : Spoken)
       (new : Service) (b count : ℕ) → 0 < b → b ≤ blocks_at_once → count ≡ b * 128 → (more k : ℕ) (next : Plan)
       (j : SpecJob) → Copying me from v to kind file k j → Lists count j.core
-          → (k + more * b) * 128 ≤ length v.file.body
+      → (k + more * b) * 128 ≤ length v.file.body
       → Comes pack (Serving (at s j)) (copy_runs_plan moment more next) said new
       → IsLineRefused s.files said new
       ⊎ ((j' : SpecJob) × Copying me from v to kind file (k + more * b) j' × Lists count j'.core
@@ -125,7 +125,7 @@ module _ (pack : Pack) (s : State) (j0 : SpecJob) (there : job_at s 1 ≡ Some j
       (runs_copied me from v to kind file said new b count some few size more (k + b) next d.0 d.2 d.3 left
       (subst (λ u. Comes pack (Serving u) (copy_runs_plan moment more next) said new) d.1 rest)))
       (each_done pack (at s j) moment (in_event moment ∷ out_event moment ∷ []) (copy_runs_plan moment more next) said
-          new
+      new
       (tt, (tt, tt)) c)
 
   -- The command list names another number of words.
@@ -144,7 +144,7 @@ module _ (pack : Pack) (s : State) (j0 : SpecJob) (there : job_at s 1 ≡ Some j
             (deposits_done pack s j0 there (list_pair count) j list_words t all) rest,
       ))
       (each_done pack (at s j) moment (list_events count) next said new (quiet_deposits (list_pair count) list_words)
-          come)
+      come)
 
   relisted : (me : ℕ) (from : Place) (v : SpecVersion) (to : Place) (kind : Kind) (file : File) (k : ℕ) (j : SpecJob)
       (core : List ℕ) → Copying me from v to kind file k j → IsJob me (with_core j core)
@@ -175,7 +175,7 @@ module _ (pack : Pack) (s : State) (j0 : SpecJob) (there : job_at s 1 ≡ Some j
       (relisted me from v to kind file 0 j core1 is is1) named1 (omega (arith, runs_of blocks)) come1))
       (listed_anew me (blocks_at_once * 128)
       (copy_runs_plan moment (blocks / blocks_at_once) (each moment (list_events 128) singles)) said new j is.whole
-          come)
+      come)
     where
       runs : ℕ
       runs = 0 + blocks / blocks_at_once * blocks_at_once
@@ -368,10 +368,10 @@ module _ (pack : Pack) (s : State) (j0 : SpecJob) (there : job_at s 1 ≡ Some j
       (λ (j1, is1, named1, rest). last_copied me from v to kind file more next said new j1 is1 named1 fits
       (omega (arith, bounds)) (omega (arith, bounds))
       (subst (λ n. Comes pack (Serving (at s j1)) (copy_last_plan moment n (size_word (length v.file.body)) next) said
-          new)
+      new)
       one_more rest))
       (blocks_copied me from v to kind file (copy_last_plan moment (suc more) (size_word (length v.file.body)) next)
-          said
+      said
       new more j (record { whole = is; first = first; second = second }) (omega (arith, bounds)) come)
     where
       one_more : suc more ≡ more + 1
@@ -403,7 +403,7 @@ copies_are_exact pack moment me s to from said new ready to_is from_is short com
     (each_done pack s moment (lookup_events moment from ++ enter_events moment to ++ list_events 128) rests said new
     (all_append IsQuiet (lookup_events moment from ++ enter_events moment to) (list_events 128)
     (all_append IsQuiet (lookup_events moment from) (enter_events moment to) (quiet_finds moment from)
-        (quiet_writes moment to))
+    (quiet_writes moment to))
     (quiet_deposits (list_pair 128) list_words)) come)
   where
     closing : Plan
@@ -438,7 +438,7 @@ copies_are_exact pack moment me s to from said new ready to_is from_is short com
         let there = ready.logged_in in
         let last = split_done pack (at s j0) (lookup_events moment from ++ enter_events moment to) (list_events 128) t
         (subst (λ u. AllDone pack u (lookup_events moment from ++ enter_events moment to ++ list_events 128) t)
-            (at_home s j0 there) all) in
+        (at_home s j0 there) all) in
         let both = split_done pack (at s j0) (lookup_events moment from) (enter_events moment to) last.0 last.1 in
         let f : Found s me from j0 both.0 = finds_done pack s j0 there moment me j0 from both.0 whole from_is both.1 in
         let e = writes_done pack s j0 there moment me f.job to last.0 f.whole to_is

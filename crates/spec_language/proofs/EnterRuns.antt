@@ -74,7 +74,7 @@ module _ (pack : Pack) (s : State) (j0 : SpecJob) (there : job_at s 1 ≡ Some j
       → Entered s me moment spec c j t
   enter_done_by me c j spec t is few idle2 all =
       let last = split_done pack (at s j) (name_events new_words spec 0) (call_event moment (Enter 2 new_words) ∷ []) t
-          all in
+      all in
       let ws : List ℕ = spec.name.name ∷ join spec.name.ext 0 ∷ 0 * 2 ^ 27 ∷ unwrap_or spec.owner 0 ∷ [] in
       let j2 = naming j new_words spec in
       let is2 : IsJob me j2 = job_core me j (after_writes j.core (placed new_words ws)) is
@@ -126,7 +126,7 @@ module _ (pack : Pack) (s : State) (j0 : SpecJob) (there : job_at s 1 ≡ Some j
       let both = split_done pack (at s j) (open_events moment 2)
       (name_events new_words spec 0 ++ call_event moment (Enter 2 new_words)
       ∷ []) t (subst (λ es. AllDone pack (at s j) es t)
-          (append_assoc (open_events moment 2) (name_events new_words spec 0)
+      (append_assoc (open_events moment 2) (name_events new_words spec 0)
       (call_event moment (Enter 2 new_words) ∷ [])) all) in
       let c0 = with_core j (opening j) in
       let is0 : IsJob me c0 = job_core me j (opening j) is
@@ -136,7 +136,7 @@ module _ (pack : Pack) (s : State) (j0 : SpecJob) (there : job_at s 1 ≡ Some j
       let first = opens_done pack s j0 there moment me j 2 both.0 is both.1 in
       enter_done_by me open_channel j1 spec t is1 few (at_own c0 me 2 open_channel is0 (omega arith))
       (subst (λ u. AllDone pack u (name_events new_words spec 0 ++ call_event moment (Enter 2 new_words) ∷ []) t) first
-          both.2)
+      both.2)
 
 -- A command list that names `count` words of the block.
 

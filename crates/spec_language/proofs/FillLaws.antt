@@ -106,7 +106,7 @@ module _ (pack : Pack) (s : State) (moment : Moment) (encoding : Encoding) (W : 
       (λ left. length-append done part ∙ edge left (whole some))
       (subst (λ u. Comes pack (Serving u) (fill_parts_plan moment encoding more behind next) said new) d.1 rest)))
       (each_done pack (at s j) moment (fill_events moment encoding part)
-          (fill_parts_plan moment encoding more behind next) said
+      (fill_parts_plan moment encoding more behind next) said
       new (quiet_fills moment encoding part) come)
     where
       most : ℕ
@@ -142,7 +142,7 @@ module _ (pack : Pack) (s : State) (j0 : SpecJob) (there : job_at s 1 ≡ Some j
   words_done me to kind file k done part j t is long some few all =
       let count = length part in
       let last = split_done pack (at s j) (deposit_events block_address part)
-          (list_events count ++ out_event moment ∷ []) t all in
+      (list_events count ++ out_event moment ∷ []) t all in
       let both = split_done pack last.0 (list_events count) (out_event moment ∷ []) t last.2 in
       let core1 = after_writes j.core (placed block_address part) in
       let j1 = with_core j core1 in

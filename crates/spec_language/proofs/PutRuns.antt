@@ -88,7 +88,7 @@ module _ (pack : Pack) (s : State) (j0 : SpecJob) (there : job_at s 1 ≡ Some j
   opened_ring me j t is all =
       let l = is.core in
       let parts = split_done pack (at s j) (deposit_events open_words opening_words)
-          (call_event moment (Open 2 open_words) ∷ []) t
+      (call_event moment (Open 2 open_words) ∷ []) t
       all in
       let core1 = after_writes j.core (placed open_words opening_words) in
       let j1 = with_core j core1 in
@@ -127,7 +127,7 @@ module _ (pack : Pack) (s : State) (j0 : SpecJob) (there : job_at s 1 ≡ Some j
       let last = split_done pack (at s j) (deposit_events data_address part) (deposit_events (header_address + 1)
       (join 0o010700 (data_address - 1 + count) ∷ []) ++ out_event moment ∷ []) t all in
       let both = split_done pack last.0
-          (deposit_events (header_address + 1) (join 0o010700 (data_address - 1 + count) ∷ []))
+      (deposit_events (header_address + 1) (join 0o010700 (data_address - 1 + count) ∷ []))
       (out_event moment ∷ []) t last.2 in
       let core1 = after_writes j.core (placed data_address part) in
       let j1 = with_core j core1 in
@@ -199,14 +199,14 @@ module _ (pack : Pack) (s : State) (j0 : SpecJob) (there : job_at s 1 ≡ Some j
       → Begins me spec 0 (λ kind file j'. PutsCharacters me (place_of me spec) kind file 0 [] j') t
   characters_begun me j spec t is few free all =
       let rest : List Event = name_events new_words spec 0 ++ call_event moment (Enter 2 new_words)
-          ∷ call_event moment (Outbuf 2 1)
+      ∷ call_event moment (Outbuf 2 1)
       ∷ out_event moment ∷ [] in
       let one =
       split_done pack (at s j) (deposit_events open_words opening_words ++ call_event moment (Open 2 open_words) ∷ [])
-          rest t
+      rest t
       (subst (λ es. AllDone pack (at s j) es t)
       (sym (append_assoc (deposit_events open_words opening_words) (call_event moment (Open 2 open_words) ∷ []) rest))
-          all) in
+      all) in
       let core1 = after_writes j.core (placed open_words opening_words) in
       let core2 = after_writes core1 (placed header_address header_made) in
       let c2 = with_core j core2 in
@@ -221,7 +221,7 @@ module _ (pack : Pack) (s : State) (j0 : SpecJob) (there : job_at s 1 ≡ Some j
       let e = enter_done_by pack s j0 there moment me ring_channel j2 spec two.0 (job_open me c2 2 ring_channel is2) few
       (at_own c2 me 2 ring_channel is2 (omega arith))
       (subst (λ u. AllDone pack u (name_events new_words spec 0 ++ call_event moment (Enter 2 new_words) ∷ []) two.0)
-          to2
+      to2
       two.1) in
       let o = side (place_of me spec) e.kind (made s.files (place_of me spec) 0 moment []) 1 in
       let base : slice_index e.job.core first_free ≡ rings_begin =

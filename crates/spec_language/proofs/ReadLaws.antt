@@ -114,7 +114,7 @@ module _ (pack : Pack) (s : State) (j0 : SpecJob) (there : job_at s 1 ≡ Some j
       (λ (t, (u, steps, same), files, rest).
       let left : (k + b + more * b) * 128 ≤ length v.file.body = omega (arith, next_blocks b more k) in
       let d = blocks_taken me place v k b count j u is (omega arith) (omega arith) (whole_blocks b count size)
-          (omega arith)
+      (omega arith)
       steps in
       let words = take count (drop (k * 128) v.file.body) in
       let behind : List ℕ → Plan = λ words. type_runs_plan moment more count (λ others. next (words ++ others)) in
@@ -140,7 +140,7 @@ module _ (pack : Pack) (s : State) (j0 : SpecJob) (there : job_at s 1 ≡ Some j
   -- the command list names another number of words
   read_anew : (me : ℕ) (place : Place) (v : SpecVersion) (said : Spoken) (new : Service) (n was count : ℕ) (next : Plan)
       (j : SpecJob) → Reads me place v n was j → Comes pack (Serving (at s j)) (each moment (list_events count) next)
-          said new
+      said new
       → IsLineRefused s.files said new
       ⊎ ((j' : SpecJob) × Reads me place v n count j' × Comes pack (Serving (at s j')) next said new)
   read_anew me place v said new n was count next j is come = ⊎_elim inl
@@ -216,7 +216,7 @@ module _ (pack : Pack) (s : State) (j0 : SpecJob) (there : job_at s 1 ≡ Some j
           × Comes pack (Serving (at s j')) (next (drop (more * 128) v.file.body)) said new
       behind j1 is1 k first1 t all rest =
           let parts = split_done pack (at s j1) (list_events count)
-              (useti_event moment (more + 1) ∷ in_event moment ∷ []) t all in
+          (useti_event moment (more + 1) ∷ in_event moment ∷ []) t all in
           let core = after_writes j1.core (placed list_words (list_pair count)) in
           let j2 = with_core j1 core in
           let is2 : IsJob me j2 =

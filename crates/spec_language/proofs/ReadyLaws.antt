@@ -140,7 +140,7 @@ module _ (pack : Pack) (serial : ℕ) (s : State) (n : ℕ) (job : SpecJob) (the
       → Keeps (of_files s n (settled reply (done, files) (λ r. (other r, s.files)))).1
   by_files reply done files other d o =
       settled_by {A = SpecJob × Files SpecVersion} (λ r. Keeps (of_files s n r).1) reply (done, files)
-          (λ r. (other r, s.files))
+      (λ r. (other r, s.files))
       (λ is. by_record files done d) (λ differs. by_record s.files (other reply) (o reply))
 
   stopped_alike : (ch : ℕ) (c : Channel) (r : Reply) → Alike job (stopped_in job ch c r)

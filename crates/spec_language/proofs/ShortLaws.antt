@@ -122,7 +122,7 @@ put_fits pack s c (Some p) (Some g) o f e is at =
 
 put_side : (pack : Pack) (s : State) (side : Option SpecOutput) (words : List ℕ) → ShortSide side
     → ((o : SpecOutput) → side ≡ Some o → finds_no_place pack s o (length words) ≡ false)
-        → ShortSide (put_on side words)
+    → ShortSide (put_on side words)
 put_side pack s None words few fits = nothing
 put_side pack s (Some p) words few fits = λ o is.
     subst (λ (q : SpecOutput). length q.pending.body ≤ longest) (some_same is)

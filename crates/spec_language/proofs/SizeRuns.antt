@@ -155,7 +155,7 @@ module _ (pack : Pack) (s : State) (j0 : SpecJob) (there : job_at s 1 ≡ Some j
   -- Block n is taken over words that are all the same: these remain after the words of the version.
   takes_over_done : (me : ℕ) (place : Place) (v : SpecVersion) (n word : ℕ) (next : List ℕ → Plan) (said : Spoken)
       (new : Service) (j : SpecJob) → IsJob me j → (k : ℕ) → channel_at j 1 ≡ Some (reading place v k)
-          → Lists 128 j.core
+      → Lists 128 j.core
       → Comes pack (Serving (at s j)) (takes_over moment n word next) said new
       → IsLineRefused s.files said new
       ⊎ ((j' : SpecJob) × Between me place v j j' × Comes pack (Serving (at s j'))
@@ -256,7 +256,7 @@ module _ (pack : Pack) (s : State) (j0 : SpecJob) (there : job_at s 1 ≡ Some j
           → Comes pack (Serving (at s j)) (if b then next (last_said size) else counts moment (more + 1) next) said new
           → IsLineRefused s.files said new
           ⊎ ((j' : SpecJob) × Between me place v j j' × Comes pack (Serving (at s j')) (next (len - more * 128)) said
-              new)
+          new)
       by true says c = inr (
         j,
         (is, (k, first), refl, lists),

@@ -86,7 +86,7 @@ abbrev pub create_events : Moment → Encoding → Spec → List Event
 create_events moment Characters spec =
     deposit_events open_words (0 ∷ disk ∷ join header_address 0 ∷ []) ++ call_event moment (Open 2 open_words)
     ∷ (name_events new_words spec 0 ++ call_event moment (Enter 2 new_words) ∷ call_event moment (Outbuf 2 1)
-        ∷ out_event moment ∷ [])
+    ∷ out_event moment ∷ [])
 create_events moment Words spec = enter_events moment spec
 create_events moment Octets spec = enter_events moment spec
 

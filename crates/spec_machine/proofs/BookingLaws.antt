@@ -211,6 +211,6 @@ module _ (s s' : State) (sound : IsSound s) where
     costs_new was =
         let a = distinct_le (current_versions s' ++ pinned_versions s') (v ∷ (current_versions s ++ pinned_versions s))
         (all_versions s' (Fits (v ∷ (current_versions s ++ pinned_versions s)))
-            (λ w there. fits_new w (was w there))) in
+        (λ w there. fits_new w (was w there))) in
         let b = distinct_more v (current_versions s ++ pinned_versions s) in
         omega (arith, a, b)

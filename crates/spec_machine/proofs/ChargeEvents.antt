@@ -108,7 +108,7 @@ module _ (s : State) (p : ℕ) (limited : is_limited s p ≡ true) where
     close_event ch c bits f = settled_by (λ r. r.0 ≡ Done → Within s p limited (of_files s n r).1)
         (close_answer pack s job c bits)
         (close_done serial job ch c bits, files_closed serial s.files job c bits)
-            (λ r. (stopped_in job ch c r, s.files))
+        (λ r. (stopped_in job ch c r, s.files))
         (λ is done. within_close s p limited pack sound n job there ch c f serial bits is)
         (λ differs done. absurd (differs done))
 

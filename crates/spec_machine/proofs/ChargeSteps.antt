@@ -349,7 +349,7 @@ module _ (s : State) (p : ℕ) (limited : is_limited s p ≡ true) where
           let wrong = sym (update_needs pack s job place done).0 ∙ ap is_none at in cc
       within_entered e moment place (Some i) (Some w) at done =
           within_update (with_attributes pack.layout job.core e
-              (output_updating (digit_at s job place) place w).pending)
+          (output_updating (digit_at s job place) place w).pending)
           (Some (record i { version = w })) place (digit_at s job place) w
           (subst (λ v. exceeds_left s place.ppn (present_cost v) ≡ false) at (update_needs pack s job place done).3)
 

@@ -83,7 +83,7 @@ looked_up_holds : (pack : Pack) (job : SpecJob) (ch : ℕ) (c : Channel) (e : �
     (found : Option SpecVersion)
     (v : SpecVersion)
     → channel_at job ch ≡ Some c → c.output ≡ None → found ≡ Some v
-        → pinned_in (looked_up pack job ch c e place found) ch
+    → pinned_in (looked_up pack job ch c e place found) ch
     ≡ Some v
 looked_up_holds pack job ch c e place None v there none f = let wrong = f in cc
 looked_up_holds pack job ch c e place (Some w) v there none f =

@@ -78,7 +78,7 @@ module _ (files : Files SpecVersion) (place : Place) (d : Directory SpecVersion)
 
 module _ (pack : Pack) (serial : ℕ) (s : State) (n ch e : ℕ) (moment : Moment) (job : SpecJob) (c : Channel)
     (i : SpecInput) (there : job_at s n ≡ Some job) (is_open : channel_at job ch ≡ Some c)
-        (side : c.input ≡ Some i) where
+    (side : c.input ≡ Some i) where
   abbrev HasMoved : Reply × State → Type 0
   HasMoved r = r.0 ≡ Done → (r.1.files ≡ files_from s.files job e i.place) × Renames pack s job c e
 

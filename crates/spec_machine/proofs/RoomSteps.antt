@@ -196,7 +196,7 @@ out_needs pack s c (Some o) None e = let a = passed_test (lacks_header c.mode c.
     (λ x. cc) e in let wrong = a.1 in cc
 out_needs pack s c (Some o) (Some t) e =
     let a = passed_test (lacks_header c.mode c.output_header) (Refused 5) (place_answer pack s c o t.words) (λ x. cc)
-        e in
+    e in
     (o, refl, t, refl, placed_needs pack s c o t.words a.1)
 
 split_test : (none long full over before : Bool) → (not none && (long || full || over || before)) ≡ false

@@ -205,7 +205,7 @@ module _ (f : ℕ → ℕ) where
         ≡ update_answer pack s job place
     update-re job place =
         let full = limits_re place.ppn (present_cost (file_at s.files place)) _
-            (ap present_cost (file-re f s.files place)
+        (ap present_cost (file-re f s.files place)
         ∙ cost-re (file_at s.files place)) in
         λ i. if absent-re f s place i then Refused 0
         else if not (may_look (directory_digit-re f s job place i)) || not (may_append (digit-re f s job place i))

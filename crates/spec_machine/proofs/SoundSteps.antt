@@ -50,7 +50,7 @@ create_needs pack s job place h =
     let a = passed_test (not (may_create (directory_digit_at s job place))) (Refused 2) _ (λ x. cc) h in
     let b = passed_test (is_claimed s place) (Refused 3) _ (λ x. cc) a.1 in
     let d = passed_test (exceeds_limits pack s place.ppn (1 + growth (entry_count s place.ppn))) (Refused 0o14) _
-        (λ x. cc)
+    (λ x. cc)
     b.1 in
     let both = or_false (exceeds_room pack s (1 + growth (entry_count s place.ppn))) _ d.0 in
     (b.0, both.0, both.1)
@@ -76,7 +76,7 @@ update_needs pack s job place h =
     (Refused 2) _ (λ x. cc) n.1 in
     let b = passed_test (is_claimed s place) (Refused 3) _ (λ x. cc) a.1 in
     let d = passed_test (exceeds_limits pack s place.ppn (present_cost (file_at s.files place))) (Refused 0o14) _
-        (λ x. cc)
+    (λ x. cc)
     b.1 in
     let both = or_false (exceeds_room pack s (present_cost (file_at s.files place))) _ d.0 in
     (n.0, b.0, both.0, both.1)

@@ -17,7 +17,7 @@ pub written : (before after now : MemoryMap) (key : ℕ) (kind : PendingKind) (p
 written before after now key kind prime begins v p named known put is =
     subst (IsPlaced now) (some_same (sym put ∙ is)) (placed_on before now (known
     ∙ ap (λ (k : CurrentMap). record k { table = now.known.table }) begins.known) (begun kind prime begins.old) v
-        (record {
+    (record {
       named = named;
       directory = begins.directory;
       there = begins.there;

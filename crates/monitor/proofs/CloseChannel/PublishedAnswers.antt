@@ -112,7 +112,7 @@ module _ {d d' : DiskState} {c b : MemoryMap} {failed failed' : Bool} {reply : R
     (rows : PublishRows d call jobs n moment job number channel o)
     (by : PublishesBy d d' c b failed failed' channel o (last_at job.core channel) reply)
     (live : IsSome (pending_at c.pending o.pending.key)) (sound : rest.IsSoundMemory d c failed)
-        (alive : failed ≡ false)
+    (alive : failed ≡ false)
     (honest : d'.honest) (s : State) (state : IsState d c jobs s) where
   abbrev key : ℕ
   key = o.pending.key

@@ -142,7 +142,7 @@ pub record PublishRows (d : DiskState) (call : Call) (jobs : List (Option Job)) 
 -- it isn't decided before memory and the disk are needed
 pub undecided : {d : DiskState} {call : Call} {jobs : List (Option Job)} {n : ℕ} {moment : Moment} {job : Job}
     {number : ℕ} {c : OpenChannel} {o : Output} → PublishRows d call jobs n moment job number c o
-        → (files : Files SpecVersion)
+    → (files : Files SpecVersion)
     (w : UnderKeys) (last : List ℕ) → last_at job.core c ≡ Some last
     → is_plain ((step (pack_of d) 0 (state_of files w jobs) (Calls n call moment)).0) ≡ false
 undecided {d} {call} {jobs} {n} {moment} {job} {number} {c} {o} rows files w last found =

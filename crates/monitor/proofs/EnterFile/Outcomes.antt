@@ -171,7 +171,7 @@ module _ (d : DiskState) (map : MemoryMap) (s : State) (known : IsKnown d map s)
     pub is_new : is_create kind ≡ is_none old
     pub answer : begin_answer_at (pack_of d) s (job_of w job) place
         ≡ (if full kind place directory old || past kind place directory old then replies.Refused 0o14
-            else replies.Done)
+        else replies.Done)
 
   pub begins : (w : UnderKeys) (job : Job) (place : Place) (kind : PendingKind) → may job.ppn place ≡ Ok kind
       → Begins w job place (begins_as place)
@@ -215,7 +215,7 @@ module _ (d : DiskState) (map : MemoryMap) (s : State) (known : IsKnown d map s)
 
       by : (was : Option (Directory SpecVersion)) → get s.files place.ppn ≡ was
           → allowed (found_in (option_map (map_directory (λ (v : SpecVersion). v.file)) was) place.name) job.ppn
-              place.ppn
+          place.ppn
           (place.name.name == 0) (claims map.pending place) ≡ Ok kind → Begins w job place (begins_as place)
       by None at ok = cc ok
       by (Some D) at ok =
@@ -277,7 +277,7 @@ module _ (d : DiskState) (map : MemoryMap) (s : State) (known : IsKnown d map s)
         (⊎_elim (λ is. let said = none (ap errors.Refused is) in
         absurd (both_ways (is_create kind) said.0 (sym absent_is ∙ said.1)))
         (λ is. b.answer ∙ ap (λ t. if t || past kind place b.directory b.old then replies.Refused 0o14
-            else replies.Done)
+        else replies.Done)
         (less _ _ (many (ap errors.Refused is))) ∙ ap (λ c. replies.Refused (number_of c)) (sym is))))
         (codes code refl)
     not_begun X errors.Device gone exists none many codes device failed = device refl

@@ -44,7 +44,7 @@ module _ (w : UnderKeys) (key : ℕ) (x : SpecVersion) where
   input_same : (i : Input) → held key (i ∷ []) ≡ 0 → input_of (with_version w key x) i ≡ input_of w i
   input_same i none =
       ap (λ (v : SpecVersion). input_at v)
-          (with_read_other w.read key x i.pin.key (λ same. let head = times_head key [] in
+      (with_read_other w.read key x i.pin.key (λ same. let head = times_head key [] in
       let at = subst (λ (k : ℕ). times key (k ∷ []) ≡ 0) same none in absurd (omega arith)))
     where
       input_at : SpecVersion → machine.SpecInput

@@ -75,7 +75,7 @@ asked job owner name o =
 -- It depends on the files alone.
 asked_is : (job : machine.SpecJob) (owner : ℕ) (name : FileName) (o : Option (Directory SpecVersion))
     → asked job owner name o ≡ read_answer job.ppn owner name
-        (option_map (map_directory (λ (v : SpecVersion). v.file)) o)
+    (option_map (map_directory (λ (v : SpecVersion). v.file)) o)
 asked_is job owner name None = refl
 asked_is job owner name (Some d) = by (get d.files name)
     ∙ ap answer_for (sym (get-map_values name_total (λ (v : SpecVersion). v.file) d.files name))

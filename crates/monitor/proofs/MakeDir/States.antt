@@ -115,7 +115,7 @@ made_elsewhere files owner v q bare none =
     ⊎_elim
     (λ here. ap (λ o. file_in o q.name) (ap (get (insert files owner v)) here
     ∙ get-insert_same nat_cmp_total files owner v) ∙ ap (λ fs. get fs q.name) bare
-        ∙ get-empty name_cmp SpecVersion q.name)
+    ∙ get-empty name_cmp SpecVersion q.name)
     (λ other. ap (λ o. file_in o q.name)
     (get-insert_other nat_cmp_total nat_cmp-IsAntisymmetric files owner v q.ppn other) ∙ none)
     (same_or_other nat_cmp_total nat_cmp-IsAntisymmetric q.ppn owner)

@@ -48,7 +48,7 @@ present_by false false is_claimed = refl
 arrival_by : (name : FileName) (owner : ℕ) (job : machine.SpecJob) (o : Option (Directory SpecVersion))
     (is_other is_same is_claimed : Bool)
     → IsChangeAnswer (allowed_arrival (found_in (option_map (map_directory (λ (v : SpecVersion). v.file)) o) name)
-        job.ppn
+    job.ppn
     owner is_other is_same is_claimed) (answer_by job owner name o is_other is_same is_claimed)
 arrival_by name owner job None is_other is_same is_claimed = refl
 arrival_by name owner job (Some d) is_other is_same is_claimed =
@@ -61,7 +61,7 @@ arrival_by name owner job (Some d) is_other is_same is_claimed =
 
     by : (was : Option SpecVersion)
         → IsChangeAnswer (allowed_arrival (found_file d.protection (option_map (λ (v : SpecVersion). v.file) was))
-            job.ppn
+        job.ppn
         owner is_other is_same is_claimed)
         (if kept_out then replies.Refused 2
         else if not is_same && not (is_none was) then replies.Refused 4

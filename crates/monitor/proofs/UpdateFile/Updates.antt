@@ -213,7 +213,7 @@ module _ (d : DiskState) (map : MemoryMap) (s : State) (known : IsKnown d map s)
             present = h.absent ∙ ap is_none name;
             answer = reply_is w job place
                 ∙ ap (λ r. update_reply r
-                    (exceeds_limits (pack_of d) s place.ppn (present_cost (file_at s.files place)))) is
+                (exceeds_limits (pack_of d) s place.ppn (present_cost (file_at s.files place)))) is
                 ∙ (λ i. if nat_lt (space d.size) (known.booked_is i + present_cost (here i))
                 || exceeds_left s place.ppn (present_cost (here i)) then Refused 0o14 else Done);
           }

@@ -102,7 +102,7 @@ module _ (map : MemoryMap) (s : State) (limits : LimitsAre map s) (p : PendingVe
 
 module _ (d : DiskState) (map : MemoryMap) (s : State) (w : UnderKeys) (o : Output) (p : PendingVersion)
     (is : IsWriting d p (w.written o.pending.key)) (books : booked s ≡ map.known.table.booked)
-        (limits : LimitsAre map s)
+    (limits : LimitsAre map s)
     (n : ℕ) where
   test_is : finds_no_place (pack_of d) s (output_of w o) n
       ≡ crowds n (length_after p.version.words o.next n) (space d.size) (map.known.table.booked + rise p o.next n)
@@ -149,7 +149,7 @@ set_alike f g xs n y z same =
 
 module _ (pending : List (Option PendingVersion)) (jobs : List (Option Job)) (n : ℕ) (job : Job) (there : slot jobs n
     ≡ Some job) (ch : ℕ) (c : OpenChannel) (open_at : slot job.channels ch ≡ Some c) (o : Output)
-        (side : c.output ≡ Some o)
+    (side : c.output ≡ Some o)
     (keyed : AreKeyed pending jobs) (w : UnderKeys) (words left : List ℕ) where
   abbrev pub put_writing : Writing
   put_writing = record (w.written o.pending.key) {

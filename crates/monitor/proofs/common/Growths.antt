@@ -92,7 +92,7 @@ module _ (d : DiskState) (k : CurrentMap) (files : Files SpecVersion) (holds : H
     where
       by : {f : Directory File} (was : Option (Directory SpecVersion)) → get files e.0 ≡ was
           → option_map (map_directory (λ (v : SpecVersion). v.file)) was ≡ Some f
-              → size f.files ≡ length x.chain.entries
+          → size f.files ≡ length x.chain.entries
           → Matches files e.0 x
       by None is shown count = absurd (some_none (sym shown))
       by {f} (Some y) is shown count =
@@ -139,7 +139,7 @@ module _ (d : DiskState) (k : CurrentMap) (files : Files SpecVersion) (holds : H
   -- what creations add to it
   pub growths_are : (pending : List (Option PendingVersion))
       → sum_entries (λ ppn (x : Directory SpecVersion). directory_cost (size x.files + total (creates ppn) pending))
-          files
+      files
       ≡ sum_entries (λ ppn (x : Directory SpecVersion). directory_cost (size x.files + 0)) files
       + growths pending k.master.entries k.directories
   growths_are pending =

@@ -84,7 +84,7 @@ module _ (d d' : DiskState) (c c' : MemoryMap) (files : Files SpecVersion) (read
     (reads : AreRead d c files read) (whole : IsWholeMemory d.size c) (ppn : ℕ) (name : FileName) (to_ppn : ℕ)
     (to : FileName) (protection : ℕ) (is : MovesFile c c' ppn name to_ppn to protection) (x : SpecVersion)
     (at : file_at files (place_of ppn name) ≡ Some x) (home : Directory SpecVersion)
-        (housed : get files to_ppn ≡ Some home)
+    (housed : get files to_ppn ≡ Some home)
     (free : place_of to_ppn to ≢ place_of ppn name → file_at files (place_of to_ppn to) ≡ None)
     (keeps : KeepsRead d.contents d'.contents c) where
   abbrev old : Place

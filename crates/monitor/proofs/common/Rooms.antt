@@ -108,7 +108,7 @@ booked_alone : (files : Files SpecVersion) → HaveDistinctSerials (flat_map (λ
     → booked_of files [] [] ≡ cost_of_files (without_serials files)
 booked_alone files distinct =
     let size_is = ap directory_cost
-        (size-map_values nat_cmp_total (map_directory (λ (v : SpecVersion). v.file)) files) in
+    (size-map_values nat_cmp_total (map_directory (λ (v : SpecVersion). v.file)) files) in
     let sums = sum-map_values nat_cmp_total cost_of_directory (map_directory (λ (v : SpecVersion). v.file)) files in
     let directories = total_same (λ e. cost_of_directory (map_directory (λ (v : SpecVersion). v.file) e.1))
     (λ e. cost_in e.1) (λ e. shown e.1) (entries files) in

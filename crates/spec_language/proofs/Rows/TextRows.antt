@@ -168,7 +168,7 @@ logged_in s = (step small 0 s (Login 1 ten_twenty core_words)).1
 abbrev count_of : State → ℕ → Spoken
 count_of s n = (conduct small 1000 s
     (each at_start (lookup_events at_start foo_spec ++ list_events 128)
-        (counts at_start n (λ count. Say (prints (count ∷ [])))))).0
+    (counts at_start n (λ count. Say (prints (count ∷ [])))))).0
 
 counted : (count_of (logged_in (foo_of 0o057 300)) 3 ≡ prints (44 ∷ []))
     × (count_of (logged_in (foo_of 0o057 256)) 2 ≡ prints (128 ∷ []))

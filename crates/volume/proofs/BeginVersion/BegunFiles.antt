@@ -206,7 +206,7 @@ update_creates Append updates = refl
 -- If the directory and its version in memory decide whether there is room, so does the file.
 pub full_by_file : {X : Type 0} (size : ℕ) (c : MemoryMap) (kind : PendingKind) (prime : Prime) (file : File)
     (answer : Result X CallError) → IsWholeMemory size c → IsFileKnown c prime.ppn prime.file file
-        → is_update kind ≡ true
+    → is_update kind ≡ true
     → ((d : CurrentDirectory) → IsDirectoryOf c prime.ppn d → (old : Before) → IsNamed d prime.file old
     → is_create kind ≡ is_none old → (IsErrOf answer (Refused NoRoom)
     ↔ (space c.known.table.size < c.known.table.booked + begin_cost kind (entries_with c d prime.ppn) old)))

@@ -211,7 +211,7 @@ module _ (size : ℕ) (c c' : MemoryMap) (ppn : ℕ) (puts : List Put) (memory :
         let was = memory.apart n (let same = holds_same n in omega arith) in
         let chain = chain_times size k k' ppn puts memory.map removed n in
         let all = others_total size k k' ppn puts memory.map removed
-            (λ (x : CurrentDirectory). times n x.chain.blocks) in
+        (λ (x : CurrentDirectory). times n x.chain.blocks) in
         omega arith;
     fits = let few = memory.fits in let less = removed.booked in omega arith;
     booked =

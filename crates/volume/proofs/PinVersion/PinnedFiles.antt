@@ -141,7 +141,7 @@ at_rest_holds s c failed sound h ok =
 
 pub pinned_sound : (s : DiskState) (c c' : MemoryMap) (failed : Bool) (ppn : ℕ) (name : FileName) (key : ℕ)
     → IsSoundMemory s c failed → (is : IsKeyOf c ppn name key) → IsWholeMemory s.size c'
-        → c' ≡ record c { live = c'.live }
+    → c' ≡ record c { live = c'.live }
     → slot c'.live key ≡ Some (record is.version { readers = is.version.readers + 1 })
     → ((k : ℕ) → (k ≡ key → ⊥) → slot c'.live k ≡ slot c.live k) → IsSoundMemory s c' failed
 pinned_sound s c c' failed ppn name key sound is whole same here others = record {

@@ -104,7 +104,7 @@ current_stands size c whole key v is current n =
 -- with another number of readers
 pub counted_whole : (size : ℕ) (c : MemoryMap) (new : List (Option LiveVersion)) (key : ℕ) (v : LiveVersion)
     (readers : ℕ) → IsWholeMemory size c → slot c.live key ≡ Some v
-        → slot new key ≡ Some (record v { readers = readers })
+    → slot new key ≡ Some (record v { readers = readers })
     → ((k : ℕ) → (k ≡ key → ⊥) → slot new k ≡ slot c.live k) → IsWholeMemory size (record c { live = new })
 counted_whole size c new key v readers whole was now others = record {
   map = whole.map;

@@ -130,7 +130,7 @@ module _ {size : ℕ} {c c' : MemoryMap} {key : ℕ} {p : PendingVersion} {v : L
           let all = published_times size c.known c'.known p.prime.ppn p.prime.file v.at _
           (before is.old) puts whole.map is.published n in
           let part = total_place (λ (d : CurrentDirectory). times n d.chain.blocks) c.known.directories
-              is.published.place
+          is.published.place
           is.published.directory is.published.directory_at in
           let apart = kept.apart in
           omega arith

@@ -199,7 +199,7 @@ module _ (live live' : List (Option LiveVersion)) where
         (λ j q w at other was. stay (suc j) q w at (λ same. other (omega arith)) was) in
         (λ j. cons_option (now j) (rest j))
         ∙ sym (ap (λ (vs : List CurrentVersion). slice_set vs (suc i) (as_known v))
-            (knowns_first live k e.1 keys zip.0))
+        (knowns_first live k e.1 keys zip.0))
 
     set_keyed : (es : List SpecFileEntry) (keys : List ℕ) (i : ℕ) (e : SpecFileEntry) → v.at ≡ e.1 → v.is_current ≡ true
         → AreCurrent live es keys → StayBut live live' keys i

@@ -191,7 +191,7 @@ module _ (size : ℕ) (k k' : CurrentMap) (m : DiskMap) (ppn : ℕ) (name : File
 module _ (size : ℕ) (k k' : CurrentMap) (m : DiskMap) (ppn : ℕ) (name : FileName) (at : ℕ) (v : CurrentVersion)
     (old : Before) (puts : List Put) (whole : IsWholeMap size k) (is : IsPublished size k k' ppn name at v old puts)
     (c : Contents) (held : MatchesMap size k m c) (f : StoredFile)
-        (facts : facts_of f ≡ known_facts at v.prime v.version)
+    (facts : facts_of f ≡ known_facts at v.prime v.version)
     (version : IsVersion m.layout c (place_of ppn name) f) where
   pub publishing_leads : MatchesMap size k'
       (map_published m ppn (stored size k k' m ppn name at v old puts is held.known) is.directory'.chain.blocks name f)

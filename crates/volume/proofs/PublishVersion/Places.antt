@@ -82,7 +82,7 @@ entered_before (Some o) = refl
 
 pub primes_published : (size : ℕ) (c c' : MemoryMap) (key : ℕ) (p : PendingVersion) (words : ℕ)
     → (is : IsPublishedMemory size c c' key p words) → PrimesGoOn c c' p.prime.ppn p.prime.file is.at
-        is.makes_current.old
+    is.makes_current.old
 primes_published size c c' key p words is = record {
   others = λ q n differ. published_elsewhere size is.put.known c'.known p.prime.ppn p.prime.file is.at _
       (before is.makes_current.old) is.puts is.makes_current.published q n differ

@@ -87,7 +87,7 @@ module _ (s s' : DiskState) (k : CurrentMap) (In : ℕ → Type 0) (clear : (n :
       let same = files_are s k at.map f at.rest rests in
       leaves_weaker s s' (SettlesTo s.size (MatchesMap s.size k at.map)) (λ c. StandsOn (pack_of s) c f)
       (quiet_stands s s' (MatchesMap s.size k at.map)
-          (quiet_leaves In s s' (MatchesMap s.size k at.map) ignores not_gate
+      (quiet_leaves In s s' (MatchesMap s.size k at.map) ignores not_gate
       at.rest only_now modified))
       (λ c held. (held.0, held.1, (at.map, held.2.stands, same, pack_held s k at.map at.rest)))
 

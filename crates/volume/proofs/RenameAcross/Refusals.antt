@@ -71,7 +71,7 @@ module _ (m : LiveMap) (whole : IsWholeMemory m.table.size (memory_of m)) (ppn p
           → more ≡ growth (entries_with (memory_of m) x ppn)
       costs_more x there_x = more_is x (known_here
           ∙ ap Some (sym (same_directory m.table.size (memory_of m) ppn place w x dk whole there_x stands.is
-              known_here)))
+          known_here)))
 
       pub target_full : 0 < more → space m.table.size < m.table.booked + more
           → HasNoRoom m.table.size (memory_of m) ppn name

@@ -131,7 +131,7 @@ module _ (size : ℕ) (c c' : MemoryMap) (m : DiskMap) (ppn quota : ℕ) (puts :
       (λ here.
       let key : e.0 ≡ ppn = ap (λ (y : SpecMasterEntry). y.0) here.1 in
       let same : in_memory.0 ≡ x =
-          some_same (sym in_memory.1 ∙ ap (slice_get c.known.directories) (sym here.0) ∙ also) in (
+      some_same (sym in_memory.1 ∙ ap (slice_get c.known.directories) (sym here.0) ∙ also) in (
         changed,
         ap (get map_limited.directories) key ∙ get-insert_same nat_cmp_total m.directories ppn changed,
         subst (λ (y : CurrentDirectory). AgreesOnDirectory y changed) same

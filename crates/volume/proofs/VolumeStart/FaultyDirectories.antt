@@ -133,7 +133,7 @@ pub directory_fault : (size layout : ℕ) (contents : Contents) (all front rest 
     (directories : List CurrentDirectory) (marks before : ℕ → ℕ) (e : SpecMasterEntry) (error : VolumeError)
     → all ≡ front ++ e ∷ rest → EachOnce nat_cmp all → AreDirectoriesRead layout contents front directories marks before
     → IsFaultOfDirectory size layout contents before e.0 e.1.1 error
-        → IsFaultOfDirectories size layout contents marks all error
+    → IsFaultOfDirectories size layout contents marks all error
 directory_fault size layout contents all front rest directories marks before e error is once read = by_error error
   where
     entry : find nat_cmp e.0 all ≡ Some e.1
@@ -165,7 +165,7 @@ directory_fault size layout contents all front rest directories marks before e e
           once = once_read all rest reads whole once;
           read = all_directories_read layout contents all rest reads whole once
               (all_push (λ (x : SpecMasterEntry × ReadDirectory). IsEntryRead layout contents x.0 x.1) read.read r
-                  read.read_are
+              read.read_are
               (record { walk = met.walk; once = met.once; files = met.read }));
           twice =
               let a = met.twice in

@@ -88,7 +88,7 @@ directories_fault size contents layout first nodes entries marks error volume ho
         ⊎_elim
         (λ v. IsBadRetrieval.of_version layout place bad.prime there v)
         (λ other. IsBadRetrieval.of_another_place layout place
-            (subst (λ (p : ℕ). IsFileNamed size contents layout place p)
+        (subst (λ (p : ℕ). IsFileNamed size contents layout place p)
         (sym other.0) there) (subst (λ (p : ℕ). IsOtherPlace layout contents place p) (sym other.0) other.1)) bad.bad
 
     by_error : (er : VolumeError) → NamesInSpace size er → IsFaultOfDirectories size layout contents marks entries er

@@ -49,7 +49,7 @@ pub directory_found : (layout : ℕ) (contents : Contents) (ppn protection quota
     (chain : ChainState SpecFileEntry)
     (versions : List CurrentVersion) (marks between after : ℕ → ℕ)
     → protection < 512 → quota < quota_limit layout → IsChain name_cmp IsFileEntry chain
-        → IsOn file_words contents chain
+    → IsOn file_words contents chain
     → head_or_zero chain.blocks ≡ first → LeadsAlong file_words contents first (nodes_of chain.blocks chain.entries) 0
     → ((n : ℕ) → between n ≡ marks n + times n chain.blocks)
     → AreFilesRead layout contents ppn chain.entries versions between after
@@ -129,7 +129,7 @@ pub more_directories : (layout : ℕ) (contents : Contents) (entries : List Spec
     (directories : List CurrentDirectory)
     (marks before after : ℕ → ℕ) (e : SpecMasterEntry) (d : CurrentDirectory)
     → AreDirectoriesRead layout contents entries directories marks before
-        → IsDirectoryFound layout contents e d before after
+    → IsDirectoryFound layout contents e d before after
     → AreDirectoriesRead layout contents (entries ++ e ∷ []) (directories ++ d ∷ []) marks after
 more_directories layout contents entries directories marks before after e d read found =
     let x : ℕ × StoredDirectory = (e.0, found.found) in

@@ -81,7 +81,7 @@ pub all_read : (layout : ℕ) (contents : Contents) (ppn : ℕ) (all rest : List
 all_read layout contents ppn all rest files is once placed =
     let named : FileName × ReadFile → SpecFileEntry = λ e. (e.0, e.1.prime) in
     all_both (λ e. find name_cmp e.0 all ≡ Some e.1.prime) (HasPlace layout contents ppn)
-        (IsFileRead layout contents ppn all) files
+    (IsFileRead layout contents ppn all) files
     (λ e entry place. record { entry = entry; place_is = place.0; retrieved = place.1 })
     (all_of_map (λ (e : SpecFileEntry). find name_cmp e.0 all ≡ Some e.1) named files
     (found_in_front name_total all (map named files) rest is once)) placed
@@ -90,15 +90,15 @@ all_read layout contents ppn all rest files is once placed =
 pub files_read : (layout : ℕ) (contents : Contents) (ppn : ℕ) (entries : List SpecFileEntry)
     (versions : List CurrentVersion)
     (marks after : ℕ → ℕ) → EachOnce name_cmp entries
-        → (read : AreFilesRead layout contents ppn entries versions marks after)
+    → (read : AreFilesRead layout contents ppn entries versions marks after)
     → AllByRecursion (IsFileRead layout contents ppn entries) (map (as_read ppn) read.found)
 files_read layout contents ppn entries versions marks after once read =
     all_read layout contents ppn entries [] (map (as_read ppn) read.found)
-        (sym read.named ∙ sym (named_again ppn read.found)
+    (sym read.named ∙ sym (named_again ppn read.found)
     ∙ sym (append-nil _)) once
     (all_to_map (HasPlace layout contents ppn) (as_read ppn) read.found
     (all_each (λ y. IsVersion layout contents (place_of ppn y.0) y.1)
-        (λ y. HasPlace layout contents ppn (as_read ppn y)) read.found
+    (λ y. HasPlace layout contents ppn (as_read ppn y)) read.found
     (λ y v. (refl, v.retrieved)) read.whole))
 
 pub files_once : (ppn : ℕ) (entries : List SpecFileEntry) (found : List (FileName × StoredFile))
@@ -184,7 +184,7 @@ files_go_on view layout contents now ppn named es i e old new marks before after
     subst (λ (l : List SpecFileEntry). AreFilesRead layout contents ppn l (map view new) marks after)
     (sym (viewed_more named es i e below is))
     (subst (λ (l : List CurrentVersion). AreFilesRead layout contents ppn (map named (take i es) ++ named e ∷ []) l
-        marks after)
+    marks after)
     (sym (ap (map view) added.pushed ∙ map-append view old (added.added ∷ [])))
     (more_files layout contents ppn (map named (take i es)) (map view old) marks before after (named e)
     (view added.added) read f.found f.marked))

@@ -43,7 +43,7 @@ turn_pushed entries i e old new below is so_far pushed =
     ∙ (λ j. enumerate_from 0 (take i entries) ++ (places j, e) ∷ [])
     ∙ sym (enumerated_push 0 (take i entries) e)
     ∙ ap (enumerate_from 0)
-        (sym (take_more entries i e below ∙ ap (λ (y : EntryValue). take i entries ++ y ∷ []) (sym is)))
+    (sym (take_more entries i e below ∙ ap (λ (y : EntryValue). take i entries ++ y ∷ []) (sym is)))
 
 -- the places of what was read, and one more
 pub places_more : {A B : Type 0} (f : A → ℕ) (g : B → ℕ) (ts : List B) (i : ℕ) (t : B) (old new : List A)
@@ -75,7 +75,7 @@ placed_in_order placed sorted vs places moved rising are =
     let stored : PlacedVersion → LoadedVersion = λ p. p.stored in
     let long : length placed ≡ length sorted = sym (length_permutation placed sorted moved) in
     let ranged : map place sorted ≡ range_with_len 0 (length sorted) =
-        rising_range place 0 (length sorted) sorted rising
+    rising_range place 0 (length sorted) sorted rising
     (λ k. times_moved (map place placed) (map place sorted) (IsPermutation-map place placed sorted moved) k
     ∙ times_moved (range_with_len 0 (length placed)) (map place placed) places k
     ∙ ap (λ n. times k (range_with_len 0 n)) long) in
@@ -243,7 +243,7 @@ module _ (es : List SpecFileEntry) (turns : List (ℕ × SpecFileEntry)) (read :
               let facts = here.known in
               let blocks : reaches_in_file n here.file.1
               ≡ times n (blocks_reached here.file.1.prime w.version) =
-                  ap (λ k. times n (k.prime ∷ (k.ribs ++ k.blocks))) facts in
+              ap (λ k. times n (k.prime ∷ (k.ribs ++ k.blocks))) facts in
               let prime = ap (λ (e : SpecFileEntry). times n (blocks_reached e.1 w.version)) first in
               let more = rest.reached n in
               omega arith;

@@ -106,7 +106,7 @@ rest_read s s' Q size reads rest = record {
 -- What is known of the contents holds for all that a crash may leave.
 pub rest_known : (s s' s'' : DiskState) (known : CurrentMap) (m : DiskMap) → s'.size ≡ s.size → s''.size ≡ s'.size
     → IsRecovered s.size s.contents s'.contents → NoneOpen s' → OnlyReads s' s''
-        → MatchesMap s'.size known m s'.contents
+    → MatchesMap s'.size known m s'.contents
     → IsAtRest s'' known
 rest_known s s' s'' known m size size' recovered none reads held = record {
   map = m;
@@ -145,7 +145,7 @@ rest_files s s' s'' files size size' recovered none reads stands =
 -- They stood for some files before the recovery, since what was recovered is what settled.
 pub stood_before : (s s' s'' : DiskState) (known : CurrentMap) (m : DiskMap) → s'.size ≡ s.size → s''.size ≡ s'.size
     → IsRecovered s.size s.contents s'.contents → NoneOpen s' → OnlyReads s' s''
-        → MatchesMap s'.size known m s'.contents
+    → MatchesMap s'.size known m s'.contents
     → (files : Files File) × StandsOn (pack_of s'') s.contents files × RestsAt s'' files
 stood_before s s' s'' known m size size' recovered none reads held =
     let pack = pack_in m.layout s.size in

@@ -25,7 +25,7 @@ absent_at [] i k v is none = cc
 absent_at (e ∷ es) zero k v is none =
     let same : e ≡ (k, v) = some_same is in
     some_none (sym (find_first nat_cmp_total e es) ∙ ap (λ (x : SpecMasterEntry). find nat_cmp x.0 (e ∷ es)) same
-        ∙ none)
+    ∙ none)
 absent_at (e ∷ es) (suc i) k v is none = absent_at es i k v is (find_tail_none nat_cmp e es k none)
 
 pub one_place : (es : List SpecMasterEntry) (i j k : ℕ) (v w : ℕ × ℕ) → EachOnce nat_cmp es

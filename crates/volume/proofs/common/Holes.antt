@@ -121,7 +121,7 @@ moved_growths pending (e ∷ es) (d ∷ ds) same =
 pub hole_growths : (pending : List (Option PendingVersion)) (es : List SpecMasterEntry) (ds : List CurrentDirectory)
     (i : ℕ)
     (e : SpecMasterEntry) (d : CurrentDirectory) → length ds ≡ length es → slice_get es i ≡ Some e
-        → slice_get ds i ≡ Some d
+    → slice_get ds i ≡ Some d
     → growths pending (hole i es) (hole i ds) + share pending e.0 d ≡ growths pending es ds
 hole_growths pending [] ds i e d same here there = absurd (some_none (sym here))
 hole_growths pending (x ∷ es) [] i e d same here there = absurd (some_none (sym there))

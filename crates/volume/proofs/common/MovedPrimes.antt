@@ -13,18 +13,18 @@ use Rattle.volume.specs.Common.{Facts, facts_of, known_facts, CurrentVersion, Is
 
 module _ (old : ℕ × CurrentVersion) (f : StoredFile) (facts : facts_of f ≡ known_facts old.0 old.1.prime old.1.version)
   where
-  pub prime_at : f.prime ≡ old.0
-  prime_at = ap (λ (x : Facts). x.prime) facts
+    pub prime_at : f.prime ≡ old.0
+    prime_at = ap (λ (x : Facts). x.prime) facts
 
-  pub prime_reached : (n : ℕ) → n ≡ old.0 → 0 < times n (f.prime ∷ [])
-  prime_reached n same = let head = times_head n f.prime [] (same ∙ sym prime_at) in omega arith
+    pub prime_reached : (n : ℕ) → n ≡ old.0 → 0 < times n (f.prime ∷ [])
+    prime_reached n same = let head = times_head n f.prime [] (same ∙ sym prime_at) in omega arith
 
-  pub file_parts : (n : ℕ) → reaches_in_file n f ≡ times n (f.prime ∷ []) + times n (f.extensions ++ f.blocks)
-  file_parts n = omega arith
+    pub file_parts : (n : ℕ) → reaches_in_file n f ≡ times n (f.prime ∷ []) + times n (f.extensions ++ f.blocks)
+    file_parts n = omega arith
 
-  -- a block that isn't the file's isn't its prime block
-  pub not_prime : (n : ℕ) → reaches_in_file n f ≡ 0 → n ≡ old.0 → ⊥
-  not_prime n none same = let some = prime_reached n same in let parts = file_parts n in omega arith
+    -- a block that isn't the file's isn't its prime block
+    pub not_prime : (n : ℕ) → reaches_in_file n f ≡ 0 → n ≡ old.0 → ⊥
+    not_prime n none same = let some = prime_reached n same in let parts = file_parts n in omega arith
 
 -- What is known of it then, and what the disk has.
 

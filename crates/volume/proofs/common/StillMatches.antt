@@ -82,7 +82,7 @@ begun_body contents kind old has = by (is_update kind) old has
 
 pub begun_sound : (s : DiskState) (c c' : MemoryMap) (failed : Bool) (size key : ℕ) (kind : PendingKind) (prime : Prime)
     → IsSoundMemory s c failed → size ≡ c'.known.table.size → IsWholeMemory size c'
-        → (begins : IsBegun c c' key kind prime)
+    → (begins : IsBegun c c' key kind prime)
     → (s.honest → failed ≡ false → (v : ℕ × CurrentVersion) → begins.old ≡ Some v
     → HasSomeBody s.contents v.1.version)
     → (s.honest → failed ≡ false → (begun kind prime begins.old).prime.moment.date < date_limit (pack_of s).layout)

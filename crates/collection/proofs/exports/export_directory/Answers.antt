@@ -17,7 +17,7 @@ returns-in-Ok-entries g c = inl (record {
       (λ m. machine_of (g.D.Disk.state m.disk) m.map m.failed m.jobs) c.args.directory.now.task.now
       c.args.directory.now.owner es (g.W.Write.contents c.args.writer.now) (g.W.Write.contents c.fill_folder.new.writer)
       c.entries.new.monitor c.fill_folder.new.monitor c.fill_folder.result) c.as_slice.ensures.value
-          c.fill_folder.ensures;
+      c.fill_folder.ensures;
 })
 
 pub returns : goal.returns

@@ -6,7 +6,7 @@ use Rattle.collection.proofs.exports.export_entries.Given as goal
 abbrev pub invariant-loop-entry : goal.invariant-loop-entry
 invariant-loop-entry g l =
     Done (IsEntryDone (g.H.HostFiles.files l.fn.host) (λ m. machine_of (g.D.Disk.state m.disk) m.map m.failed m.jobs)
-        l.fn.directory.task.now
+    l.fn.directory.task.now
     l.fn.directory.owner)
     l.fn.entries (g.W.Write.contents l.fn.writer) l.fn.monitor l.entry-index l.tally (g.W.Write.contents l.writer)
-        l.monitor
+    l.monitor

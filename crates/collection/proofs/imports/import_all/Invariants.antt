@@ -7,6 +7,6 @@ use Rattle.collection.proofs.imports.import_all.Given as goal
 abbrev pub invariant-loop-place : goal.invariant-loop-place
 invariant-loop-place g l =
     Done (IsDoneWith (g.H.HostFiles.files l.fn.host) (λ m. machine_of (g.D.Disk.state m.disk) m.map m.failed m.jobs)
-        l.fn.task)
+    l.fn.task)
     (map (λ p. p.now) l.fn.task.paths.items) (g.W.Write.contents l.fn.writer) l.fn.monitor l.place l.tally
     (g.W.Write.contents l.writer) l.monitor

@@ -12,17 +12,17 @@ returns-in-None-clause-done g c = record {
   done = let_in (g.H.HostFiles.files c.args.host.now) (λ m. machine_of (g.D.Disk.state m.disk) m.map m.failed m.jobs)
       c.args.task.now
       (map (λ p. p.now) c.args.task.now.paths.items) (g.W.Write.contents c.args.writer.now)
-          (g.W.Write.contents c.import_all.new.writer)
+      (g.W.Write.contents c.import_all.new.writer)
       c.make_directory-made.new.monitor c.import_all.new.monitor c.import_all.result c.make_directory-made.result
-          c.in-None.ensures.none c.import_all.ensures;
+      c.in-None.ensures.none c.import_all.ensures;
 }
 
 pub returns-in-None-clause-goes : goal.returns-in-None-clause-goes
 returns-in-None-clause-goes g c = import_run_goes (λ m. machine_of (g.D.Disk.state m.disk) m.map m.failed m.jobs)
     (monitors_stand g.D.Disk.state) (g.H.HostFiles.files c.args.host.now) c.args.task.now _
-        (g.W.Write.contents c.args.writer.now)
+    (g.W.Write.contents c.args.writer.now)
     (g.W.Write.contents c.import_all.new.writer) c.args.monitor.now c.import_all.new.monitor c.import_all.result
-        (returns-in-None-clause-done g c)
+    (returns-in-None-clause-done g c)
 
 pub returns-in-Some-clause-done : goal.returns-in-Some-clause-done
 returns-in-Some-clause-done g c = record {
@@ -32,7 +32,7 @@ returns-in-Some-clause-done g c = record {
   done = shut_out (g.H.HostFiles.files c.args.host.now) (λ m. machine_of (g.D.Disk.state m.disk) m.map m.failed m.jobs)
       c.args.task.now
       (map (λ p. p.now) c.args.task.now.paths.items) (g.W.Write.contents c.args.writer.now)
-          (g.W.Write.contents c.refuse_owner.new.writer)
+      (g.W.Write.contents c.refuse_owner.new.writer)
       c.make_directory-made.new.monitor c.refuse_owner.result c.make_directory-made.result c.in-Some.reply
       c.in-Some.ensures.some.0 c.in-Some.ensures.some.1 c.refuse_owner.ensures;
 }
@@ -40,6 +40,6 @@ returns-in-Some-clause-done g c = record {
 pub returns-in-Some-clause-goes : goal.returns-in-Some-clause-goes
 returns-in-Some-clause-goes g c = import_run_goes (λ m. machine_of (g.D.Disk.state m.disk) m.map m.failed m.jobs)
     (monitors_stand g.D.Disk.state) (g.H.HostFiles.files c.args.host.now) c.args.task.now _
-        (g.W.Write.contents c.args.writer.now)
+    (g.W.Write.contents c.args.writer.now)
     (g.W.Write.contents c.refuse_owner.new.writer) c.args.monitor.now c.make_directory-made.new.monitor
-        c.refuse_owner.result (returns-in-Some-clause-done g c)
+    c.refuse_owner.result (returns-in-Some-clause-done g c)

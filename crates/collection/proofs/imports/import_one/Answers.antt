@@ -6,20 +6,24 @@ pub returns-in-Ok-read : goal.returns-in-Ok-read
 returns-in-Ok-read g c =
     let named = subst (λ o. IfSome o (λ named. (named.path ≡ c.args.path)
     × IsNameFor c.args.task.now.shortens c.args.path.now named.text.items named.name)) c.in-Some.is
-        c.in-Ok.ensures.some in
+    c.in-Ok.ensures.some in
     inl (
       c.in-Some.named.text.items,
       c.in-Some.named.name,
       named.1,
-      inl (c.in-Ok-read.source, rw (sym c.most_read.ensures) c.in-Ok-read.ensures, rw (sym named.0)
-          c.put_source.ensures),
+      inl (
+        c.in-Ok-read.source,
+        rw (sym c.most_read.ensures) c.in-Ok-read.ensures,
+        rw (sym named.0)
+            c.put_source.ensures,
+      ),
     )
 
 pub returns : goal.returns
 returns g c =
     let named = subst (λ o. IfSome o (λ named. (named.path ≡ c.args.path)
     × IsNameFor c.args.task.now.shortens c.args.path.now named.text.items named.name)) c.in-Some.is
-        c.in-Ok.ensures.some in
+    c.in-Ok.ensures.some in
     inl (
       c.in-Some.named.text.items,
       c.in-Some.named.name,

@@ -11,8 +11,8 @@ returns-in_default g c =
 pub returns-in-None : goal.returns-in-None
 returns-in-None g c = rw (c.in-Some.is)
     (spoke_stranger g.S.FileService.machine g.met.S.FileService.stands (λ bytes. bytes.items)
-        c.refuse_not_logged_in.result
+    c.refuse_not_logged_in.result
     c.args.moment c.args.tally.now c.refuse_not_logged_in.new.tally _ c.args.user.now c.in-Some.command
-        (λ owner. search rules)
+    (λ owner. search rules)
     c.in-None.is c.refuse_not_logged_in.ensures.refused c.refuse_not_logged_in.ensures.broke
-        c.refuse_not_logged_in.ensures.text)
+    c.refuse_not_logged_in.ensures.text)

@@ -18,6 +18,6 @@ returns g c next =
     led_on g.S.FileService.machine _ _ _
     (each c.args.moment (lookup_events c.args.moment c.args.spec ++ c.args.changes.now) next) behind _
     (led_first g.S.FileService.machine _ _ c.args.moment c.lookup_events.result
-        (lookup_events c.args.moment c.args.spec)
+    (lookup_events c.args.moment c.args.spec)
     c.args.changes.now next _ c.lookup_events.ensures (c.in_ok-ask_all.ensures c.args.moment behind))
     (c.ask_all-2.ensures c.args.moment next)

@@ -10,6 +10,6 @@ returns g c = spoke_concluded g.S.FileService.machine g.met.S.FileService.stands
     (λ bytes. bytes.items) c.conclude.result c.args.moment c.args.tally.now c.conclude.new.tally _ _ _ c.args.me
     (ProtectLine c.args.spec c.args.protection) _ (λ acts said p. (p, refl))
     (led_each g.S.FileService.machine _ _ c.args.moment
-        (lookup_events c.args.moment c.args.spec ++ c.protect_events-changes.result) _
+    (lookup_events c.args.moment c.args.spec ++ c.protect_events-changes.result) _
     (ends c.args.moment ok) _ (ap (λ l. lookup_events c.args.moment c.args.spec ++ l) c.protect_events-changes.ensures)
     (c.change-protected.ensures (ends c.args.moment ok))) c.conclude.ensures

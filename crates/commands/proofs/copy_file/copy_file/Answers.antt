@@ -41,5 +41,5 @@ returns g c next =
     (led_on g.S.FileService.machine _ _ _ (until_end c.args.moment (closed_then c.args.moment next))
     (closed_then c.args.moment next) _ (c.in_ok-find_end.ensures (closed_then c.args.moment next))
     (led_each g.S.FileService.machine _ _ c.args.moment (c.close_event.result ∷ [])
-        (call_event c.args.moment (Close 2 0)
+    (call_event c.args.moment (Close 2 0)
     ∷ []) next _ (λ i. c.close_event.ensures i ∷ []) (c.ask_all.ensures c.args.moment next))))

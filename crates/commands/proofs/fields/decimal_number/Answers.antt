@@ -16,14 +16,14 @@ returns-then-digit-lt48-clause-none c = λ n s.
 pub overflow_mul-number : goal.overflow_mul-number
 overflow_mul-number c =
     let small : c.loop-digit.number < 100000 = decimal_small c.loop-digit.number c.args.text.now
-        c.loop-digit.digit-index
+    c.loop-digit.digit-index
     c.args.most c.loop-digit-test.true c.if-most-text.false c.requires c.loop-digit.invariant in
     omega (arith, small)
 
 pub overflow_add-number : goal.overflow_add-number
 overflow_add-number c =
     let small : c.loop-digit.number < 100000 = decimal_small c.loop-digit.number c.args.text.now
-        c.loop-digit.digit-index
+    c.loop-digit.digit-index
     c.args.most c.loop-digit-test.true c.if-most-text.false c.requires c.loop-digit.invariant in
     omega (arith, small)
 

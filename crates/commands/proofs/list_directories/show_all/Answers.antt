@@ -42,4 +42,4 @@ returns-in_err-extend_from_slice-clause-err g c =
 pub returns-clause-ok : goal.returns-clause-ok
 returns-clause-ok g c = shows_done g.S.FileService.machine c.args.style c.args.owners.now c.args.tally.now _ _
     c.loop-owner.owner-index c.loop-owner.bytes.items c.loop-owner.tally c.loop-owner-test.false
-        c.loop-owner.invariant.0
+    c.loop-owner.invariant.0

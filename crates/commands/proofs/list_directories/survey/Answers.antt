@@ -7,7 +7,7 @@ returns-in-Ok g c = survey_carried g.S.FileService.machine (λ bytes. bytes.item
     c.args.moment c.args.style c.args.owners.now c.args.tally.now c.show_all.new.tally c.operator.result
     c.operator.ensures
     c.requires c.show_all.ensures.reason
-        (c.in-Ok.ensures c.args.moment (directories_plan c.args.style c.args.owners.now silent)) c.show_all.ensures.ok
+    (c.in-Ok.ensures c.args.moment (directories_plan c.args.style c.args.owners.now silent)) c.show_all.ensures.ok
     c.show_all.ensures.err
 
 pub returns-in-Err : goal.returns-in-Err

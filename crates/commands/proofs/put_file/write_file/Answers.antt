@@ -68,5 +68,5 @@ returns g c next =
     (led_on g.S.FileService.machine _ _ _ created filled _ (c.in_ok-create.ensures filled)
     (led_on g.S.FileService.machine _ _ _ filled closed _ (c.in_ok-fill_all.ensures closed)
     (led_each g.S.FileService.machine _ _ c.args.moment (c.close_event.result ∷ [])
-        (call_event c.args.moment (Close 2 0)
+    (call_event c.args.moment (Close 2 0)
     ∷ []) next _ (λ i. c.close_event.ensures i ∷ []) (c.ask_all.ensures c.args.moment next)))))

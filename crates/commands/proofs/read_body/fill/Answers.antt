@@ -12,7 +12,7 @@ loop-place-preserved g c =
     fills_more g.S.FileService.machine block_address 128 c.args.word c.args.service.now c.loop-place.service
     c.ask_all.new.service c.loop-place.place c.loop-place-test.true c.loop-place.invariant
     c.fill_event.result c.fill_event.ensures c.ask_all.result c.ask_all.ensures c.in_ok-ask_all.field-0
-        c.in_ok-ask_all.was
+    c.in_ok-ask_all.was
 
 pub returns : goal.returns
 returns g c = fills_all g.S.FileService.machine block_address 128 c.args.word c.args.service.now c.loop-place.service

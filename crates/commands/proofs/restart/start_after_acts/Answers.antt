@@ -25,7 +25,7 @@ returns g c h begun acts goes size s serves starts stopped =
           (λ m. ServesFiles (g.E.Disk.state m.disk) m.map m.failed m.jobs files) c.start.result
           (start_in (λ m. (g.E.Disk.state m.disk).honest) (λ m. g.E.Disk.state m.disk) _ e
           (pack_of (g.D.Disk.state begun.disk)) files (sym size)
-              (subst (λ n. StandsOn (pack_in layout n) e.contents files)
+          (subst (λ n. StandsOn (pack_in layout n) e.contents files)
           size found.2) c.start.result c.start.ensures.same c.start.ensures.stood)
           (ok_each (IsStart files) (λ m. (g.E.Disk.state m.disk).honest)
           (λ u m. Serves (g.E.Disk.state m.disk) m.map m.failed m.jobs (Serving u)) c.start.result

@@ -31,7 +31,7 @@ returns-in_err-flush-clause-err g c =
     (λ seen h. subst (λ (l : List Line). IsParsedLine c.args.language c.args.moment l c.parse_line-parsed.result)
     (c.last.ensures seen h) c.parse_line-parsed.ensures)
     (told_unwritten g.S.FileService.machine _ _ _ (g.W.Write.contents c.execute.new.writer) _ c.args.moment _ _ _ _ _ _
-        _
+    _
     c.execute.new.session.waiting.items _ c.in_ok-execute.ensures.told c.in_err-flush.field-0.0
     c.in_err-flush.ensures.written))
 

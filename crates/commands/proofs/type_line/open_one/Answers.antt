@@ -24,5 +24,5 @@ returns g c = λ next.
     opened g.S.FileService.machine _ _ c.args.moment c.args.spec
     (asked_done g.S.FileService.machine c.args.moment c.lookup_events.ensures c.in_ok-ask_all.ensures) _
     (asked_done g.S.FileService.machine c.args.moment c.list_events.ensures c.in_ok-ask_all-2.ensures) _
-        c.examine.result
+    c.examine.result
     (λ then. c.examine.ensures c.args.moment then) next

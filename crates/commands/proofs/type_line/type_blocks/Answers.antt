@@ -23,7 +23,7 @@ returns-in_err-type_runs g c =
     (read_listed g.S.FileService.machine c.args.moment (c.args.count / blocks_at_once) (blocks_at_once * 128) _
     c.ask_all.new.service _ _ _ _
     (asked_done g.S.FileService.machine c.args.moment c.list_events.ensures c.in_ok-ask_all.ensures)
-        c.type_runs.ensures)
+    c.type_runs.ensures)
 
 pub returns-in_err-ask_all-2 : goal.returns-in_err-ask_all-2
 returns-in_err-ask_all-2 g c =

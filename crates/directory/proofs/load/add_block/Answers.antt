@@ -12,7 +12,7 @@ returns-in_default-clause-bad g c k is =
     let (next, es, s) = c.is_directory_block.ensures.yes c.if-not-is_directory_block.false in
     let count : c.bits-count.result ≡ length es = c.bits-count.ensures.value
     ∙ count_of g.E.ChainEntry.words_of g.met.E.ChainEntry.apart g.E.ChainEntry.IsEntry block next es
-        c.index-block-1.result s in (
+    c.index-block-1.result s in (
       cc,
       stuck g.E.ChainEntry.order g.E.ChainEntry.words_of g.E.ChainEntry.IsEntry g.E.ChainEntry.target c.args.size block
           (map g.E.ChainEntry.view c.args.entries.now) next es s c.bits.result
@@ -27,7 +27,7 @@ returns-then-not-is_first-clause-bad g c k is =
     let (next, es, s) = c.is_directory_block.ensures.yes c.if-not-is_directory_block.false in
     let count : c.bits-count.result ≡ length es = c.bits-count.ensures.value
     ∙ count_of g.E.ChainEntry.words_of g.met.E.ChainEntry.apart g.E.ChainEntry.IsEntry block next es
-        c.index-block-1.result s in (
+    c.index-block-1.result s in (
       cc,
       empty_behind g.E.ChainEntry.order g.E.ChainEntry.words_of g.E.ChainEntry.IsEntry g.E.ChainEntry.target c.args.size
           block
@@ -44,13 +44,13 @@ returns-in-Ok-clause-ok g c =
     let (next, es, s) = c.is_directory_block.ensures.yes c.if-not-is_directory_block.false in
     let count : c.bits-count.result ≡ length es = c.bits-count.ensures.value
     ∙ count_of g.E.ChainEntry.words_of g.met.E.ChainEntry.apart g.E.ChainEntry.IsEntry block next es
-        c.index-block-1.result s in
+    c.index-block-1.result s in
     adds g.E.ChainEntry.order g.E.ChainEntry.words_of g.E.ChainEntry.IsEntry g.E.ChainEntry.target c.args.size block old
-        next
+    next
     es s c.in-Some.next (map g.E.ChainEntry.view c.push_entries.new.entries)
     (c.in-Some.ensures.some ∙ c.bits.ensures.value
     ∙ head_of g.E.ChainEntry.words_of g.met.E.ChainEntry.apart g.E.ChainEntry.IsEntry block next es
-        c.index-block-0.result s)
+    c.index-block-0.result s)
     (λ some. sym count ∙ same_number c.bits-count.result 42 (c.in-Some.ensures.full some)) c.in-Some.ensures.inside
     (λ some. elim c.else-count-eq0.branch [
       | else-count-eq0-via-then-count-eq0+else-not-is_first w ↦ absurd
@@ -66,7 +66,7 @@ returns-in-Err-Outside-clause-bad g c k is =
     let (next, es, s) = c.is_directory_block.ensures.yes c.if-not-is_directory_block.false in
     let count : c.bits-count.result ≡ length es = c.bits-count.ensures.value
     ∙ count_of g.E.ChainEntry.words_of g.met.E.ChainEntry.apart g.E.ChainEntry.IsEntry block next es
-        c.index-block-1.result s in (
+    c.index-block-1.result s in (
       cc,
       IsBadWords.entry_outside next es s
           (c.in-Err-Outside.ensures.outside (ap Err c.in-Err-Outside.field-0-is) next es s (sym count)),
@@ -78,7 +78,7 @@ returns-in-Err-Again-clause-bad g c k is =
     let (next, es, s) = c.is_directory_block.ensures.yes c.if-not-is_directory_block.false in
     let count : c.bits-count.result ≡ length es = c.bits-count.ensures.value
     ∙ count_of g.E.ChainEntry.words_of g.met.E.ChainEntry.apart g.E.ChainEntry.IsEntry block next es
-        c.index-block-1.result s in (
+    c.index-block-1.result s in (
       cc,
       IsBadWords.key_again next es s c.requires.good.each_once
           (c.in-Err-Again.ensures.again (ap Err c.in-Err-Again.field-0-is) next es s (sym count)),

@@ -19,7 +19,7 @@ pub returns-in_err-push_entry-clause-outside : goal.returns-in_err-push_entry-cl
 returns-in_err-push_entry-clause-outside g c is next es s many =
     let p = err_from_is_err_and c.from_residual.result c.from_residual.ensures.1 in
     one_outside g.met.E.ChainEntry.total g.E.ChainEntry.words_of g.met.E.ChainEntry.apart g.E.ChainEntry.IsEntry
-        g.E.ChainEntry.target
+    g.E.ChainEntry.target
     c.args.size c.args.block.now c.entry_words.result c.args.count c.loop-i.i c.loop-i-test.true
     c.told-block c.entry_words.ensures next es s many
     (c.push_entry.ensures.outside (passed_on c.from_residual.result c.push_entry.result p.0
@@ -29,7 +29,7 @@ pub returns-in_err-push_entry-clause-again : goal.returns-in_err-push_entry-clau
 returns-in_err-push_entry-clause-again g c is next es s many =
     let p = err_from_is_err_and c.from_residual.result c.from_residual.ensures.1 in
     one_again g.met.E.ChainEntry.total g.E.ChainEntry.words_of g.met.E.ChainEntry.apart g.E.ChainEntry.IsEntry
-        g.E.ChainEntry.target
+    g.E.ChainEntry.target
     c.args.size c.args.block.now c.entry_words.result c.args.count c.loop-i.i c.loop-i-test.true
     c.told-block c.entry_words.ensures next es s many (map g.E.ChainEntry.view c.args.entries.now)
     (map g.E.ChainEntry.view c.loop-i.entries) (c.loop-i.invariant.so_far next es s many)

@@ -26,11 +26,11 @@ unreachable-requires g c =
     let inside = inside_seen g.E.ChainEntry.view c.args.list.now c.args.place (rising_inside g.E.ChainEntry.order
     items c.args.order.now.items c.requires.rising c.args.place c.requires.there) in
     gap_none g.met.E.ChainEntry.total g.met.E.ChainEntry.exact items c.key-key.result c.args.order.now.items
-        c.in-Err.field-0
+    c.in-Err.field-0
     (subst (λ ps. IsGap g.E.ChainEntry.order items c.key-key.result ps c.in-Err.field-0) c.deref.ensures.value
     c.in-Err.ensures.gap) c.args.place c.requires.there
     (key_at g.E.ChainEntry.order g.E.ChainEntry.view c.args.list.now c.args.place c.index-list-place.result
-        c.key-key.result
+    c.key-key.result
     inside
     c.index-list-place.is c.key-key.ensures)
 

@@ -23,7 +23,7 @@ leave-requires-2-clause-rising g c =
     left_rising g.met.E.ChainEntry.total g.met.E.ChainEntry.exact (map g.E.ChainEntry.view c.args.list.now) c.args.place
     c.args.order.now.items c.leave.new.order.items
     (seen_inside g.E.ChainEntry.view c.args.list.now c.args.place c.requires.within) c.requires.index
-        c.leave.ensures.left
+    c.leave.ensures.left
 
 pub leave-requires-2-clause-there : goal.leave-requires-2-clause-there
 leave-requires-2-clause-there g c =
@@ -31,7 +31,7 @@ leave-requires-2-clause-there g c =
     left_others g.met.E.ChainEntry.total g.met.E.ChainEntry.exact (map g.E.ChainEntry.view c.args.list.now) c.args.place
     c.args.order.now.items c.leave.new.order.items
     (seen_inside g.E.ChainEntry.view c.args.list.now c.args.place c.requires.within) c.requires.index
-        c.leave.ensures.left
+    c.leave.ensures.left
     (length c.args.list.now - 1) (let h = c.requires.within in omega arith)
     (λ s. c.if-place-last.false (sym s))
 
@@ -39,9 +39,9 @@ pub enter-requires-clause-rising : goal.enter-requires-clause-rising
 enter-requires-clause-rising g c =
     let items = map g.E.ChainEntry.view c.args.list.now in
     left_twice g.met.E.ChainEntry.total g.met.E.ChainEntry.exact items c.args.place c.args.order.now.items
-        c.leave.new.order.items
+    c.leave.new.order.items
     (seen_inside g.E.ChainEntry.view c.args.list.now c.args.place c.requires.within) c.requires.index
-        c.leave.ensures.left
+    c.leave.ensures.left
     (length c.args.list.now - 1) c.leave-2.new.order.items c.leave-2.ensures.left
 
 pub enter-requires-clause-absent : goal.enter-requires-clause-absent
@@ -51,10 +51,10 @@ enter-requires-clause-absent g c =
     let h = c.requires.within in
     let many = length-map list g.E.ChainEntry.view in
     let own = key_at g.E.ChainEntry.order g.E.ChainEntry.view list (length list - 1) c.index-list-last.result
-        c.key.result
+    c.key.result
     (omega arith) c.index-list-last.is c.key.ensures in
     left_both g.met.E.ChainEntry.total g.met.E.ChainEntry.exact items c.args.place c.args.order.now.items
-        c.leave.new.order.items
+    c.leave.new.order.items
     (seen_inside g.E.ChainEntry.view list c.args.place c.requires.within) c.requires.index c.leave.ensures.left
     (length list - 1) c.leave-2.new.order.items (c.key.result, own.0) (omega arith) own.1
     (λ s. c.if-place-last.false (sym s)) c.leave-2.ensures.left
@@ -78,5 +78,5 @@ returns-clause-index g c x =
     c.requires.index c.leave.ensures.left
     (subst (λ n. IsLeft n c.leave.new.order.items c.leave-2.new.order.items) (sym same_last) c.leave-2.ensures.left)
     (subst (λ k. IsInserted g.E.ChainEntry.order items k c.args.place c.leave-2.new.order.items c.enter.new.order.items)
-        key
+    key
     c.enter.ensures.entered))

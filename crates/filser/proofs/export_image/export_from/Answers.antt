@@ -7,7 +7,7 @@ use Rattle.filser.proofs.export_image.export_from.Goals as goal
 pub returns-in-Ok-clause-was_honest : goal.returns-in-Ok-clause-was_honest
 returns-in-Ok-clause-was_honest g c h = c.in-Ok.ensures.same.was_honest
     (c.export_files-exported.ensures.goes.goes.was_honest
-        (subst (λ disk. (g.D.Disk.state disk).honest) c.finish.ensures h))
+    (subst (λ disk. (g.D.Disk.state disk).honest) c.finish.ensures h))
 
 pub returns-in-Ok-clause-ran : goal.returns-in-Ok-clause-ran
 returns-in-Ok-clause-ran g c =
@@ -36,7 +36,7 @@ returns-in-Ok-clause-ran g c =
           c.args.task.now
           (g.W.Write.contents c.args.writer.now) (g.W.Write.contents c.export_files-exported.new.writer) c.in-Ok.monitor
           c.export_files-exported.new.monitor c.export_files-exported.result) c.of-shelf.ensures
-              c.export_files-exported.ensures.done;
+          c.export_files-exported.ensures.done;
       ends = c.ending-status.ensures.ends;
       ended = c.finish.ensures;
     })

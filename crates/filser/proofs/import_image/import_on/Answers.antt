@@ -7,7 +7,7 @@ use Rattle.filser.proofs.import_image.import_on.Goals as goal
 pub returns-in-Ok-clause-was_honest : goal.returns-in-Ok-clause-was_honest
 returns-in-Ok-clause-was_honest g c h = c.in-Ok.ensures.same.was_honest
     (c.import_files-imported.ensures.goes.goes.was_honest
-        (subst (λ disk. (g.D.Disk.state disk).honest) c.finish.ensures h))
+    (subst (λ disk. (g.D.Disk.state disk).honest) c.finish.ensures h))
 
 pub returns-in-Ok-clause-ran : goal.returns-in-Ok-clause-ran
 returns-in-Ok-clause-ran g c =
@@ -35,9 +35,9 @@ returns-in-Ok-clause-ran g c =
       transcript = subst (λ host. IsImportRun ((g.H.Host.facts host).files) (machine_over g.D.Disk.state)
           c.args.task.now
           (map (λ p. p.now) c.args.task.now.paths.items) (g.W.Write.contents c.args.writer.now)
-              (g.W.Write.contents c.import_files-imported.new.writer) c.in-Ok.monitor
+          (g.W.Write.contents c.import_files-imported.new.writer) c.in-Ok.monitor
           c.import_files-imported.new.monitor c.import_files-imported.result) c.of-shelf.ensures
-              c.import_files-imported.ensures.done;
+          c.import_files-imported.ensures.done;
       ends = c.ending-status.ensures.ends;
       ended = c.finish.ensures;
     })

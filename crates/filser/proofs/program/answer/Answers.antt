@@ -37,7 +37,7 @@ returns-in-Err-clause-ran g c = rw c.without_disks.ensures (record {
     prints_only (fault_of command_line (map (λ w. w.now) c.args.words.now))
         (subcommand_of command_line (map (λ w. w.now) c.args.words.now)) c.in-Err.error _ _ c.in-Err.ensures.usage
         (λ wrong bad. (c.in-Err.ensures.bad wrong bad).1) c.refuse-status.ensures.unprinted
-            c.refuse-status.ensures.mistake,
+        c.refuse-status.ensures.mistake,
     spares_named _ _ _ _ c.of_words-free.result.output c.refuse-status.ensures.spared c.of_words-free.ensures.output,
     λ wrong is r asks. (c.in-Err.ensures.bad wrong (bad_error c.in-Err.error wrong is)).2 r asks,
   );

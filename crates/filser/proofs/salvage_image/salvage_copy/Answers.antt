@@ -23,7 +23,7 @@ returns-in-Ok-clause-ran g c =
             c.in-Ok.found.findings.items (g.W.Write.contents c.args.writer.now)
             (g.W.Write.contents c.save_survey-saved.new.writer) c.survey_disk.new.disk
             c.save_survey-saved.new.copied.disk c.save_survey-saved.result) c.of-shelf.ensures
-                c.save_survey-saved.ensures;
+            c.save_survey-saved.ensures;
         ends = c.ending-status.ensures.ends;
       },
       λ stored stands. p.found tt stored stands,

@@ -15,7 +15,7 @@ returns-then-is_buffered-clause-count c =
     (byte_size (mode_number channel.mode)) (ap is_err c.in_ok-ring_check.was) c.bytes.ensures
     c.ring_check.ensures.words in
     ring_asked c.args.core.now channel c.args.address (sym c.is_buffered.ensures ∙ c.if-is_buffered.true) found.0
-        found.1
+    found.1
 
 pub returns-in-Some-clause-count : goal.returns-in-Some-clause-count
 returns-in-Some-clause-count c =
@@ -25,7 +25,7 @@ returns-in-Some-clause-count c =
     (list_asked c.args.core.now c.args.channel.now c.args.address (sym c.is_buffered.ensures ∙ c.if-is_buffered.false)
     (c.in-Some.area ∷ []) c.in-Some.ensures.area
     (All-cons (λ (x : Area). 0 < x.count) c.in-Some.area [] c.in-Some.ensures.some
-        (All-nil (λ (x : Area). 0 < x.count))))
+    (All-nil (λ (x : Area). 0 < x.count))))
 
 pub returns-clause-count : goal.returns-clause-count
 returns-clause-count c =

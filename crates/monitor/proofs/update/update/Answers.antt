@@ -123,7 +123,7 @@ returns-in-Ok-clause-reads g c =
     (subst (KeepsReading between.live new.live c.args.job.now) (sym c.set_channel.ensures)
     (renewed_reading between new c.args.reading.1 c.renew-renewed.result c.args.reading.1.ppn c.args.reading.1.file
     c.prime_of-prime.result.protection c.renew-renewed.ensures.renews.0 c.args.job.now c.args.number _ c.args.reading.0
-        _
+    _
     c.requires.there
     c.requires.side refl))
 

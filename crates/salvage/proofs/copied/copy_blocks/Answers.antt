@@ -17,11 +17,11 @@ loop-n-preserved g c =
           (copying_unread (g.D.Disk.state c.args.disk.now) (g.D.Disk.state c.loop-n.disk)
           (g.D.Disk.state c.copy_block.new.disk) c.loop-n.n c.loop-n.copy c.copy_block.new.copy c.loop-n.unread inside
           c.loop-n.invariant (p.unread w.if-not-copy_block.true) p.reads p.same (p.failed w.if-not-copy_block.true)
-              p.size)
+          p.size)
       | else-not-copy_block w ↦ subst (IsCopying (g.D.Disk.state c.args.disk.now) (g.D.Disk.state c.copy_block.new.disk)
           (c.loop-n.n + 1) c.copy_block.new.copy) (sym w.unread-is)
           (copying_read (g.D.Disk.state c.args.disk.now) (g.D.Disk.state c.loop-n.disk)
           (g.D.Disk.state c.copy_block.new.disk) c.loop-n.n c.loop-n.copy c.copy_block.new.copy c.loop-n.unread inside
           c.loop-n.invariant (λ h. p.read h w.if-not-copy_block.false) p.size p.reads p.same
-              (p.served w.if-not-copy_block.false))
+          (p.served w.if-not-copy_block.false))
     ]

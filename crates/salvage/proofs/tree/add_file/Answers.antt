@@ -13,7 +13,7 @@ returns-in-Ok-clause-read g c h directories names named new_directory new_name r
     let f : SavedFile = record { at = c.args.entry.now.prime; stored = c.in-Ok.stored } in
     file_added_on s.size (layout_number c.args.layout) s.contents directories c.args.ppn names c.args.files.now.items
     c.push_file.new.files.items c.args.findings.now.items (file_view c.args.entry.now) f c.push_file.result r
-        new_directory
+    new_directory
     new_name named c.requires.inside (c.in-Ok.ensures.ok h) refl c.in-Ok.ensures.ppn c.in-Ok.ensures.name
     c.push_file.ensures.pushed
 
@@ -31,7 +31,7 @@ returns-in-Err-clause-read g c h directories names named new_directory new_name 
     let e = c.args.entry.now in
     file_told_on s.size (layout_number c.args.layout) s.contents directories c.args.ppn names c.args.files.now.items
     c.args.findings.now.items c.report_refusal.new.findings.items (file_view e) c.in-Err.refusal c.report_refusal.result
-        r
+    r
     (file_refused s.size (layout_number c.args.layout) s.contents c.args.ppn e.name e.prime c.read_named.result
     c.in-Err.refusal c.in-Err.is c.requires.inside named c.read_named.ensures.only (c.read_named.ensures.bad_version h)
     c.read_named.ensures.named)

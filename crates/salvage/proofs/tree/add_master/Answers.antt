@@ -37,7 +37,7 @@ returns-in-Err-clause-tree g c h home =
     let ensures = c.load_chain.ensures in
     none_read_on s.size (layout_number c.args.home.layout) s.contents c.args.files.now.items c.args.findings.now.items
     c.report_refusal.new.findings.items c.in-Err.refusal c.report_refusal.result c.requires.no_files
-        c.requires.no_findings
+    c.requires.no_findings
     (master_refused s.size c.args.home.layout s.contents c.args.home.master c.load_chain.result c.in-Err.refusal
     c.in-Err.is c.requires.volume home ensures.only (ensures.bad h) (ensures.twice h) ensures.named)
     c.report_refusal.ensures.told c.report_refusal.ensures.fault

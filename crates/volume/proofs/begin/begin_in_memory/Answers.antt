@@ -33,7 +33,7 @@ returns-in-Some-clause-room c d there prior named fits =
 pub begin_cost-cost-requires-clause-few : goal.begin_cost-cost-requires-clause-few
 begin_cost-cost-requires-clause-few c d at =
     let few = entries_few c.args.memory.now.table.size (memory_of c.args.memory.now) c.args.prime.ppn
-        c.in_ok-place.place
+    c.in_ok-place.place
     d c.requires.whole at in
     omega arith
 

@@ -10,7 +10,7 @@ pub overflow_add-entries : goal.overflow_add-entries
 overflow_add-entries c =
     let memory = c.args.memory.now in
     let at = viewed_there (live_directory memory.versions.slots) memory.directories.items c.args.place
-        c.index.result.now
+    c.index.result.now
     c.index.result.now c.requires.inside c.index.ensures in
     let few = c.requires.few (live_directory memory.versions.slots c.index.result.now) at in
     let many = length-map c.index.result.now.chain.entries file_view in
@@ -22,7 +22,7 @@ pub returns-clause-value : goal.returns-clause-value
 returns-clause-value c d is =
     let memory = c.args.memory.now in
     let at = viewed_there (live_directory memory.versions.slots) memory.directories.items c.args.place
-        c.index.result.now
+    c.index.result.now
     c.index.result.now c.requires.inside c.index.ensures in
     let same : live_directory memory.versions.slots c.index.result.now ≡ d = some_same (sym at ∙ is) in
     let many = length-map c.index.result.now.chain.entries file_view in

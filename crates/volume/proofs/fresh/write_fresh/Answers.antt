@@ -36,5 +36,5 @@ loop-n-preserved g c =
           (c.loop-n.invariant.written (c.write.ensures.same.was_honest h)) (c.write.ensures.writes h).contents
           (c.in_ok-write.ensures.put h
           ∙ ap Some (c.fresh_block.ensures
-              ∙ ap (λ (size : ℕ). fresh_words (layout_number c.args.layout) size c.loop-n.n) c.blocks-size.ensures));
+          ∙ ap (λ (size : ℕ). fresh_words (layout_number c.args.layout) size c.loop-n.n) c.blocks-size.ensures));
     }

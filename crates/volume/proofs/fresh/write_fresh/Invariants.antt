@@ -12,5 +12,5 @@ invariant-loop-n g l = record {
       → Modifies (λ n. (l.from ≤ n) × (n < l.end)) (g.D.Disk.state l.initial.disk) (g.D.Disk.state l.disk);
   written : (g.D.Disk.state l.disk).honest → (n : ℕ) → l.from ≤ n → n < l.n
       → (g.D.Disk.state l.disk).contents n ≡ Some
-          (fresh_words (layout_number l.layout) (g.D.Disk.state l.initial.disk).size n);
+      (fresh_words (layout_number l.layout) (g.D.Disk.state l.initial.disk).size n);
 }

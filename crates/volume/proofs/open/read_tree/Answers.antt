@@ -26,22 +26,22 @@ returns-in_err-directories-clause-fault g c h home =
     handed (SettledRefuses s.size s.contents) c.from_residual-in_err-directories.result c.read_directories.result
     p.0 c.in_err-directories.field-0.0 p.1 p.2 c.in_err-directories.was
     (found_named (IsFaultOfDirectories now.size (layout_number c.args.layout) now.contents marks
-        (map master_view c.entries.result.now))
+    (map master_view c.entries.result.now))
     (NamesInSpace now.size) (SettledRefuses s.size s.contents) c.read_directories.result
     (λ error met inside. directories_fault s.size s.contents (layout_number c.args.layout) c.args.first
-        (nodes_of chain.blocks chain.entries)
+    (nodes_of chain.blocks chain.entries)
     chain.entries marks error c.requires.volume home
     (c.in_ok-master.ensures.walk (c.read_directories.ensures.disk.same.was_honest h))
     (chain_items master_words (IsMasterEntryOf (layout_number c.args.layout)) chain c.in_ok-master.ensures.chain)
     (λ n. c.in_ok-master.ensures.marked n ∙ ap (times n) (sym (numbers_of chain.blocks chain.entries)))
     (subst (λ (n : ℕ). NamesInSpace n error) c.load_master.ensures.disk.same.size inside)
     (subst (λ (es : List SpecMasterEntry). IsFaultOfDirectories s.size (layout_number c.args.layout) s.contents marks es
-        error)
+    error)
     (ap (map master_view) c.entries.ensures.value)
     (subst (λ contents. IsFaultOfDirectories s.size (layout_number c.args.layout) contents marks
-        (map master_view c.entries.result.now) error) same
+    (map master_view c.entries.result.now) error) same
     (subst (λ (n : ℕ). IsFaultOfDirectories n (layout_number c.args.layout) now.contents marks
-        (map master_view c.entries.result.now) error)
+    (map master_view c.entries.result.now) error)
     c.load_master.ensures.disk.same.size met))))
     (c.read_directories.ensures.fault h) c.read_directories.ensures.named)
 

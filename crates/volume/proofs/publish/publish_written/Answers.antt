@@ -83,7 +83,7 @@ commit_edit-requires-clause-in_range g c =
     let made = made_current_of c.requires.sound (c.make_current-current.ensures there.0 there.1) c.in-Some.ensures in
     subst (λ (n : ℕ). AllByRecursion (IsTarget n) (targets c.make_current-current.new.set))
     (sym c.write_retrieval_blocks-written.ensures.same.size)
-        (both_in_range (published_both c.requires.sound.whole made))
+    (both_in_range (published_both c.requires.sound.whole made))
 
 changed : (g : Given.Over) (c : goal.After-commit_edit g) (p : PendingVersion)
     → pending_at (memory_of c.args.map.now).pending c.args.key ≡ Some p → (body : List ℕ)

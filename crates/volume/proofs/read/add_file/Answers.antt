@@ -13,10 +13,10 @@ returns-in_err-stored-clause-fault g c h =
     let p = err_from_is_err_and c.from_residual.result c.from_residual.ensures.1 in
     let place = place_of c.args.ppn c.args.turn.now.entry.name in
     handed (IsFaultOfFile s.size (layout_number c.args.layout) s.contents c.args.reached.now place
-        c.args.turn.now.entry.prime) c.from_residual.result
+    c.args.turn.now.entry.prime) c.from_residual.result
     c.read_file.result p.0 c.in_err-stored.field-0.0 p.1 p.2 c.in_err-stored.was
     (file_met_by s.size (layout_number c.args.layout) s.contents c.args.reached.now place c.args.turn.now.entry.prime
-        c.read_file.result
+    c.read_file.result
     c.read_file.ensures.only (c.read_file.ensures.bad_version h) (c.read_file.ensures.twice h)
     (c.read_file.ensures.bad_data h))
 
@@ -43,7 +43,7 @@ returns-clause-space g c only =
     let s = g.D.Disk.state c.args.disk.now in
     let v = c.in_ok-stored.stored.version in
     space_more s.size c.args.reached.now c.read_file.new.reached (c.args.turn.now.entry.prime ∷ (v.ribs ++ v.blocks))
-        only (
+    only (
       c.requires.inside,
       all_append (InSpace s.size) v.ribs v.blocks c.in_ok-stored.ensures.ribs_inside
           c.in_ok-stored.ensures.blocks_inside,

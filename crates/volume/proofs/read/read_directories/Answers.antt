@@ -40,12 +40,12 @@ returns-in_err-add_directory-clause-fault g c h =
     (c.loop-entry.invariant.disk.keeps (c.add_directory.ensures.disk.same.was_honest h)).contents in
     let marks = digit_at c.loop-entry.reached in
     handed (IsFaultOfDirectories s.size (layout_number c.args.layout) s.contents (digit_at c.args.reached.now)
-        (map master_view c.args.entries.now))
+    (map master_view c.args.entries.now))
     c.from_residual.result c.add_directory.result p.0 c.in_err-add_directory.field-0.0 p.1 p.2
     c.in_err-add_directory.was
     (found_on (IsFaultOfDirectory now.size (layout_number c.args.layout) now.contents marks e.ppn e.first)
     (IsFaultOfDirectories s.size (layout_number c.args.layout) s.contents (digit_at c.args.reached.now)
-        (map master_view c.args.entries.now))
+    (map master_view c.args.entries.now))
     c.add_directory.result
     (λ error met. directory_fault s.size (layout_number c.args.layout) s.contents (map master_view c.args.entries.now)
     (map master_view (take i c.args.entries.now)) (map master_view (drop (i + 1) c.args.entries.now))
@@ -119,7 +119,7 @@ loop-entry-init g c =
       read = λ h. subst (λ (ds : List CurrentDirectory). AreDirectoriesRead (layout_number c.args.layout) s.contents []
           ds (digit_at c.args.reached.now)
           (digit_at c.args.reached.now)) (sym none)
-              (no_directories (layout_number c.args.layout) s.contents (digit_at c.args.reached.now));
+          (no_directories (layout_number c.args.layout) s.contents (digit_at c.args.reached.now));
     }
 
 pub returns-in_err-add_directory-clause-named : goal.returns-in_err-add_directory-clause-named

@@ -18,6 +18,6 @@ invariant-loop-entry g l = record {
       ≡ digit_at l.fn.reached n + total (reaches_in_known n) (map known_directory l.directories.items);
   read : (g.D.Disk.state l.disk).honest
       → AreDirectoriesRead (layout_number l.layout) (g.D.Disk.state l.fn.disk).contents
-          (map master_view (take l.entry-index l.entries))
+      (map master_view (take l.entry-index l.entries))
       (map known_directory l.directories.items) (digit_at l.fn.reached) (digit_at l.reached);
 }

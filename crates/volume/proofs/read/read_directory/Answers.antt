@@ -21,7 +21,7 @@ returns-in_err-chain-clause-fault g c h =
     let s = g.D.Disk.state c.args.disk.now in
     let p = err_from_is_err_and c.from_residual.result c.from_residual.ensures.1 in
     handed (IsFaultOfDirectory s.size (layout_number c.args.layout) s.contents (digit_at c.args.reached.now)
-        c.args.entry.now.ppn
+    c.args.entry.now.ppn
     c.args.entry.now.first) c.from_residual.result c.load_files.result p.0 c.in_err-chain.field-0.0 p.1
     p.2 c.in_err-chain.was
     (c.load_files.ensures.fault h (layout_number c.args.layout) c.args.entry.now.ppn)
@@ -29,10 +29,10 @@ returns-in_err-chain-clause-fault g c h =
 pub read_files-requires-clause-inside : goal.read_files-requires-clause-inside
 read_files-requires-clause-inside g c =
     subst (λ (es : List SpecFileEntry). AllByRecursion (λ e. InSpace (g.D.Disk.state c.load_files.new.disk).size e.1)
-        es)
+    es)
     (ap (map file_view) (sym c.entries.ensures.value))
     (subst (λ (n : ℕ). AllByRecursion (λ (e : SpecFileEntry). InSpace n e.1)
-        (map file_view c.in_ok-chain.chain.entries))
+    (map file_view c.in_ok-chain.chain.entries))
     (sym c.load_files.ensures.disk.same.size) c.in_ok-chain.ensures.targets)
 
 pub returns-in_err-versions-clause-fault : goal.returns-in_err-versions-clause-fault
@@ -46,24 +46,24 @@ returns-in_err-versions-clause-fault g c h =
     let ppn = c.args.entry.now.ppn in
     let chain = viewed file_view c.in_ok-chain.chain in
     handed (IsFaultOfDirectory s.size (layout_number c.args.layout) s.contents (digit_at c.args.reached.now) ppn
-        c.args.entry.now.first)
+    c.args.entry.now.first)
     c.from_residual-in_err-versions.result c.read_files.result p.0 c.in_err-versions.field-0.0 p.1 p.2
     c.in_err-versions.was
     (found_on (IsFaultOfFiles now.size (layout_number c.args.layout) now.contents marks ppn
-        (map file_view c.entries.result.now))
+    (map file_view c.entries.result.now))
     (IsFaultOfDirectory s.size (layout_number c.args.layout) s.contents (digit_at c.args.reached.now) ppn
-        c.args.entry.now.first) c.read_files.result
+    c.args.entry.now.first) c.read_files.result
     (λ error met. files_fault s.size (layout_number c.args.layout) s.contents (digit_at c.args.reached.now) marks ppn
-        c.args.entry.now.first
+    c.args.entry.now.first
     chain error c.in_ok-chain.ensures.chain (c.in_ok-chain.ensures.walk (c.read_files.ensures.disk.same.was_honest h))
     c.in_ok-chain.ensures.marked
     (subst (λ (es : List SpecFileEntry). IsFaultOfFiles s.size (layout_number c.args.layout) s.contents marks ppn es
-        error)
+    error)
     (ap (map file_view) c.entries.ensures.value)
     (subst (λ contents. IsFaultOfFiles s.size (layout_number c.args.layout) contents marks ppn
-        (map file_view c.entries.result.now) error) same
+    (map file_view c.entries.result.now) error) same
     (subst (λ (n : ℕ). IsFaultOfFiles n (layout_number c.args.layout) now.contents marks ppn
-        (map file_view c.entries.result.now) error)
+    (map file_view c.entries.result.now) error)
     c.load_files.ensures.disk.same.size met))))
     (c.read_files.ensures.fault h))
 
@@ -86,13 +86,13 @@ returns-clause-read g c h =
     let chain = viewed file_view c.in_ok-chain.chain in
     let versions = map known_version c.in_ok-versions.versions.items in
     let read : AreFilesRead (layout_number c.args.layout) s.contents ppn chain.entries versions
-        (digit_at c.load_files.new.reached)
+    (digit_at c.load_files.new.reached)
     (digit_at c.read_files.new.reached) =
     subst (λ (es : List SpecFileEntry). AreFilesRead (layout_number c.args.layout) s.contents ppn es versions
-        (digit_at c.load_files.new.reached)
+    (digit_at c.load_files.new.reached)
     (digit_at c.read_files.new.reached)) (ap (map file_view) c.entries.ensures.value)
     (subst (λ (contents : Contents). AreFilesRead (layout_number c.args.layout) contents ppn
-        (map file_view c.entries.result.now) versions
+    (map file_view c.entries.result.now) versions
     (digit_at c.load_files.new.reached) (digit_at c.read_files.new.reached)) same
     (c.in_ok-versions.ensures.read h)) in
     let entry = c.args.entry.now in

@@ -35,9 +35,9 @@ returns-in_err-add_file-clause-fault g c h =
     (map turn_view c.args.turns.now)) c.from_residual.result c.add_file.result p.0 c.in_err-add_file.field-0.0
     p.1 p.2 c.in_err-add_file.was
     (found_on (IsFaultOfFile now.size (layout_number c.args.layout) now.contents c.loop-turn.reached
-        (place_of c.args.ppn e.entry.name) e.entry.prime)
+    (place_of c.args.ppn e.entry.name) e.entry.prime)
     (IsFaultOfFiles s.size (layout_number c.args.layout) s.contents (digit_at c.args.reached.now) c.args.ppn
-        (map turn_view c.args.turns.now))
+    (map turn_view c.args.turns.now))
     c.add_file.result
     (λ error met. file_fault s.size (layout_number c.args.layout) s.contents c.args.ppn (map turn_view c.args.turns.now)
     (map turn_view (take i c.args.turns.now)) (map turn_view (drop (i + 1) c.args.turns.now))
@@ -46,7 +46,7 @@ returns-in_err-add_file-clause-fault g c h =
     (viewed_split turn_view c.args.turns.now i e c.loop-turn-test.true c.turn-item.is) c.requires.once
     (c.loop-turn.invariant.read (c.add_file.ensures.disk.same.was_honest h))
     (subst (λ contents. IsFaultOfFile s.size (layout_number c.args.layout) contents c.loop-turn.reached
-        (place_of c.args.ppn e.entry.name) e.entry.prime error)
+    (place_of c.args.ppn e.entry.name) e.entry.prime error)
     same (subst (λ (n : ℕ). IsFaultOfFile n (layout_number c.args.layout) now.contents c.loop-turn.reached
     (place_of c.args.ppn e.entry.name) e.entry.prime error) c.loop-turn.invariant.disk.same.size met)))
     (c.add_file.ensures.fault h))

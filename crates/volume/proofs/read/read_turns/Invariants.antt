@@ -19,6 +19,6 @@ invariant-loop-turn g l = record {
       + reaches_in_entries n (map turn_view (take l.turn-index l.turns)) (map placed_known l.read.items);
   read : (g.D.Disk.state l.disk).honest
       → AreFilesRead (layout_number l.layout) (g.D.Disk.state l.fn.disk).contents l.ppn
-          (map turn_view (take l.turn-index l.turns))
+      (map turn_view (take l.turn-index l.turns))
       (map placed_known l.read.items) (digit_at l.fn.reached) (digit_at l.reached);
 }

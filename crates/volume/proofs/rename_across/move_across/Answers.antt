@@ -87,5 +87,5 @@ returns-clause-held g c =
     let v = c.move_to_directory.ensures.0 in
     let moves = c.move_to_directory.ensures.1 in
     version_held (memory_of c.args.memory.now) (memory_of c.move_to_directory.new.memory) c.args.key v moves.prime
-        moves.there
+    moves.there
     moves.here moves.others

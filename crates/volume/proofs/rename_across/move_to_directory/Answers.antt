@@ -23,7 +23,7 @@ leave-requires-clause-aligned c =
 pub leave-requires-clause-may_leave : goal.leave-requires-clause-may_leave
 leave-requires-clause-may_leave c =
     may_leave c.args.memory.now c.arrive.new.memory c.requires.whole c.args.moved.ppn c.args.moved.name
-        c.args.moved.to_ppn
+    c.args.moved.to_ppn
     c.args.moved.to c.args.key c.requires.there c.requires.apart c.arrive.new.set c.arrive.ensures
 
 pub leave-requires-clause-booked : goal.leave-requires-clause-booked
@@ -43,7 +43,7 @@ move_version-requires-clause-there c =
 pub move_version-requires-clause-room : goal.move_version-requires-clause-room
 move_version-requires-clause-room c =
     moves_few c.args.memory.now c.arrive.new.memory c.requires.whole c.args.moved.ppn c.args.moved.name
-        c.args.moved.to_ppn
+    c.args.moved.to_ppn
     c.args.moved.to c.args.key c.requires.there c.requires.apart c.arrive.new.set c.arrive.ensures
     c.leave.new.memory c.leave.new.set c.leave.ensures
 

@@ -45,7 +45,7 @@ returns-in-Ok-clause-rest g c h =
     (c.read_map.ensures.disk.same.was_honest h) in
     let none : NoneOpen s1 = c.in-Ok.ensures.settled (c.read_map.ensures.disk.same.was_honest h) in
     ok_on (λ read. (m : DiskMap) × MatchesMap s1.size (known_of read) m s1.contents
-        × (m.layout ≡ layout_number read.layout))
+    × (m.layout ≡ layout_number read.layout))
     (λ read. IsAtRest s2 (known_of read)) c.read_map.result
     (λ read held. rest_known s s1 s2 (known_of read) held.0 c.recover.ensures.same.size
     c.read_map.ensures.disk.same.size
@@ -57,7 +57,7 @@ returns-in-Ok-clause-layout g c h =
     let s2 = g.D.Disk.state c.read_map.new.disk in
     let reads = c.read_map.ensures.disk.reads h in
     ok_on (λ read. (m : DiskMap) × MatchesMap s1.size (known_of read) m s1.contents
-        × (m.layout ≡ layout_number read.layout))
+    × (m.layout ≡ layout_number read.layout))
     (λ read. layout_number read.layout ≡ (pack_of s2).layout) c.read_map.result
     (λ read held. sym held.2 ∙ sym (layout_is s1.size s1.contents _ held.1.stands.mapped.home)
     ∙ sym (homes_layout s1 s2 c.read_map.ensures.disk.same.size (λ n low. reads.still.contents n)))
@@ -97,7 +97,7 @@ returns-in-Ok-clause-stood g c h =
     (c.read_map.ensures.disk.same.was_honest h) in
     let none : NoneOpen s1 = c.in-Ok.ensures.settled (c.read_map.ensures.disk.same.was_honest h) in
     ok_on (λ read. (m : DiskMap) × MatchesMap s1.size (known_of read) m s1.contents
-        × (m.layout ≡ layout_number read.layout))
+    × (m.layout ≡ layout_number read.layout))
     (λ read. (files : Files File)
     × StandsOn (pack_of s2) s.contents files × RestsAt s2 files) c.read_map.result
     (λ read held. stood_before s s1 s2 (known_of read) held.0 c.recover.ensures.same.size

@@ -10,5 +10,5 @@ returns-clause-done g c is =
     subst (λ new. HasDone (λ m. machine_of (g.D.Disk.state m.disk) m.map m.failed m.jobs) old new
     (deposit_events c.args.first c.args.words.now)) (sym c.deposit_all.ensures.kept)
     (words_done g.D.Disk.state g.met.D.Disk.only_now old.disk old.map old.failed old.layout c.args.words.now
-        c.args.first old.jobs
+    c.args.first old.jobs
     c.deposit_all.new.self.jobs (c.deposit_all.ensures.done is))

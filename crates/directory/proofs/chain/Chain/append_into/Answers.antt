@@ -12,7 +12,7 @@ push_block-requires-clause-spare g c =
     (subst (λ r. IfSome c.args.block (λ _. IsSpareFor (length c.args.self.now.blocks) r))
     (sym (ap (λ r. r.blocks) c.reserve.view_is))
     (room_block g.E.ChainEntry.view c.args.self.now (g.E.ChainEntry.view c.args.entry).0 c.args.reserve
-        c.requires.reserve
+    c.requires.reserve
     c.requires.absent c.args.block c.requires.block))
 
 pub invariant_of-self : goal.invariant_of-self

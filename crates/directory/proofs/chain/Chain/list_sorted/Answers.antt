@@ -14,7 +14,7 @@ bounds-entries-place g c =
 pub offset_bounds-entries-place : goal.offset_bounds-entries-place
 offset_bounds-entries-place g c =
     let h = place_inside g.E.ChainEntry.order g.E.ChainEntry.view c.entries-entries.result.now
-        c.places-place-items.result.now
+    c.places-place-items.result.now
     c.loop-place.place-index 0
     (subst (λ es. IsIndex g.E.ChainEntry.order (map g.E.ChainEntry.view es) c.places-place-items.result.now)
     (ap (λ s. s.entries) c.self.view_is ∙ sym c.entries-entries.ensures.value) c.places-place-items.ensures)

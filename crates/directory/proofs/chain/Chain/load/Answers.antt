@@ -39,14 +39,14 @@ returns-in_err-next-clause-bad g c h k is =
     let e = c.read_on.ensures.bad h k (passed_on c.from_residual.result c.read_on.result p.0 c.in_err-next.field-0.0
     (BadDirectory k) is p.1 p.2 c.in_err-next.was) in
     bad_of g.E.ChainEntry.order g.E.ChainEntry.words_of g.E.ChainEntry.IsEntry g.E.ChainEntry.target
-        c.blocks-size.result s.size
+    c.blocks-size.result s.size
     s.contents c.args.first k next c.blocks-size.ensures e.0
     (bad_chain g.E.ChainEntry.order g.E.ChainEntry.words_of g.E.ChainEntry.IsEntry g.E.ChainEntry.target
-        c.blocks-size.result
+    c.blocks-size.result
     now.honest s.contents c.args.reached.now c.args.first c.loop-next.reached c.loop-next.blocks.items entries next
     c.loop-next.invariant.loading some (c.read_on.ensures.same.was_honest h)
     (bad_moved g.E.ChainEntry.order g.E.ChainEntry.words_of g.E.ChainEntry.IsEntry g.E.ChainEntry.target
-        c.blocks-size.result
+    c.blocks-size.result
     s.contents now.contents next entries
     (c.loop-next.invariant.reads (c.read_on.ensures.same.was_honest h)).still.contents e.1))
 
@@ -61,7 +61,7 @@ returns-in_err-next-clause-twice g c h k is =
     (BlockTwice k) is p.1 p.2 c.in_err-next.was) in
     subst (IsTwiceInChain g.E.ChainEntry.words_of s.contents c.args.reached.now c.args.first) (sym e.0)
     (twice_in_chain g.E.ChainEntry.order g.E.ChainEntry.words_of g.E.ChainEntry.IsEntry g.E.ChainEntry.target
-        c.blocks-size.result
+    c.blocks-size.result
     (g.D.Disk.state c.loop-next.disk).honest s.contents c.args.reached.now c.args.first c.loop-next.reached
     c.loop-next.blocks.items entries next
     c.loop-next.invariant.loading some (c.read_on.ensures.same.was_honest h) e.1)
@@ -86,14 +86,14 @@ pub returns-in_err-next-clause-whole : goal.returns-in_err-next-clause-whole
 returns-in_err-next-clause-whole g c h nodes w k is =
     let s = g.D.Disk.state c.args.disk.now in
     whole_not_bad g.E.ChainEntry.order g.E.ChainEntry.words_of g.met.E.ChainEntry.apart g.E.ChainEntry.IsEntry
-        g.E.ChainEntry.target
+    g.E.ChainEntry.target
     s.size s.contents c.args.reached.now c.args.first nodes w k (returns-in_err-next-clause-bad g c h k is)
 
 pub returns-in_err-next-clause-once : goal.returns-in_err-next-clause-once
 returns-in_err-next-clause-once g c h nodes w k is =
     let s = g.D.Disk.state c.args.disk.now in
     whole_not_twice g.E.ChainEntry.order g.E.ChainEntry.words_of g.met.E.ChainEntry.apart g.E.ChainEntry.IsEntry
-        g.E.ChainEntry.target
+    g.E.ChainEntry.target
     s.size s.contents c.args.reached.now c.args.first nodes w k (returns-in_err-next-clause-twice g c h k is)
 
 pub returns-in_err-next-clause-reads : goal.returns-in_err-next-clause-reads
@@ -129,7 +129,7 @@ loop-next-preserved g c =
           c.blocks-size.result
           new.honest s.contents c.args.reached.now c.args.first c.loop-next.reached c.loop-next.blocks.items old next
           (loading_less g.E.ChainEntry.order g.E.ChainEntry.words_of g.E.ChainEntry.IsEntry g.E.ChainEntry.target
-              c.blocks-size.result
+          c.blocks-size.result
           now.honest new.honest c.read_on.ensures.same.was_honest s.contents c.args.reached.now c.loop-next.reached
           c.args.first
           c.loop-next.blocks.items old next c.loop-next.invariant.loading) some c.read_on.new.reached
@@ -137,7 +137,7 @@ loop-next-preserved g c =
           c.read_on.ensures.marked c.in_ok-next.ensures.blocks
           c.in_ok-next.ensures.fresh
           (reads_moved g.E.ChainEntry.order g.E.ChainEntry.words_of g.E.ChainEntry.IsEntry g.E.ChainEntry.target
-              c.blocks-size.result
+          c.blocks-size.result
           new.honest new.honest s.contents now.contents next c.in_ok-next.next old
           (map g.E.ChainEntry.view c.read_on.new.entries) (λ h. h)
           (λ h. (c.loop-next.invariant.reads (c.read_on.ensures.same.was_honest h)).still.contents)
@@ -149,10 +149,10 @@ returns-clause-on g c h =
     let s = g.D.Disk.state c.args.disk.now in
     let blocks = c.loop-next.blocks.items in
     subst (λ es. IsOn g.E.ChainEntry.words_of s.contents
-        (record { blocks = blocks; entries = map g.E.ChainEntry.view es }))
+    (record { blocks = blocks; entries = map g.E.ChainEntry.view es }))
     (sym c.in_ok-entries.ensures)
     (loaded_on g.E.ChainEntry.order g.E.ChainEntry.words_of g.E.ChainEntry.IsEntry g.E.ChainEntry.target
-        c.blocks-size.result
+    c.blocks-size.result
     (g.D.Disk.state c.loop-next.disk).honest s.contents c.args.reached.now c.args.first c.loop-next.reached blocks
     (map g.E.ChainEntry.view c.loop-next.entries) c.loop-next.next c.loop-next.invariant.loading c.loop-next-test.false
     h)
@@ -162,10 +162,10 @@ returns-clause-walk g c h =
     let s = g.D.Disk.state c.args.disk.now in
     let blocks = c.loop-next.blocks.items in
     subst (λ es. LeadsAlong g.E.ChainEntry.words_of s.contents c.args.first
-        (nodes_of blocks (map g.E.ChainEntry.view es)) 0)
+    (nodes_of blocks (map g.E.ChainEntry.view es)) 0)
     (sym c.in_ok-entries.ensures)
     (loaded_walk g.E.ChainEntry.order g.E.ChainEntry.words_of g.E.ChainEntry.IsEntry g.E.ChainEntry.target
-        c.blocks-size.result
+    c.blocks-size.result
     (g.D.Disk.state c.loop-next.disk).honest s.contents c.args.reached.now c.args.first c.loop-next.reached blocks
     (map g.E.ChainEntry.view c.loop-next.entries) c.loop-next.next c.loop-next.invariant.loading c.loop-next-test.false
     h)
@@ -176,5 +176,5 @@ returns-clause-targets g c =
     subst (λ es. AllByRecursion (λ e. InSpace size (g.E.ChainEntry.target e)) (map g.E.ChainEntry.view es))
     (sym c.in_ok-entries.ensures)
     (subst (λ n. AllByRecursion (λ e. InSpace n (g.E.ChainEntry.target e))
-        (map g.E.ChainEntry.view c.loop-next.entries))
+    (map g.E.ChainEntry.view c.loop-next.entries))
     c.blocks-size.ensures c.loop-next.invariant.loading.good.inside)

@@ -5,7 +5,7 @@ pub returns-clause-items : goal.returns-clause-items
 returns-clause-items g c =
     let at = c.in-Some.ensures.found in
     removed_items g.met.E.ChainEntry.total g.E.ChainEntry.IsEntry g.E.ChainEntry.view c.args.self.now
-        c.take_out.new.self
+    c.take_out.new.self
     c.in-Some.i c.args.key.now at.0 c.take_out.ensures.entries at.1
 
 pub returns-clause-map : goal.returns-clause-map

@@ -5,7 +5,7 @@ pub replace-requires-clause-alone : goal.replace-requires-clause-alone
 replace-requires-clause-alone g c =
     let at = c.in-Some.ensures.found in
     alone_either g.met.E.ChainEntry.total g.E.ChainEntry.IsEntry g.E.ChainEntry.view c.args.self.now c.in-Some.i
-        c.args.key.now
+    c.args.key.now
     at.0 c.args.entry c.find.ensures.sound at.1 c.requires.free
 
 pub returns-clause-items : goal.returns-clause-items
@@ -20,5 +20,5 @@ returns-clause-map g c =
     renamed_map g.met.E.ChainEntry.total g.E.ChainEntry.IsEntry g.E.ChainEntry.view c.args.self.now c.replace.new.self
     c.in-Some.i c.args.key.now at.0 c.args.entry c.replace.ensures.done at.1 g.met.E.ChainEntry.exact
     (alone_either g.met.E.ChainEntry.total g.E.ChainEntry.IsEntry g.E.ChainEntry.view c.args.self.now c.in-Some.i
-        c.args.key.now
+    c.args.key.now
     at.0 c.args.entry c.find.ensures.sound at.1 c.requires.free) c.find.ensures.sound

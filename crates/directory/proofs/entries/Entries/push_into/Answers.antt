@@ -6,9 +6,9 @@ use Rattle.directory.proofs.entries.Entries.push_into.Goals as goal
 pub enter-requires-clause-absent : goal.enter-requires-clause-absent
 enter-requires-clause-absent g c p there has =
     nowhere_found g.met.E.ChainEntry.total g.met.E.ChainEntry.exact (map g.E.ChainEntry.view c.deref.result.now)
-        c.key.result
+    c.key.result
     ((λ j. find g.E.ChainEntry.order (c.key.ensures j)
-        (map g.E.ChainEntry.view ((c.deref.ensures.value ∙ c.self.view_is) j)))
+    (map g.E.ChainEntry.view ((c.deref.ensures.value ∙ c.self.view_is) j)))
     ∙ c.requires.absent) p has
 
 pub invariant_of-self : goal.invariant_of-self

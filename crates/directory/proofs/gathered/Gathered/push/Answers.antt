@@ -12,7 +12,7 @@ returns-then-contains_key-clause-again g c is none =
     let found = some_of (lookup (is_at (g.E.Key.Ord.cmp c.key-key.result)) fs)
     (sym c.contains_key.ensures ∙ c.if-contains_key.true) in
     gathered_some g.met.E.ChainEntry.total g.met.E.ChainEntry.exact g.met.E.ChainEntry.keyed
-        (map view c.self.inside.list.items) fs
+    (map view c.self.inside.list.items) fs
     c.self.invariant.0 c.key-key.result found.0 found.1
     ((λ j. find g.E.ChainEntry.order (c.key-key.ensures j) (map view (c.self.view_is j))) ∙ none)
 
@@ -34,7 +34,7 @@ returns-in-Ok-clause-absent g c =
     let fs = c.self.inside.places.entries in
     sym (λ j. find g.E.ChainEntry.order (c.key-key.ensures j) (map view (c.self.view_is j)))
     ∙ gathered_none g.met.E.ChainEntry.total g.met.E.ChainEntry.exact g.met.E.ChainEntry.keyed
-        (map view c.self.inside.list.items) fs
+    (map view c.self.inside.list.items) fs
     c.self.invariant.0 c.insert.ensures.was_ordered c.key-key.result
     (none_of (lookup (is_at (g.E.Key.Ord.cmp c.key-key.result)) fs)
     (sym c.contains_key.ensures ∙ c.if-contains_key.false))

@@ -17,14 +17,14 @@ invariant_of-self-2 g c =
     let memory = memory_of c.self.inside.map in
     let begins = c.in_ok-key.ensures.begun in
     volume_stays s memory (memory_of c.begin_in_memory.new.memory) c.self.inside.failed c.self.inside.layout
-        c.self.invariant
+    c.self.invariant
     (begun_sound s memory (memory_of c.begin_in_memory.new.memory) c.self.inside.failed
-        c.begin_in_memory.new.memory.table.size
+    c.begin_in_memory.new.memory.table.size
     c.in_ok-key.key c.args.kind c.args.prime c.self.invariant.map refl c.begin_in_memory.ensures.whole begins
     (body_before s memory (memory_of c.begin_in_memory.new.memory) c.self.inside.failed c.in_ok-key.key c.args.kind
     c.args.prime c.self.invariant.map begins)
     (λ h ok. date_before s memory (memory_of c.begin_in_memory.new.memory) c.self.inside.failed c.in_ok-key.key
-        c.args.kind
+    c.args.kind
     c.args.prime c.self.invariant.map begins h ok (subst (λ m. (g.D.Disk.state m.disk).honest → m.failed ≡ false
     → c.args.prime.moment.date < date_limit (pack_of (g.D.Disk.state m.disk)).layout) (sym c.self.view_is)
     c.requires.timely h ok)))
@@ -32,7 +32,7 @@ invariant_of-self-2 g c =
 pub returns-clause-file : goal.returns-clause-file
 returns-clause-file g c = rw (← c.self.view_is) (λ honest alive files rest updates.
     begins_with (g.D.Disk.state c.self.inside.disk) (memory_of c.self.inside.map)
-        (memory_of c.begin_in_memory.new.memory)
+    (memory_of c.begin_in_memory.new.memory)
     c.self.inside.failed c.in_ok-key.key c.args.kind c.args.prime c.self.invariant.map c.in_ok-key.ensures.begun honest
     alive files rest updates)
 
@@ -72,7 +72,7 @@ returns-clause-full g c = rw (← c.self.view_is) (λ honest alive files rest up
     c.args.prime.file directory there file has in
     not_refused c.in_ok-key.key (record { key = c.in_ok-key.key }) (Refused NoRoom)
     (full_by_file s.size memory c.args.kind c.args.prime file (Ok c.in_ok-key.key) c.self.invariant.map.whole known
-        updates
+    updates
     c.in_ok-key.ensures.room))
 
 pub returns-in_err-key-clause-full : goal.returns-in_err-key-clause-full
@@ -84,5 +84,5 @@ returns-in_err-key-clause-full g c = rw (← c.self.view_is) (λ honest alive fi
     let p = err_from_is_err_and c.from_residual.result c.from_residual.ensures.1 in
     handed_on c.from_residual.result c.in_err-key.field-0.0 (Refused NoRoom) (p.1 ∙ ap Err p.2)
     (full_by_file s.size memory c.args.kind c.args.prime file (Err c.in_err-key.field-0.0) c.self.invariant.map.whole
-        known
+    known
     updates c.in_err-key.ensures.room))

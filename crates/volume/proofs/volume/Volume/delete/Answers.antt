@@ -18,7 +18,7 @@ commit_edit-requires-clause-in_range g c =
 edited : (g : Given.Over) (c : goal.After-commit_edit g)
     → IsEdited (g.D.Disk.state c.self.inside.disk) (g.D.Disk.state c.commit_edit.new.disk)
     (memory_of c.self.inside.map) (memory_of c.remove_in_memory.new.memory)
-        (λ f. files_removed f c.args.ppn c.args.name.now)
+    (λ f. files_removed f c.args.ppn c.args.name.now)
     c.commit_edit.new.failed c.commit_edit.result
 edited g c =
     let made = c.remove_in_memory.ensures in

@@ -19,7 +19,7 @@ commit_edit-requires-clause-in_range g c =
 changed : (g : Given.Over) (c : goal.After-commit_edit g)
     → IsEdited (g.D.Disk.state c.self.inside.disk) (g.D.Disk.state c.commit_edit.new.disk)
     (memory_of c.self.inside.map) (memory_of c.make_in_memory.new.memory)
-        (λ f. files_made f c.args.ppn c.args.protection)
+    (λ f. files_made f c.args.ppn c.args.protection)
     c.commit_edit.new.failed c.commit_edit.result
 changed g c =
     let s = g.D.Disk.state c.self.inside.disk in

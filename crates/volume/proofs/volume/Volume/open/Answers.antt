@@ -17,7 +17,7 @@ invariant_of-result g c =
       map = record {
         whole = kept_whole s.size k kept (subst (λ n. IsWholeMap n k) size c.in-Ok.ensures.whole)
             (subst (λ n. IsBooked n k) size c.in-Ok.ensures.booked) c.in-Ok-keep.ensures.known
-                c.in-Ok-keep.ensures.keyed
+            c.in-Ok-keep.ensures.keyed
             c.in-Ok-keep.ensures.read c.in-Ok-keep.ensures.none c.in-Ok-keep.ensures.current;
         read = λ h serves key v is some. absurd
             (let none = (standing_at IsFirstRead kept.live key v c.in-Ok-keep.ensures.read is).unread in omega arith);

@@ -15,7 +15,7 @@ returns-in_err-key-clause-value g c = rw (← c.self.view_is) (λ honest alive f
     let holds = rest_holds s memory c.self.inside.failed c.self.invariant.map honest alive files rest in
     let p = err_from_is_err_and c.from_residual.result c.from_residual.ensures.1 in
     pin_refused s memory files holds c.args.ppn c.args.name.now memory.live c.in_err-key.field-0.0
-        c.from_residual.result
+    c.from_residual.result
     (p.1 ∙ ap Err p.2) c.in_err-key.ensures.none)
 
 pub returns-clause-pinned : goal.returns-clause-pinned
@@ -24,9 +24,12 @@ returns-clause-pinned g c = rw (← c.self.view_is) (let is = c.in_ok-key.ensure
 
 pub returns-clause-readable : goal.returns-clause-readable
 returns-clause-readable g c =
-    let is = c.in_ok-key.ensures.found in
-    (record is.version { readers = is.version.readers + 1 }, c.pin_version.ensures.pinned is.version is.here, omega
-        arith)
+    let is = c.in_ok-key.ensures.found in (
+      record is.version { readers = is.version.readers + 1 },
+      c.pin_version.ensures.pinned is.version is.here,
+      omega
+          arith,
+    )
 
 pub returns-clause-at : goal.returns-clause-at
 returns-clause-at g c = rw (← c.self.view_is) (

@@ -72,7 +72,7 @@ publish_written-requires-clause-supplied g c q here =
     subst (λ (x : PendingVersion). IsSupplied (memory_of c.put_in_memory-put.new.map) x
     supplies.reserve supplies.keys) (some_same (sym put.1 ∙ here))
     (supplied_on memory (memory_of c.put_in_memory-put.new.map) c.put_in_memory-put.ensures.known
-        c.put_in_memory-put.ensures.keys
+    c.put_in_memory-put.ensures.keys
     p.0 put.0 supplies.reserve supplies.keys
     (subst (λ (x : MemoryMap). IsSupplied x p.0 supplies.reserve supplies.keys)
     (sym same) (c.in-Ok.ensures.supplied p.0 p.1)))
@@ -117,7 +117,7 @@ returns-in-Ok-put-clause-held g c = rw (← c.self.view_is) (λ k v there read.
     let q = record p.0 { version = put.0 } in
     let made = c.publish_written.ensures.made_current q put.1 in
     made_current_readers (g.D.Disk.state c.put_in_memory-put.new.disk).size memory new c.args.pending.key q made.0
-        made.1
+    made.1
     made.2 made.3 k v (ap (λ l. slot l k) (c.put_in_memory-put.ensures.live ∙ ap (λ (x : MemoryMap). x.live) same)
     ∙ there) read)
 
@@ -183,7 +183,7 @@ invariant_of-self-in-Ok-put g c =
     let written = c.publish_written.ensures in
     volume_goes_on (g.D.Disk.state c.self.inside.disk) (g.D.Disk.state c.publish_written.new.disk)
     (memory_of c.self.inside.map) (memory_of c.publish_written.new.map) c.self.inside.failed
-        c.publish_written.new.failed
+    c.publish_written.new.failed
     c.self.inside.layout c.self.invariant written.sound
     (written.answer.same.size ∙ put.answer.same.size)
     (λ h. put.answer.same.was_honest (written.answer.same.was_honest h)) (λ ok. c.if-self.false)

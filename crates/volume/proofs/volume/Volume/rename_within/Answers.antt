@@ -69,7 +69,7 @@ returns-clause-here g c = rw (← c.self.view_is) (
     moved_here (g.D.Disk.state c.self.inside.disk).size memory.known new.known c.args.moved.ppn c.args.moved.name
     c.args.moved.to (found.0.at, as_known found.0) _ found.1 found.2 found.3.moved
     ∙ sym (moved_before (g.D.Disk.state c.self.inside.disk).size memory.known new.known c.args.moved.ppn
-        c.args.moved.name
+    c.args.moved.name
     c.args.moved.to
     (found.0.at, as_known found.0) _ found.1 found.2 found.3.moved)) c.move_within.ensures.moved)
 

@@ -18,7 +18,7 @@ commit_edit-requires-clause-in_range g c = both_in_range (puts_both (g.D.Disk.st
 edited : (g : Given.Over) (c : goal.After-commit_edit g)
     → IsEdited (g.D.Disk.state c.self.inside.disk) (g.D.Disk.state c.commit_edit.new.disk)
     (memory_of c.self.inside.map) (memory_of c.limit_directory.new.memory)
-        (λ f. files_limited f c.args.ppn c.args.quota)
+    (λ f. files_limited f c.args.ppn c.args.quota)
     c.commit_edit.new.failed c.commit_edit.result
 edited g c =
     let layout = c.self.inside.layout in
