@@ -1,6 +1,6 @@
 //! The retrieval blocks of a version, taken from the table and written.
-ghost use Rattle.std.specs.Prelude.{◌≡◌, ◌*◌, ◌+◌, ◌-◌, ◌/◌, ◌<◌, ◌≤◌, ◌^◌, ◌∷◌, ℕ, map, length, take, drop, Some, OnOk};
-ghost use Rattle.std.specs.Prelude.{IfOk, IsErrOf};
+ghost use Rattle.std.specs.Prelude.{◌≡◌, ◌+◌, ◌-◌, ◌/◌, ◌<◌, ◌≤◌, ◌^◌, ◌∷◌, ℕ, map, length, take, drop, Some, OnOk};
+ghost use Rattle.std.specs.Prelude.{◌*◌, IfOk, IsErrOf};
 ghost use Rattle.std.specs.List.{AllByRecursion};
 ghost use Rattle.blockdisk.specs.Common.{SameDisk, Modifies, one_more};
 ghost use Rattle.blockdisk.specs.declared.fault.Fault.TheVariants.{Device as DeviceFault, Damaged};
