@@ -36,7 +36,7 @@ module _ {S : Type 0} (machine : S → Machine) where
     takes_one is = record {
       goes = subst (λ (acts : List Act). GoesBy machine a b acts) (sym (append-nil t.acts)) goes;
       are = (is, tt);
-      tell = λ honest first serves.
+      reported = λ honest first serves.
           let went = goes.went honest first serves in (
             went.0,
             went.1,

@@ -59,9 +59,9 @@ takes_on machine a b c turns more p q = record {
   goes = subst (λ acts. GoesBy machine a c acts) (sym (flat_map-append (λ (t : Turn). t.acts) turns more))
       (goes_on machine a b c (acts_of turns) (acts_of more) p.goes q.goes);
   are = all_append IsTurn turns more p.are q.are;
-  tell = λ h first serves.
-      let one = p.tell (q.goes.was_honest h) first serves in
-      let next = q.tell h one.0 one.1 in (
+  reported = λ h first serves.
+      let one = p.reported (q.goes.was_honest h) first serves in
+      let next = q.reported h one.0 one.1 in (
         next.0,
         next.1,
         tell_on (machine a).pack first one.0 next.0 turns more one.2
@@ -78,7 +78,7 @@ pub takes_none : {S : Type 0} (machine : S → Machine) → AlwaysStands machine
 takes_none machine stands a = record {
   goes = goes_nowhere machine stands a;
   are = tt;
-  tell = λ h first serves. (first, serves, refl, kept_here (machine a) first);
+  reported = λ h first serves. (first, serves, refl, kept_here (machine a) first);
 }
 
 pub counts_on : (a b c : Tally) (turns more : List Turn) → Counts a b turns → Counts b c more

@@ -29,7 +29,7 @@ use Rattle.exchange.specs.Turns.{answers_of, answer_of, group, is_wrong, is_faul
 pub record Takes {S : Type 0} (machine : S → Machine) (old new : S) (turns : List Turn) : Type 0 where
   pub goes : GoesBy machine old new (acts_of turns)
   pub are : AllByRecursion IsTurn turns
-  pub tell : (machine new).honest → (first : Service) → (machine old).serves first
+  pub reported : (machine new).honest → (first : Service) → (machine old).serves first
       → (last : Service) × (machine new).serves last × TellBy (machine old).pack first turns last
       × KeepsPack (machine old) (machine new) last
 

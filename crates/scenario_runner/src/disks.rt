@@ -1,4 +1,4 @@
-//! The disk that a row begins with, and the play of a row over it.
+//! The disk that a row begins with, and the run of a row over it.
 use crate::counting_disk::{Calls, CountingDisk};
 use crate::desk::Desk;
 use crate::fields::{decimal, decimal_or, octal, octal_or_zero};

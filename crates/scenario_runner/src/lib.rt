@@ -27,7 +27,7 @@ pub fn play_all(rt: &(impl Print + Input), alloc: Global) -> Result<u64> {
         let line = line?;
         if is_title(&line) {
             let begun = mem::replace(&mut row, Row::titled(alloc, &line)?);
-            mistakes = mistakes.saturating_add(play(rt, alloc, &begun)?);
+            mistakes = mistakes.saturating_add(run_row(rt, alloc, &begun)?);
             parts.push(begun)?;
         } else if let Some(name) = line.strip_prefix('@') {
             row.push_part(&parts, name)?;
@@ -35,7 +35,7 @@ pub fn play_all(rt: &(impl Print + Input), alloc: Global) -> Result<u64> {
             row.push(line)?;
         }
     }
-    Ok(mistakes.saturating_add(play(rt, alloc, &row)?))
+    Ok(mistakes.saturating_add(run_row(rt, alloc, &row)?))
 }
 
 /// Returns whether a row begins with a line.
@@ -45,7 +45,7 @@ fn is_title(line: &str) -> bool {
 }
 
 /// Plays a row with each of its alternatives, and prints its title. A part is played only in rows.
-fn play(rt: &impl Print, alloc: Global, row: &Row) -> Result<u64> {
+fn run_row(rt: &impl Print, alloc: Global, row: &Row) -> Result<u64> {
     if let Some(title) = row.title().strip_prefix("STOPS ") {
         return play_stopped(rt, alloc, row, title, Manner::Stops);
     }

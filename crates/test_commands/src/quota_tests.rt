@@ -14,7 +14,7 @@ const WRONG: &[u8] = b"?Command error\n";
 const DONE: &[u8] = b"OK\n";
 
 /// Returns what these lines print over a disk, and the disk after them.
-fn play(
+fn run_lines(
     rt: &impl Abort,
     alloc: Global,
     disk: MemDisk,
@@ -52,7 +52,7 @@ fn expect_played(
     (text, quota): (&[u8], u64),
 ) {
     let mut writer = Vec::new(alloc);
-    let mut disk = play(rt, alloc, disk, played, &mut writer);
+    let mut disk = run_lines(rt, alloc, disk, played, &mut writer);
     assert!(rt; writer.as_slice() == text, "{writer:?}");
     assert_eq!(rt; quota_on(rt, &mut disk), quota);
 }
