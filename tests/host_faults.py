@@ -247,8 +247,20 @@ def a_new_name_that_a_stream_leads_to(tries):
     with open("/dev/full", "wb") as full, tries.appending("NEW.IMG") as new:
         tries.expect_kept("NEW.IMG", words, None, None, 3, stdout=full, stderr=new)
     with tries.appending("NEW.IMG") as new:
-        tries.expect_kept("NEW.IMG", words, b"", None, 4, stderr=new, preexec_fn=lambda: os.close(0))
+        tries.expect_kept("NEW.IMG", words, b"", None, 3, stderr=new, preexec_fn=lambda: os.close(0))
     tries.expect(words, b"", tells("standard input or output", "it is closed"), 4, preexec_fn=lambda: os.close(0))
+    # nor if another stream leads to the existing image
+    with open(tries.path("A.IMG"), "rb") as image, tries.appending("NEW.IMG") as new:
+        told = tells("NEW.IMG", "the standard output of this run")
+        tries.expect_kept("NEW.IMG", words, None, told, 3, data=None, stdin=image, stdout=new)
+        tries.expect_kept("NEW.IMG", words, b"", None, 3, data=None, stdin=image, stderr=new)
+        told = tells("A.IMG", "the standard input of this run")
+        tries.expect(words, FAULT, told, 4, data=None, stdin=image)
+    with tries.appending("A.IMG") as image, tries.appending("NEW.IMG") as new:
+        tries.expect_kept("NEW.IMG", words, None, None, 3, stdout=image, stderr=new)
+        tries.expect_kept("NEW.IMG", words, None, None, 4, stdout=new, stderr=image)
+        tries.expect_kept("A.IMG", words, None, None, 3, stdout=image, stderr=new)
+        tries.expect_kept("A.IMG", words, None, None, 4, stdout=new, stderr=image)
 
 
 def a_sync_that_fails(tries):

@@ -1,5 +1,5 @@
 -- The exit status of a run, and what is printed if the words make no request.
-use Rattle.std.proofs.Common.{◌≡◌, ◌≢◌, ◌⊎◌, inl, inr, ℕ, List, Option, Result, Ok, Err, MatchResult, refl, sym, ◌∙◌}
+use Rattle.std.proofs.Common.{◌≡◌, ◌≢◌, ◌⊎◌, inl, inr, ℕ, List, Option, Result, Ok, Err, MatchResult, refl, sym, ◌∙◌, IfErr, IsSome}
 use Rattle.std.proofs.Common.{ap, subst}
 use Rattle.std.specs.Prelude.{IsErrOf}
 use Rattle.clap.specs.Words.{Kinds, Row, Text, kind_of}
@@ -18,6 +18,13 @@ pub code_is : {V E : Type 0} (flushed : Result V E) (status : Status) (code : �
     → (code ≡ status_code status) ⊎ (code ≡ 4)
 code_is (Ok v) status code h = inl h
 code_is (Err e) status code h = inr h
+
+-- and 4 only after a fault of the output
+pub code_ran : {V E F : Type 0} (flushed : Result V E) (status : Status) (code : ℕ) (fault : Option F)
+    → MatchResult flushed (λ v. code ≡ status_code status) (λ e. code ≡ 4) → IfErr flushed (λ e. IsSome fault)
+    → (code ≡ status_code status) ⊎ ((code ≡ 4) × IsSome fault)
+code_ran (Ok v) status code fault h failed = inl h
+code_ran (Err e) status code fault h failed = inr (h, failed)
 
 pub code_mistaken : (status : Status) (code : ℕ) → (code ≡ status_code status) ⊎ (code ≡ 4)
     → (status ≡ BadArguments) ⊎ (status ≡ Fault) → (code ≡ 2) ⊎ (code ≡ 4)

@@ -6,6 +6,7 @@ mod ServiceFacts
 mod MatchedWords
 mod Unasked
 mod NamedStreams
+mod LedImages
 mod ExitCodes
 mod CollectionLaws
 mod SalvageLaws

@@ -5,12 +5,12 @@ pub use Rattle.filser.specs.Requests.{HasText, InRange, IsAsked, IsAt, IsDateNum
 pub use Rattle.filser.specs.Requests.{IsExportTask, IsFaultIn, IsImportTask, IsListedPlace, IsMistaken, IsNamedFile}
 pub use Rattle.filser.specs.Requests.{IsOneEncoding, IsStyle, IsTask, IsUsage, IsWrong, LacksDate, LacksOwned}
 pub use Rattle.filser.specs.Requests.{NamesDate, NamesEncoding, NamesFile, NamesNoDate, NamesOwner, SaysDate, Spells}
-pub use Rattle.filser.specs.Requests.{image_named, task_name}
+pub use Rattle.filser.specs.Requests.{MovesFiles, image_named, new_named, task_name}
 pub use Rattle.filser.specs.Statuses.{status_code}
 pub use Rattle.filser.specs.Refusals.{converted_text, refusal_code, refusal_text, start_text}
 pub use Rattle.filser.specs.Lines.{IsBegun, IsLine, Puts, message_text}
 pub use Rattle.filser.specs.Endings.{AreMistaken, AskToSee, AsksForHelp, EndsUnasked}
-pub use Rattle.filser.specs.HostFaults.{forbids_errors, forbids_output}
+pub use Rattle.filser.specs.HostFaults.{Covers, forbids_errors, forbids_output}
 pub use Rattle.filser.specs.Streams.{AreNeeded, IsMissing, IsStreamAt, IsStreamOf, LeadApart, LeadToOne}
 pub use Rattle.filser.specs.ServedDisks.{IsEnding, IsGivenBack, IsRefusedBy, IsSearched, IsServed, IsStarted}
 pub use Rattle.filser.specs.ServedDisks.{IsTurnedDown, IsUnserved, machine_over}
@@ -27,4 +27,5 @@ pub use Rattle.filser.specs.Migrations.{IsRaised}
 pub use Rattle.filser.specs.ImportRuns.{IsImportRun, IsOnImported}
 pub use Rattle.filser.specs.ExportRuns.{IsExportedFrom, IsOnExported}
 pub use Rattle.filser.specs.SalvageRuns.{AreFound, IsOnSalvaged, IsSalvagedFrom, IsUncopied, IsUnsurveyed, start_error}
-pub use Rattle.filser.specs.Runs.{IsApart, IsHandled, IsRequestRun, PrintsOnly, WasRun}
+pub use Rattle.filser.specs.Runs.{AreReportsSpared, HoldsOfImages, IsApart, IsHandled, IsLed, IsLedBy}
+pub use Rattle.filser.specs.Runs.{IsRequestRun, PrintsOnly, WasRun}

@@ -1,5 +1,5 @@
 -- Which standard streams must not be written to.
-use Rattle.std.specs.Prelude.{Bool, true, false}
+use Rattle.std.specs.Prelude.{◌≡◌, Bool, true, false}
 use Rattle.filser.specs.declared.fault.HostFault.{HostFault}
 use Rattle.filser.specs.declared.fault.HostFault.TheVariants.{System, InUse, Input, Output, Errors, Memory}
 use Rattle.filser.specs.declared.fault.HostFault.TheVariants.{WrongLength}
@@ -23,3 +23,8 @@ forbids_errors Output = false
 forbids_errors Errors = true
 forbids_errors Memory = false
 forbids_errors WrongLength = false
+
+-- one fault forbids each stream that another one forbids
+abbrev pub Covers : HostFault → HostFault → Type 0
+Covers fault other = (forbids_output other ≡ true → forbids_output fault ≡ true)
+    × (forbids_errors other ≡ true → forbids_errors fault ≡ true)

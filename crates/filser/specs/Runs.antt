@@ -1,8 +1,9 @@
 -- What a run comes to: the reader had `source` and has `left`, the writer had `sink` and has `full`.
-use Rattle.std.specs.Prelude.{◌≡◌, ◌⊎◌, ℕ, List, Option, Some, None as Nothing}
+use Rattle.std.specs.Prelude.{◌≡◌, ◌⊎◌, ℕ, List, Option, Some, None as Nothing, All, IfSome}
 use Rattle.clap.specs.Words.{Kinds, kind_of, Row, Text}
 use Rattle.imagefile.specs.Common.{Unseen}
-use Rattle.filser.specs.Denials.{IsExplained, of_host}
+use Rattle.volume.specs.declared.error.VolumeError.TheVariants.{Device}
+use Rattle.filser.specs.Denials.{IsExplained}
 use Rattle.filser.specs.Endings.{AsksForHelp, EndsUnasked}
 use Rattle.filser.specs.ExportRuns.{IsOnExported}
 use Rattle.filser.specs.SalvageRuns.{IsOnSalvaged}
@@ -10,8 +11,8 @@ use Rattle.filser.specs.Hosts.{HostFacts}
 use Rattle.filser.specs.Images.{IsOnBoth, IsOnFresh, IsOnImage, IsOnNew}
 use Rattle.filser.specs.ImportRuns.{IsOnImported}
 use Rattle.filser.specs.Migrations.{IsOnMigrated}
-use Rattle.filser.specs.Requests.{Asks, IsMistaken, IsUsage, image_named}
-use Rattle.filser.specs.FreeStreams.{SparesNamed}
+use Rattle.filser.specs.Requests.{Asks, IsMistaken, IsUsage, image_named, new_named}
+use Rattle.filser.specs.FreeStreams.{SparesErrors, SparesNamed, SparesOutput}
 use Rattle.filser.specs.Streams.{AreNeeded, IsStreamAt}
 use Rattle.filser.specs.Views.{Views}
 use Rattle.filser.specs.declared.request.Request.{Request}
@@ -23,6 +24,9 @@ use Rattle.filser.specs.declared.error.RequestError.{RequestError}
 use Rattle.filser.specs.declared.error.WrongArgument.{WrongArgument}
 use Rattle.filser.specs.declared.error.RequestError.TheVariants.{Usage, BadArgument, NoMemory}
 use Rattle.filser.specs.declared.fault.HostFault.{HostFault}
+use Rattle.filser.specs.declared.fault.ImageFault.{ImageFault}
+use Rattle.filser.specs.declared.refusal.Refusal.{Refusal}
+use Rattle.filser.specs.declared.refusal.Refusal.TheVariants.{Exists, Start}
 use Rattle.filser.specs.declared.status.Status.{Status}
 use Rattle.filser.specs.declared.status.Status.TheVariants.{Fault}
 use Rattle.filser.specs.declared.streams.MissingStreams.{MissingStreams}
@@ -73,32 +77,43 @@ IsRequestRun facts views things (Salvage path form task) source left sink full s
     (left ≡ source) × IsOnSalvaged facts views path.now form task things.u sink full things.image status
     × (things.new ≡ Unasked things.making) × (things.memory ≡ Nothing)
 
--- No standard stream leads to the image that is named.
+-- No standard stream leads to an image, if it is named.
 abbrev pub IsApart : {H : Type 0} → HostFacts H → Option (List ℕ) → Type 0
 IsApart facts Nothing = Unit {0}
 IsApart facts (Some path) = IsStreamAt facts path Nothing
 
--- A stream does, which is reported on the others.
-abbrev pub LeadsToStream : {H : Type 0} → HostFacts H → Option (List ℕ) → Option (List ℕ) → Option (List ℕ) → Status
-    → Type 0
-LeadsToStream facts Nothing sink full status = ⊥
-LeadsToStream facts (Some path) sink full status = (stream : HostFault) × IsStreamAt facts path (Some stream)
-    × IsExplained sink full status (of_host stream)
+-- A stream does, and this is why there is no run.
+pub record IsLedBy {H : Type 0} (facts : HostFacts H) (image : Option (List ℕ)) (refusal : Refusal) (path : List ℕ)
+    (fault : ImageFault) : Type 0 where
+  pub stream : HostFault
+  pub named : image ≡ Some path
+  pub leads : IsStreamAt facts path (Some stream)
+  pub cause : fault ≡ record { refusal = refusal; host = Some stream }
 
--- No image was opened, and nothing read: the run would have printed into the image, or there is nothing to read from or
--- to print to.
+-- A stream leads to the image that is named, or to the new one of a conversion, which exists then.
+abbrev pub IsLed : {H : Type 0} → HostFacts H → Request → List ℕ → ImageFault → Type 0
+IsLed facts request path fault = IsLedBy facts (image_named request) (Start Device) path fault
+    ⊎ IsLedBy facts (new_named request) Exists path fault
+
+-- this holds of the path of each image that is named
+abbrev pub HoldsOfImages : Request → (List ℕ → Type 0) → Type 0
+HoldsOfImages request Holds = IfSome (image_named request) Holds × IfSome (new_named request) Holds
+
+-- No image was opened, and nothing read: the run would have printed into an image or read from it, or there is nothing
+-- to read from or to print to.
 abbrev pub IsTurnedAway : {H L N M F D I : Type 0} → HostFacts H → MissingStreams → Things L N M F D I → Request
     → Option (List ℕ) → Option (List ℕ) → Option (List ℕ) → Option (List ℕ) → Status → Type 0
 IsTurnedAway facts missing things request source left sink full status =
     (left ≡ source) × AreUntouched things
-    × (LeadsToStream facts (image_named request) sink full status
+    × (((path : List ℕ) × (fault : ImageFault) × IsLed facts request path fault × IsExplained sink full status fault
+    × ((full ≡ sink) ⊎ HoldsOfImages request (SparesOutput facts)))
     ⊎ (AreNeeded missing × (full ≡ sink) × (status ≡ Fault)))
 
 -- The request was turned away, or served with streams that exist and lead elsewhere.
 abbrev pub IsHandled : {H L N M F D I : Type 0} → HostFacts H → Views M F D I → MissingStreams → Things L N M F D I
     → Request → Option (List ℕ) → Option (List ℕ) → Option (List ℕ) → Option (List ℕ) → Status → Type 0
 IsHandled facts views missing things request source left sink full status =
-    (IsApart facts (image_named request) × (AreNeeded missing → ⊥)
+    (IsApart facts (image_named request) × IsApart facts (new_named request) × (AreNeeded missing → ⊥)
     × IsRequestRun facts views things request source left sink full status)
     ⊎ IsTurnedAway facts missing things request source left sink full status
 
@@ -124,3 +139,10 @@ pub record WasRun {H L N M F D I : Type 0} (facts : HostFacts H) (views : Views 
   pub is : ((request : Request) × Asks found request
       × IsHandled facts views missing things request source left sink full status)
       ⊎ IsUnasked facts kinds found names things source left sink full status
+
+-- Nothing was reported, or none of it lands in a file that the words name, or in an image that their request names, as
+-- the host answered.
+abbrev pub AreReportsSpared : {H : Type 0} → HostFacts H → Option (Text × List Row) → List (List ℕ) → Option (List ℕ)
+    → Option (List ℕ) → Type 0
+AreReportsSpared facts found names told reported = (reported ≡ told) ⊎ All (SparesErrors facts) names
+    ⊎ ((request : Request) × Asks found request × HoldsOfImages request (SparesErrors facts))

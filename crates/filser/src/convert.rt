@@ -1,5 +1,5 @@
 //! `convert`: an image copied to a new one of the other form.
-ghost use Rattle.std.specs.Prelude.{◌≡◌, ◌≢◌, None, OnOk, IfOk, IfErr, IfSome, IsErrOf};
+ghost use Rattle.std.specs.Prelude.{◌≡◌, ◌≢◌, OnOk, IfOk, IfErr, IfSome, IsErrOf};
 ghost use Rattle.blockdisk.specs.Common.{SameDisk, one_more};
 ghost use Rattle.imagefile.specs.Common.{BeganAs, other_form, assumed_in};
 ghost use Rattle.volume.specs.declared.error.CopyError.TheVariants.{Source, Target};
@@ -14,13 +14,12 @@ ghost use Rattle.filser.specs.declared.disks.Disks.TheVariants as disks;
 use crate::fault::{report, report_stale_cache};
 use crate::image::{NotMade, failure_of, new_file, open_disk, zeros_in};
 use crate::message::print_line;
-use crate::outcome::Outcome;
 use crate::program::refuse_image;
 use crate::progress::Watched;
 use crate::streams::stream_at;
 use crate::{
-    Access, Disks, Host, ImageDisks, ImageFault, Leaves, MakingLeave, Message, Refusal,
-    RemovalRight, Run, Seen, Status, Telling,
+    Access, Disks, Host, ImageDisks, ImageFault, MakingLeave, Message, NewDisks, OpeningLeave,
+    Refusal, RemovalRight, Run, Seen, Status, Telling,
 };
 use blockdisk::Disk;
 use commands::Volume;
@@ -28,6 +27,17 @@ use imagefile::{Form, HostFile, ImageDisk};
 use std::alloc::Global;
 use std::io::Write;
 use volume::{CopyError, VolumeError};
+
+/// How a conversion ended, and what is left of both images.
+#[derive(Drop)]
+pub(crate) struct Converted {
+    /// How it ended.
+    pub(crate) status: Status,
+    /// What is left of the existing image.
+    pub(crate) image: ImageDisks,
+    /// What is left of the new image.
+    pub(crate) new: NewDisks,
+}
 
 /// A conversion that was requested.
 #[derive(Clone, Copy)]
@@ -63,26 +73,26 @@ pub(crate) fn convert_image<H: Host, W: Write, E: Write>(
     host: &H,
     alloc: Global,
     conversion: &Conversion<'_>,
-    leaves: Leaves,
+    opening: OpeningLeave,
+    making: MakingLeave,
     writer: &mut W,
     errors: &mut E,
-) -> Outcome
+) -> Converted
     ensures serving { result.status ≢ BadArguments }
-    ensures memory { result.memory ≡ None }
     ensures ran { IsOnBoth (H.facts host.now) (⟦<Run as Seen>⟧.views) conversion.now.path.now
-        conversion.now.new.now conversion.now.form (assumed_in leaves.image.supposed) (assumed_in leaves.new.supposed)
-        leaves.image leaves.new
+        conversion.now.new.now conversion.now.form (assumed_in opening.supposed) (assumed_in making.supposed)
+        opening making
         (W.contents writer.old) (W.contents writer.new) result.image result.new result.status }
 {
     if let Some(fault) = name_taken(host, conversion.new) {
-        let image = Disks::Unasked(leaves.image);
-        return unconverted(fault, conversion.new, image, leaves.new, writer, errors);
+        let image = Disks::Unasked(opening);
+        return unconverted(fault, conversion.new, image, making, writer, errors);
     }
     let (path, form) = (conversion.path, conversion.form);
-    match open_disk(host, path, form, Access::Read, leaves.image) {
-        Ok(disk) => convert_disk(host, alloc, disk, conversion, leaves.new, writer, errors),
+    match open_disk(host, path, form, Access::Read, opening) {
+        Ok(disk) => convert_disk(host, alloc, disk, conversion, making, writer, errors),
         Err((fault, disks)) => {
-            unconverted(fault, conversion.path, disks, leaves.new, writer, errors)
+            unconverted(fault, conversion.path, disks, making, writer, errors)
         }
     }
 }
@@ -107,18 +117,16 @@ fn unconverted<W: Write, E: Write>(
     leave: MakingLeave,
     writer: &mut W,
     errors: &mut E,
-) -> Outcome
+) -> Converted
     ensures serving { result.status ≢ BadArguments }
     ensures image { result.image ≡ image }
     ensures new { result.new ≡ disks.Unasked leave }
-    ensures memory { result.memory ≡ None }
     ensures explained { IsExplained (W.contents writer.old) (W.contents writer.new) result.status fault }
 {
-    Outcome {
+    Converted {
         status: refuse_image(fault, path, writer, errors),
         image,
         new: Disks::Unasked(leave),
-        memory: None,
     }
 }
 
@@ -151,9 +159,8 @@ fn convert_disk<H: Host, W: Write, E: Write>(
     leave: MakingLeave,
     writer: &mut W,
     errors: &mut E,
-) -> Outcome
+) -> Converted
     ensures serving { result.status ≢ BadArguments }
-    ensures memory { result.memory ≡ None }
     ensures ran { (from : _) × (result.image ≡ disks.Unserved from)
         × SameDisk (⟦<ImageDisk<HostFile> as Disk>⟧.state disk) (⟦<ImageDisk<HostFile> as Disk>⟧.state from)
         × IsLeftAlone (⟦<ImageDisk<HostFile> as Disk>⟧.state disk) (⟦<ImageDisk<HostFile> as Disk>⟧.state from)
@@ -224,9 +231,8 @@ fn write_new<H: Host, W: Write, E: Write>(
     leave: MakingLeave,
     writer: &mut W,
     errors: &mut E,
-) -> Outcome
+) -> Converted
     ensures serving { result.status ≢ BadArguments }
-    ensures memory { result.memory ≡ None }
     ensures ran { (from : _) × (result.image ≡ disks.Unserved from)
         × SameDisk (⟦<ImageDisk<HostFile> as Disk>⟧.state source) (⟦<ImageDisk<HostFile> as Disk>⟧.state from)
         × ((was : _)
@@ -240,11 +246,10 @@ fn write_new<H: Host, W: Write, E: Write>(
 {
     match new_target(host, conversion, source.blocks(), leave, errors) {
         Ok((target, right)) => { copy_to(alloc, source, target, right, conversion, writer, errors) }
-        Err((fault, disks)) => Outcome {
+        Err((fault, disks)) => Converted {
             status: refuse_image(fault, conversion.new, writer, errors),
             image: Disks::Unserved(source),
             new: disks,
-            memory: None,
         },
     }
 }
@@ -258,11 +263,10 @@ fn copy_to<W: Write, E: Write>(
     conversion: &Conversion<'_>,
     writer: &mut W,
     errors: &mut E,
-) -> Outcome
+) -> Converted
     requires { (⟦<ImageDisk<HostFile> as Disk>⟧.state source).size
         ≡ (⟦<ImageDisk<HostFile> as Disk>⟧.state target).size }
     ensures serving { result.status ≢ BadArguments }
-    ensures memory { result.memory ≡ None }
     ensures ran { (from : _) × (to : _) × (result.image ≡ disks.Unserved from)
         × SameDisk (⟦<ImageDisk<HostFile> as Disk>⟧.state source) (⟦<ImageDisk<HostFile> as Disk>⟧.state from)
         × IsLeftAlone (⟦<ImageDisk<HostFile> as Disk>⟧.state source) (⟦<ImageDisk<HostFile> as Disk>⟧.state from)
@@ -274,11 +278,10 @@ fn copy_to<W: Write, E: Write>(
     let mut source = source;
     let (copied, target) = copy(alloc, &mut source, target, conversion.telling, errors);
     match copied {
-        Ok(()) => Outcome {
+        Ok(()) => Converted {
             status: report_converted(source.blocks(), writer),
             image: Disks::Unserved(source),
             new: Disks::Made(target, right),
-            memory: None,
         },
         Err(error) => uncopied(error, source, target, conversion, writer, errors),
     }
@@ -292,11 +295,10 @@ fn uncopied<W: Write, E: Write>(
     conversion: &Conversion<'_>,
     writer: &mut W,
     errors: &mut E,
-) -> Outcome
+) -> Converted
     ensures serving { result.status ≢ BadArguments }
     ensures image { result.image ≡ disks.Unserved source }
     ensures new { result.new ≡ disks.Unserved target }
-    ensures memory { result.memory ≡ None }
     ensures explained { (fault : Faults) × IsCopyFault error fault
         × IsExplained (W.contents writer.old) (W.contents writer.new) result.status fault }
 {
@@ -319,11 +321,10 @@ fn uncopied<W: Write, E: Write>(
     };
     let status = refuse_image(fault, path, writer, errors);
     report_stale_cache(errors, conversion.path, &failure_of(source.file()));
-    Outcome {
+    Converted {
         status,
         image: Disks::Unserved(source),
         new: Disks::Unserved(target),
-        memory: None,
     }
 }
 

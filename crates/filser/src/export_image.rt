@@ -20,7 +20,7 @@ use std::io::Write;
 
 /// Writes files of a disk to files of the host, reports what was refused, and hands the disk back.
 fn export_from<H: Host, D: Disk + Drop, W: Write, E: Write>(
-    host: &H,
+    shelf: &Shelf<'_, H>,
     alloc: Global,
     disk: D,
     task: &ExportTask<'_>,
@@ -28,15 +28,14 @@ fn export_from<H: Host, D: Disk + Drop, W: Write, E: Write>(
     errors: &mut E,
 ) -> (Status, D)
     ensures serving { result.0 ≢ BadArguments }
-    ensures ran { IsExportedFrom (H.facts host.now).files D.state task.now (W.contents writer.old)
+    ensures ran { IsExportedFrom (H.facts shelf.now.host.now).files D.state task.now (W.contents writer.old)
         (W.contents writer.new) (D.state disk) result.1 result.0 }
     ensures size { (D.state result.1).size ≡ (D.state disk).size }
     ensures was_honest { (D.state result.1).honest → (D.state disk).honest }
 {
     match Monitor::start(alloc, disk) {
         Ok(mut monitor) => {
-            let shelf = Shelf::of(host);
-            let exported = export_files(&shelf, alloc, task, &mut monitor, writer, errors);
+            let exported = export_files(shelf, alloc, task, &mut monitor, writer, errors);
             let status = ending(exported);
             report_ending(errors, status, &exported);
             (status, monitor.finish())
@@ -48,7 +47,7 @@ fn export_from<H: Host, D: Disk + Drop, W: Write, E: Write>(
 /// Writes the files of an image to files of the host, if these don't exist, and prints a line for each. As for a task,
 /// nothing is assumed of the host.
 pub(crate) fn export_image<H: Host, W: Write, E: Write>(
-    host: &H,
+    shelf: &Shelf<'_, H>,
     alloc: Global,
     image: &NamedImage<'_>,
     leave: OpeningLeave,
@@ -57,13 +56,13 @@ pub(crate) fn export_image<H: Host, W: Write, E: Write>(
     errors: &mut E,
 ) -> (Status, ImageDisks)
     ensures serving { result.0 ≢ BadArguments }
-    ensures ran { IsOnExported (H.facts host.now) (⟦<Run as Seen>⟧.views) image.now.path.now image.now.form task.now
+    ensures ran { IsOnExported (H.facts shelf.now.host.now) (⟦<Run as Seen>⟧.views) image.now.path.now image.now.form task.now
         (assumed_in leave.supposed) (W.contents writer.old) (W.contents writer.new) result.1 result.0 }
 {
     let (path, form) = (image.path, image.form);
-    match open_image(host, alloc, path, form, Access::Read, leave) {
+    match open_image(shelf.host, alloc, path, form, Access::Read, leave) {
         Ok(disk) => {
-            let (status, disk) = export_from(host, alloc, disk, task, writer, errors);
+            let (status, disk) = export_from(shelf, alloc, disk, task, writer, errors);
             report_failure(errors, path, &disk);
             (status, Disks::Served(disk))
         }

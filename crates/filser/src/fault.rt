@@ -1,6 +1,6 @@
 //! Faults of the host, and their reports on the standard error.
-ghost use Rattle.std.specs.Prelude.{◌≡◌};
-ghost use Rattle.filser.specs.Common.{of_host, forbids_errors, forbids_output};
+ghost use Rattle.std.specs.Prelude.{◌≡◌, ◌↔◌, IsTrue};
+ghost use Rattle.filser.specs.Common.{of_host, Covers, forbids_errors, forbids_output};
 
 use crate::{Escaped, Refusal};
 use std::fmt::Display;
@@ -44,6 +44,14 @@ impl HostFault {
             HostFault::System(_) | HostFault::InUse | HostFault::Input | HostFault::WrongLength =>
                 false,
         }
+    }
+
+    /// Returns whether this fault forbids each stream that the other one forbids.
+    pub(crate) fn covers(&self, other: &HostFault) -> bool
+        ensures { IsTrue result ↔ Covers self.now other.now }
+    {
+        (self.forbids_output() || !other.forbids_output())
+            && (self.forbids_errors() || !other.forbids_errors())
     }
 
     /// Returns whether nothing may be written to the standard error.

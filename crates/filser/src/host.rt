@@ -4,7 +4,7 @@ ghost use Rattle.imagefile.specs.Common.{BeganAs, IsImageSize, assumed_in, size_
 ghost use Rattle.imagefile.specs.declared.size.ImageError.TheVariants.{BadSize, Device};
 ghost use Rattle.filser.specs.Hosts.{HostFacts};
 
-use crate::FileId;
+use crate::{FileId, Leaves};
 use blockdisk::Disk;
 use collection::{HostFiles, Source, moment_of, second_of};
 use imagefile::{AssumedImage, Durable, Form, HostFile, ImageDisk, ImageError};
@@ -126,7 +126,7 @@ pub trait Host {
     /// # Errors
     ///
     /// The system's, and `OutOfMemory` if its bytes find no room.
-    fn read(&self, alloc: Global, path: &str, most: usize) -> io::Result<Source>
+    fn read(&self, alloc: Global, path: &str, most: usize, right: &FilesRight) -> io::Result<Source>
         ensures { (facts self.now).files.read path.now most result };
 
     /// Makes a folder at a path, unless there is one.
@@ -134,7 +134,7 @@ pub trait Host {
     /// # Errors
     ///
     /// The system's. Its parent must exist.
-    fn make_folder(&self, path: &str) -> io::Result<()>
+    fn make_folder(&self, path: &str, right: &FilesRight) -> io::Result<()>
         ensures { (facts self.now).files.folder path.now result };
 
     /// Makes a file of these bytes at a path, if nothing is there, with this moment, in UTC, as its last change. A
@@ -144,22 +144,34 @@ pub trait Host {
     ///
     /// The system's: `AlreadyExists` if something has that name, which is left alone. If the bytes can't be written,
     /// the file that was made is removed.
-    fn store(&self, path: &str, bytes: &[u8], changed: Option<Moment>) -> io::Result<()>
+    fn store(
+        &self,
+        path: &str,
+        bytes: &[u8],
+        changed: Option<Moment>,
+        right: &FilesRight,
+    ) -> io::Result<()>
         ensures { (facts self.now).files.stored path.now bytes.now changed result };
 }
 
-/// What a host does with files that aren't images.
-#[derive(Clone, Copy, Drop)]
+/// A host whose files that aren't images may be read and made.
+#[derive(Drop)]
 pub(crate) struct Shelf<'a, H: Host> {
-    host: &'a H,
+    /// The host.
+    pub(crate) host: &'a H,
+    right: FilesRight,
 }
 
 impl<'a, H: Host> Shelf<'a, H> {
-    /// Returns the shelf of this host.
-    pub(crate) fn of(host: &'a H) -> Self
+    /// Returns the shelf of this host. The leave is used up.
+    pub(crate) fn of(host: &'a H, leave: FilesLeave) -> Self
         ensures { result.host.now ≡ host.entry.now }
     {
-        Shelf { host }
+        let FilesLeave { _once } = leave;
+        Shelf {
+            host,
+            right: FilesRight { _once },
+        }
     }
 }
 
@@ -167,15 +179,15 @@ impl<H: Host> HostFiles for Shelf<'_, H> {
     ghost files = { λ shelf. (H.facts shelf.host.now).files };
 
     fn read(&self, alloc: Global, path: &str, most: usize) -> io::Result<Source> {
-        self.host.read(alloc, path, most)
+        self.host.read(alloc, path, most, &self.right)
     }
 
     fn make_folder(&self, path: &str) -> io::Result<()> {
-        self.host.make_folder(path)
+        self.host.make_folder(path, &self.right)
     }
 
     fn store(&self, path: &str, bytes: &[u8], changed: Option<Moment>) -> io::Result<()> {
-        self.host.store(path, bytes, changed)
+        self.host.store(path, bytes, changed, &self.right)
     }
 }
 
@@ -203,6 +215,19 @@ pub struct MakingLeave {
     _once: (),
 }
 
+/// The leave to read files that aren't images, and to make such files and folders. A run has it once, and only one that
+/// moves files between an image and the host uses it.
+#[derive(Drop)]
+pub struct FilesLeave {
+    _once: (),
+}
+
+/// The right to read files that aren't images, and to make such files and folders. Whoever gave up the leave has it.
+#[derive(Drop)]
+pub struct FilesRight {
+    _once: (),
+}
+
 /// A file that was made, and the right to remove it.
 #[derive(Drop)]
 pub struct NewFile<F: Drop> {
@@ -225,18 +250,21 @@ pub struct SystemHost<'a, F: Files<File = File>> {
 }
 
 impl<'a, F: Files<File = File>> SystemHost<'a, F> {
-    /// Returns the host whose files these are, with the leave to open one file and to make one. Nothing is known of
-    /// either.
-    pub fn new(files: &'a F) -> (Self, OpeningLeave, MakingLeave) {
-        let opening = OpeningLeave {
-            supposed: AssumedImage::any(),
-            _once: (),
+    /// Returns the host whose files these are, with the leaves of a run. Nothing is known of the image that is opened,
+    /// nor of the one that is made.
+    pub fn new(files: &'a F) -> (Self, Leaves) {
+        let leaves = Leaves {
+            image: OpeningLeave {
+                supposed: AssumedImage::any(),
+                _once: (),
+            },
+            new: MakingLeave {
+                supposed: AssumedImage::any(),
+                _once: (),
+            },
+            files: FilesLeave { _once: () },
         };
-        let making = MakingLeave {
-            supposed: AssumedImage::any(),
-            _once: (),
-        };
-        (SystemHost { files }, opening, making)
+        (SystemHost { files }, leaves)
     }
 }
 
@@ -395,14 +423,20 @@ impl<F: Files<File = File>> Host for SystemHost<'_, F> {
         remove_made(self.files, path, right.made)
     }
 
-    fn read(&self, alloc: Global, path: &str, most: usize) -> io::Result<Source> {
+    fn read(
+        &self,
+        alloc: Global,
+        path: &str,
+        most: usize,
+        _right: &FilesRight,
+    ) -> io::Result<Source> {
         let file = File::open(self.files, path)?;
         let changed = moment_of(file.metadata()?.mtime());
         let bytes = read_most(alloc, file, most)?;
         Ok(Source { bytes, changed })
     }
 
-    fn make_folder(&self, path: &str) -> io::Result<()> {
+    fn make_folder(&self, path: &str, _right: &FilesRight) -> io::Result<()> {
         match fs::create_dir(self.files, path) {
             Err(error) if error.kind() == ErrorKind::AlreadyExists && is_folder(self.files, path) =>
                 Ok(()),
@@ -410,7 +444,13 @@ impl<F: Files<File = File>> Host for SystemHost<'_, F> {
         }
     }
 
-    fn store(&self, path: &str, bytes: &[u8], changed: Option<Moment>) -> io::Result<()> {
+    fn store(
+        &self,
+        path: &str,
+        bytes: &[u8],
+        changed: Option<Moment>,
+        _right: &FilesRight,
+    ) -> io::Result<()> {
         let file = File::create_new(self.files, path)?;
         let made = file_id(file.metadata());
         let filled = fill_file(&file, bytes, changed);

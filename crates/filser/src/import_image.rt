@@ -28,7 +28,7 @@ fn report_date<E: Write>(errors: &mut E, task: &ImportTask<'_>, layout: Layout) 
 
 /// Puts files of the host on a disk, reports what was refused, and hands the disk back.
 fn import_on<H: Host, D: Disk + Drop, W: Write, E: Write>(
-    host: &H,
+    shelf: &Shelf<'_, H>,
     alloc: Global,
     disk: D,
     task: &ImportTask<'_>,
@@ -36,7 +36,7 @@ fn import_on<H: Host, D: Disk + Drop, W: Write, E: Write>(
     errors: &mut E,
 ) -> (Status, D)
     ensures serving { result.0 ≢ BadArguments }
-    ensures ran { IsImportRun (H.facts host.now).files D.state task.now (W.contents writer.old) (W.contents writer.new)
+    ensures ran { IsImportRun (H.facts shelf.now.host.now).files D.state task.now (W.contents writer.old) (W.contents writer.new)
         (D.state disk) result.1 result.0 }
     ensures size { (D.state result.1).size ≡ (D.state disk).size }
     ensures was_honest { (D.state result.1).honest → (D.state disk).honest }
@@ -44,8 +44,7 @@ fn import_on<H: Host, D: Disk + Drop, W: Write, E: Write>(
     match Monitor::start(alloc, disk) {
         Ok(mut monitor) => {
             report_date(errors, task, monitor.layout());
-            let shelf = Shelf::of(host);
-            let imported = import_files(&shelf, alloc, task, &mut monitor, writer, errors);
+            let imported = import_files(shelf, alloc, task, &mut monitor, writer, errors);
             let status = ending(imported);
             report_ending(errors, status, &imported);
             (status, monitor.finish())
@@ -57,7 +56,7 @@ fn import_on<H: Host, D: Disk + Drop, W: Write, E: Write>(
 /// Puts files of the host on an image, each one if no file has its name, and prints a line for each. As for a task,
 /// nothing is assumed of the host.
 pub(crate) fn import_image<H: Host, W: Write, E: Write>(
-    host: &H,
+    shelf: &Shelf<'_, H>,
     alloc: Global,
     image: &NamedImage<'_>,
     leave: OpeningLeave,
@@ -66,13 +65,13 @@ pub(crate) fn import_image<H: Host, W: Write, E: Write>(
     errors: &mut E,
 ) -> (Status, ImageDisks)
     ensures serving { result.0 ≢ BadArguments }
-    ensures ran { IsOnImported (H.facts host.now) (⟦<Run as Seen>⟧.views) image.now.path.now image.now.form task.now
+    ensures ran { IsOnImported (H.facts shelf.now.host.now) (⟦<Run as Seen>⟧.views) image.now.path.now image.now.form task.now
         (assumed_in leave.supposed) (W.contents writer.old) (W.contents writer.new) result.1 result.0 }
 {
     let (path, form) = (image.path, image.form);
-    match open_image(host, alloc, path, form, Access::Write, leave) {
+    match open_image(shelf.host, alloc, path, form, Access::Write, leave) {
         Ok(disk) => {
-            let (status, disk) = import_on(host, alloc, disk, task, writer, errors);
+            let (status, disk) = import_on(shelf, alloc, disk, task, writer, errors);
             report_failure(errors, path, &disk);
             (status, Disks::Served(disk))
         }

@@ -14,7 +14,8 @@
 //!    that it reports why there are no arguments or no numbers.
 //! 6. Files are reached through `Host` alone: generic code can't truncate one, write to one except through its disk, or
 //!    remove one that it didn't make. A call of the host can be shown only by making it. (`HostFacts`) A run can open
-//!    one file and make one, and hands back the leave that it didn't use. (`Leaves`)
+//!    one file and make one, and hands back the leave that it didn't use. (`Leaves`) Only a run that moves files between
+//!    an image and the host can read or make other files. (`MovesFiles`)
 //! 7. The file of an image was opened at its path, doesn't have the number of a standard stream, and is locked.
 //!    (`IsOpened`) The disk that is served has been that file's since before its first call. (`IsOnImage`)
 //! 8. Every task on an image is done by one function, `serve`: it starts a service on the disk, or reports why there is
@@ -24,7 +25,9 @@
 //! 9. A refusal has its cause (`IsDenied`, `IsNotMade`), and its line is printed whole, or a beginning of it if the
 //!    writer fails. (`IsExplained`, `IsLine`)
 //! 10. A run hands back the images that it worked on, so that its contract states what became of them. (`WasRun`)
-//! 11. Words that make no request print nothing into a file that one of them names. (`SparesNamed`)
+//! 11. Words that make no request print nothing into a file that one of them names. (`SparesNamed`) A request prints
+//!    nothing into an image that it names. (`IsHandled`) Nothing that a run reports lands in an image that its request
+//!    names, or in a file that one of its words names if they make no request. (`AreReportsSpared`)
 //!
 //! What an image stands for, and what a line does, is not known here.
 #![tactic(auto)]
@@ -40,6 +43,7 @@ mod host;
 mod identity;
 mod image;
 mod import_image;
+mod led_image;
 mod lines;
 mod losses;
 mod message;
@@ -64,7 +68,10 @@ pub use disks::Disks;
 pub use error::{RequestError, WrongArgument};
 pub use escaped::Escaped;
 pub use fault::{HostFault, ImageFault};
-pub use host::{Access, Host, MakingLeave, NewFile, OpeningLeave, RemovalRight, SystemHost};
+pub use host::{
+    Access, FilesLeave, FilesRight, Host, MakingLeave, NewFile, OpeningLeave, RemovalRight,
+    SystemHost,
+};
 pub use identity::FileId;
 pub use lines::LineReader;
 pub use message::Message;
@@ -126,7 +133,7 @@ fn report<T: Display>(rt: &HostRuntime, what: &T) {
 /// Returns whether the standard error leads to a file that an argument names. The arguments are read one by one, into a
 /// buffer that has room for any path, since there may be no memory for them.
 fn leads_to_argument(rt: &HostRuntime) -> bool {
-    let (host, _, _) = SystemHost::new(rt);
+    let (host, _) = SystemHost::new(rt);
     let mut bytes = [0; PATH_BYTES];
     for place in 1..usize::MAX {
         match rt.arg(place, &mut bytes) {
@@ -155,8 +162,7 @@ fn run(rt: &HostRuntime, missing: &MissingStreams) -> io::Result<u8> {
     } else {
         Telling::Silent
     };
-    let (host, image, new) = SystemHost::new(rt);
-    let leaves = Leaves { image, new };
+    let (host, leaves) = SystemHost::new(rt);
     let mut streams = Streams {
         reader: LineReader::new(rt.reader()),
         writer: OutputWriter::new(rt.stdout()),

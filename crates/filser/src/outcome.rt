@@ -1,14 +1,20 @@
 //! How a run ends, and what is left of the things it worked on.
-use crate::{ImageDisks, MakingLeave, NewDisks, OpeningLeave, Status};
+ghost use Rattle.std.specs.Prelude.{◌≡◌, None, Some};
+ghost use Rattle.filser.specs.declared.disks.Disks.TheVariants.{Unasked};
+
+use crate::convert::Converted;
+use crate::{Disks, FilesLeave, ImageDisks, MakingLeave, NewDisks, OpeningLeave, Status};
 use blockdisk::MemDisk;
 
-/// What a run may request from the host: one existing file, and one that it makes.
+/// What a run may request from the host: one existing file, one that it makes, and files that aren't images.
 #[derive(Drop)]
 pub struct Leaves {
     /// To open the existing image.
     pub image: OpeningLeave,
     /// To make a new one.
     pub new: MakingLeave,
+    /// To read and make files that aren't images.
+    pub files: FilesLeave,
 }
 
 /// How a run ended, and what is left of what it worked on.
@@ -22,6 +28,109 @@ pub(crate) struct Outcome {
     pub(crate) new: NewDisks,
     /// The volume in memory.
     pub(crate) memory: Option<MemDisk>,
+    /// The leave for files that aren't images, if it wasn't used.
+    pub(crate) files: Option<FilesLeave>,
+}
+
+impl Outcome {
+    /// Returns the outcome of a run that opened and made no file.
+    pub(crate) fn without_disks(status: Status, leaves: Leaves) -> Self
+        ensures { result ≡ record {
+          status = status;
+          image = Unasked leaves.image;
+          new = Unasked leaves.new;
+          memory = None;
+          files = Some leaves.files;
+        } }
+    {
+        Outcome {
+            status,
+            image: Disks::Unasked(leaves.image),
+            new: Disks::Unasked(leaves.new),
+            memory: None,
+            files: Some(leaves.files),
+        }
+    }
+
+    /// Returns the outcome of a run on a volume in memory alone.
+    pub(crate) fn of_memory(served: (Status, Option<MemDisk>), leaves: Leaves) -> Self
+        ensures { result ≡ record {
+          status = served.0;
+          image = Unasked leaves.image;
+          new = Unasked leaves.new;
+          memory = served.1;
+          files = Some leaves.files;
+        } }
+    {
+        Outcome {
+            status: served.0,
+            image: Disks::Unasked(leaves.image),
+            new: Disks::Unasked(leaves.new),
+            memory: served.1,
+            files: Some(leaves.files),
+        }
+    }
+
+    /// Returns the outcome of a run on an existing image, with the leaves that it didn't use.
+    pub(crate) fn of_image(
+        served: (Status, ImageDisks),
+        leave: MakingLeave,
+        files: Option<FilesLeave>,
+    ) -> Self
+        ensures { result ≡ record {
+          status = served.0;
+          image = served.1;
+          new = Unasked leave;
+          memory = None;
+          files = files;
+        } }
+    {
+        Outcome {
+            status: served.0,
+            image: served.1,
+            new: Disks::Unasked(leave),
+            memory: None,
+            files,
+        }
+    }
+
+    /// Returns the outcome of a run that only made an image, with the leaves that it didn't use.
+    pub(crate) fn of_new(made: (Status, NewDisks), leave: OpeningLeave, files: FilesLeave) -> Self
+        ensures { result ≡ record {
+          status = made.0;
+          image = Unasked leave;
+          new = made.1;
+          memory = None;
+          files = Some files;
+        } }
+    {
+        Outcome {
+            status: made.0,
+            image: Disks::Unasked(leave),
+            new: made.1,
+            memory: None,
+            files: Some(files),
+        }
+    }
+
+    /// Returns the outcome of a conversion, with the leave that it didn't use.
+    pub(crate) fn of_both(converted: Converted, files: FilesLeave) -> Self
+        ensures { result ≡ record {
+          status = converted.status;
+          image = converted.image;
+          new = converted.new;
+          memory = None;
+          files = Some files;
+        } }
+    {
+        Outcome {
+            status: converted.status,
+            image: converted.image,
+            new: converted.new,
+            memory: None,
+            files: Some(files),
+        }
+    }
 }
 
 /// The exit status of a run of the program, and what is left of what it worked on.
@@ -35,4 +144,6 @@ pub struct Run {
     pub new: NewDisks,
     /// The volume in memory.
     pub memory: Option<MemDisk>,
+    /// The leave for files that aren't images, if it wasn't used.
+    pub files: Option<FilesLeave>,
 }

@@ -1,5 +1,5 @@
 //! A writer that remembers its first fault.
-ghost use Rattle.std.specs.Prelude.{◌≡◌, None};
+ghost use Rattle.std.specs.Prelude.{◌≡◌, IfErr, IsSome, None};
 
 use std::io::{self, Write};
 use thiserror::Error;
@@ -34,13 +34,16 @@ impl<W: Write> OutputWriter<W> {
     }
 
     /// Returns why it first failed, if it did.
-    pub(crate) fn fault(&self) -> Option<OutputFault> {
+    pub(crate) fn fault(&self) -> Option<OutputFault>
+        ensures { result ≡ self.now.fault }
+    {
         self.fault
     }
 
     /// Records a fault, unless there was one before.
     fn keep(&mut self, fault: OutputFault)
-        ensures { self.new.writer ≡ self.old.writer }
+        ensures writer { self.new.writer ≡ self.old.writer }
+        ensures kept { IsSome self.new.fault }
     {
         if self.fault.is_none() {
             self.fault = Some(fault);
@@ -51,7 +54,9 @@ impl<W: Write> OutputWriter<W> {
 impl<W: Write> Write for OutputWriter<W> {
     ghost contents = { λ output. W.contents output.writer };
 
-    fn write(&mut self, buf: &[u8]) -> io::Result<usize> {
+    fn write(&mut self, buf: &[u8]) -> io::Result<usize>
+        ensures failed { IfErr result (λ error. IsSome self.new.fault) }
+    {
         let count = self.writer.write(buf);
         match count {
             Ok(0) if !buf.is_empty() => self.keep(OutputFault::NoByte),
@@ -61,7 +66,9 @@ impl<W: Write> Write for OutputWriter<W> {
         count
     }
 
-    fn flush(&mut self) -> io::Result<()> {
+    fn flush(&mut self) -> io::Result<()>
+        ensures failed { IfErr result (λ error. IsSome self.new.fault) }
+    {
         let flushed = self.writer.flush();
         if let Err(error) = flushed {
             self.keep(OutputFault::System(error));

@@ -1,40 +1,40 @@
 //! A whole run of the program, by the words of its command line.
 ghost use Rattle.std.specs.Prelude.{◌≡◌, ◌≢◌, ◌⊎◌, ◌≤◌, ℕ, List, [], map, true, Option, None, Some, IfSome};
-ghost use Rattle.std.specs.Prelude.{MatchOption, MatchResult, IsFalse, drop};
+ghost use Rattle.std.specs.Prelude.{MatchResult, IsFalse, IsSome, All, drop};
 ghost use Rattle.std.specs.Io.KnownBytes.{Keeps};
 ghost use Rattle.clap.specs.Words.{fault_of, kind_of, subcommand_of};
 ghost use Rattle.clap.specs.declared.error.Error.{Error as Errors};
 ghost use Rattle.arguments.specs.CommandLine.{command_line};
 ghost use Rattle.imagefile.specs.Common.{assumed_in};
 ghost use Rattle.filser.specs.Common.{IsExplained, AreMistaken, AskToSee, EndsUnasked, AsksForHelp, forbids_errors};
-ghost use Rattle.filser.specs.Common.{IsOnNew, Asks, InRange, image_named, IsApart, IsHandled, IsRequestRun, WasRun};
-ghost use Rattle.filser.specs.Common.{status_code, IsStreamAt};
-ghost use Rattle.filser.specs.declared.disks.Disks.TheVariants.{Unasked};
+ghost use Rattle.filser.specs.Common.{IsOnNew, Asks, InRange, IsHandled, IsRequestRun, WasRun};
+ghost use Rattle.filser.specs.Common.{AreReportsSpared, HoldsOfImages, MovesFiles, SparesErrors, status_code};
 ghost use Rattle.filser.specs.declared.request.Request.{Request as Asked};
 ghost use Rattle.filser.specs.declared.error.WrongArgument.{WrongArgument as WrongArguments};
 ghost use Rattle.filser.specs.declared.error.RequestError.TheVariants.{BadArgument, NoMemory, Usage};
 ghost use Rattle.filser.specs.declared.status.Status.{Status as Statuses};
 ghost use Rattle.filser.specs.declared.status.Status.TheVariants.{Done, BadArguments, Fault};
 
-use crate::convert::{Conversion, convert_image};
+use crate::convert::{Conversion, Converted, convert_image};
 use crate::escaped::EscapedLines;
 use crate::export_image::export_image;
 use crate::fault::{report, report_fault, report_no_memory};
 use crate::free_streams::FreeStreams;
+use crate::host::Shelf;
 use crate::image::{NamedImage, NewVolume, make_image};
 use crate::import_image::import_image;
+use crate::led_image::led_image;
 use crate::lines::LineReader;
 use crate::migrate_image::migrate_image;
 use crate::outcome::Outcome;
 use crate::output::OutputWriter;
 use crate::salvage_image::salvage_image;
 use crate::serve_image::{say, serve_fresh, serve_image};
-use crate::streams::{Streams, is_at_errors, stream_at};
+use crate::streams::Streams;
 use crate::{
-    Disks, Host, HostFault, ImageDisks, ImageFault, Leaves, MakingLeave, MissingStreams, NewDisks,
-    OpeningLeave, Request, RequestError, Run, Seen, Status, Telling, WrongArgument, request,
+    Disks, Host, ImageFault, Leaves, MakingLeave, MissingStreams, NewDisks, Request, RequestError,
+    Run, Seen, Status, Telling, WrongArgument, request,
 };
-use blockdisk::MemDisk;
 use clap::Error;
 use std::alloc::Global;
 use std::io::{self, Read, Write};
@@ -63,10 +63,9 @@ pub fn work<H: Host, R: Read, W: Write, E: Write>(
         → (result.code ≡ 0) ⊎ (result.code ≡ 4) }
     ensures asked { (r : Asked) → Asks (subcommand_of command_line (map (λ w. w.now) words.now)) r
         → fault_of command_line (map (λ w. w.now) words.now) ≡ [] → result.code ≢ 2 }
-    // What was done with the images, what was printed, and the status of that, unless the end of the text can't be
-    // written.
+    // What was done with the images, what was printed, and the status of that, unless the output has failed.
     ensures ran { (status : Statuses) × (full : Option (List ℕ))
-        × ((result.code ≡ status_code status) ⊎ (result.code ≡ 4)) × Keeps full (W.contents streams.new.writer.writer)
+        × ((result.code ≡ status_code status) ⊎ ((result.code ≡ 4) × IsSome streams.new.writer.fault)) × Keeps full (W.contents streams.new.writer.writer)
         × WasRun (H.facts host.now) (⟦<Run as Seen>⟧.views) missing.now (record {
           opening = leaves.image;
           making = leaves.new;
@@ -79,6 +78,13 @@ pub fn work<H: Host, R: Read, W: Write, E: Write>(
         (subcommand_of command_line (map (λ w. w.now) words.now)) (drop 1 (map (λ w. w.now) words.now))
         (R.remaining streams.old.reader.reader)
         (R.remaining streams.new.reader.reader) (W.contents streams.old.writer.writer) full status }
+    // Nothing that was reported lands in an image that is named.
+    ensures spared { AreReportsSpared (H.facts host.now)
+        (subcommand_of command_line (map (λ w. w.now) words.now)) (drop 1 (map (λ w. w.now) words.now))
+        (E.contents streams.old.errors) (E.contents streams.new.errors) }
+    // Only a run that moves files between an image and the host reads or makes other files.
+    ensures files { IsSome result.files ⊎ ((request : Asked)
+        × Asks (subcommand_of command_line (map (λ w. w.now) words.now)) request × MovesFiles request) }
 {
     let outcome = answer(host, alloc, words, missing, telling, leaves, streams);
     let flushed = streams.writer.flush();
@@ -94,6 +100,7 @@ pub fn work<H: Host, R: Read, W: Write, E: Write>(
         image: outcome.image,
         new: outcome.new,
         memory: outcome.memory,
+        files: outcome.files,
     }
 }
 
@@ -105,9 +112,15 @@ fn report_streams<H: Host, R: Read, W: Write, E: Write>(
     reader: &LineReader<R>,
     writer: &OutputWriter<W>,
     errors: &mut E,
-) {
+)
+    ensures spared { (E.contents errors.new ≡ E.contents errors.old)
+        ⊎ All (SparesErrors (H.facts host.now)) (drop 1 (map (λ w. w.now) words.now)) }
+{
     let (broken, failed) = (reader.fault(), writer.fault());
-    if broken.is_none() && failed.is_none() || !FreeStreams::of_words(host, words).errors {
+    if broken.is_none() && failed.is_none() {
+        return;
+    }
+    if !FreeStreams::of_words(host, words).errors {
         return;
     }
     if let Some((line, fault)) = broken {
@@ -149,23 +162,6 @@ fn exit_code(status: Status, flushed: io::Result<()>) -> u8
     }
 }
 
-/// Returns the outcome of a run that opened and made no file.
-fn without_disks(status: Status, leaves: Leaves) -> Outcome
-    ensures { result ≡ record {
-      status = status;
-      image = Unasked leaves.image;
-      new = Unasked leaves.new;
-      memory = None;
-    } }
-{
-    Outcome {
-        status,
-        image: Disks::Unasked(leaves.image),
-        new: Disks::Unasked(leaves.new),
-        memory: None,
-    }
-}
-
 /// Does what the words ask for, or reports why they make no request.
 fn answer<H: Host, R: Read, W: Write, E: Write>(
     host: &H,
@@ -194,13 +190,18 @@ fn answer<H: Host, R: Read, W: Write, E: Write>(
         (subcommand_of command_line (map (λ w. w.now) words.now)) (drop 1 (map (λ w. w.now) words.now))
         (R.remaining streams.old.reader) (R.remaining streams.new.reader)
         (W.contents streams.old.writer) (W.contents streams.new.writer) result.status }
+    ensures spared { AreReportsSpared (H.facts host.now)
+        (subcommand_of command_line (map (λ w. w.now) words.now)) (drop 1 (map (λ w. w.now) words.now))
+        (E.contents streams.old.errors) (E.contents streams.new.errors) }
+    ensures files { IsSome result.files ⊎ ((request : Asked)
+        × Asks (subcommand_of command_line (map (λ w. w.now) words.now)) request × MovesFiles request) }
 {
     match request(alloc, words) {
         Ok(asked) => start(host, alloc, &asked, missing, telling, leaves, streams),
         Err(error) => {
             let free = FreeStreams::of_words(host, words);
             let status = refuse(&error, free, &mut streams.writer, &mut streams.errors);
-            without_disks(status, leaves)
+            Outcome::without_disks(status, leaves)
         }
     }
 }
@@ -227,39 +228,25 @@ fn start<H: Host, R: Read, W: Write, E: Write>(
       memory = result.memory;
     }) asked.now (R.remaining streams.old.reader) (R.remaining streams.new.reader) (W.contents streams.old.writer)
         (W.contents streams.new.writer) result.status }
+    ensures spared { (E.contents streams.new.errors ≡ E.contents streams.old.errors)
+        ⊎ HoldsOfImages asked.now (SparesErrors (H.facts host.now)) }
+    ensures files { IsSome result.files ⊎ MovesFiles asked.now }
 {
-    if let Some((path, stream)) = stream_named(host, asked) {
-        let fault = ImageFault::from(stream);
-        let status = refuse_image(fault, path, &mut streams.writer, &mut streams.errors);
-        return without_disks(status, leaves);
+    if let Some(led) = led_image(host, asked) {
+        let Streams { writer, errors, .. } = streams;
+        let status = refuse_image(led.fault(), led.path, writer, errors);
+        return Outcome::without_disks(status, leaves);
     }
     if missing.are_needed() {
-        report_closed(host, asked, &mut streams.errors);
-        return without_disks(Status::Fault, leaves);
+        report_closed(&mut streams.errors);
+        return Outcome::without_disks(Status::Fault, leaves);
     }
     perform(host, alloc, asked, telling, leaves, streams)
 }
 
-/// Reports that there is nothing to read from or to print to, unless that would land in the file that has the name of a
-/// new image.
-fn report_closed<H: Host, E: Write>(host: &H, asked: &Request<'_>, errors: &mut E) {
-    if let Request::Convert(_, new, _) = asked
-        && is_at_errors(host, new)
-    {
-        return;
-    }
+/// Reports that there is nothing to read from or to print to.
+fn report_closed<E: Write>(errors: &mut E) {
     report(errors, "standard input or output", &"it is closed");
-}
-
-/// Returns the path of the image that is named, and the standard stream that leads to it, if one does.
-fn stream_named<'a, H: Host>(host: &H, asked: &Request<'a>) -> Option<(&'a str, HostFault)>
-    ensures { MatchOption result (IsApart (H.facts host.now) (image_named asked.now))
-        (λ found. (image_named asked.now ≡ Some found.0.now)
-        × IsStreamAt (H.facts host.now) found.0.now (Some found.1)) }
-{
-    let path = asked.image()?;
-    let stream = stream_at(host, path)?;
-    Some((path, stream))
 }
 
 /// Serves the request.
@@ -283,89 +270,54 @@ fn perform<H: Host, R: Read, W: Write, E: Write>(
       memory = result.memory;
     }) asked.now (R.remaining streams.old.reader) (R.remaining streams.new.reader) (W.contents streams.old.writer)
         (W.contents streams.new.writer) result.status }
+    ensures files { IsSome result.files ⊎ MovesFiles asked.now }
 {
     match *asked {
-        Request::Fresh => on_memory(serve_fresh(alloc, streams), leaves),
+        Request::Fresh => Outcome::of_memory(serve_fresh(alloc, streams), leaves),
         Request::Init(path, blocks, form, layout) => {
             let volume = NewVolume::new(blocks, form, layout);
             let Streams { writer, errors, .. } = streams;
             let made = init_image(host, path, &volume, leaves.new, writer, errors);
-            on_new(made, leaves.image)
+            Outcome::of_new(made, leaves.image, leaves.files)
         }
         Request::Work(path, form, task) => {
             let image = NamedImage { path, form };
             let served = serve_image(host, alloc, &image, leaves.image, task, streams);
-            on_image(served, leaves.new)
+            Outcome::of_image(served, leaves.new, Some(leaves.files))
         }
         Request::Convert(path, new, form) => {
             let conversion = Conversion::new(path, form, new, telling);
             let Streams { writer, errors, .. } = streams;
-            convert_image(host, alloc, &conversion, leaves, writer, errors)
+            let Leaves { image, new, files } = leaves;
+            let converted = convert_image(host, alloc, &conversion, image, new, writer, errors);
+            Outcome::of_both(converted, files)
         }
         Request::Migrate(path, form) => {
             let Streams { writer, errors, .. } = streams;
             let migrated = migrate_image(host, alloc, path, form, leaves.image, writer, errors);
-            on_image(migrated, leaves.new)
+            Outcome::of_image(migrated, leaves.new, Some(leaves.files))
         }
         Request::Import(path, form, ref task) => {
             let image = NamedImage { path, form };
             let Streams { writer, errors, .. } = streams;
-            let imported = import_image(host, alloc, &image, leaves.image, task, writer, errors);
-            on_image(imported, leaves.new)
+            let shelf = Shelf::of(host, leaves.files);
+            let imported = import_image(&shelf, alloc, &image, leaves.image, task, writer, errors);
+            Outcome::of_image(imported, leaves.new, None)
         }
         Request::Export(path, form, ref task) => {
             let image = NamedImage { path, form };
             let Streams { writer, errors, .. } = streams;
-            let exported = export_image(host, alloc, &image, leaves.image, task, writer, errors);
-            on_image(exported, leaves.new)
+            let shelf = Shelf::of(host, leaves.files);
+            let exported = export_image(&shelf, alloc, &image, leaves.image, task, writer, errors);
+            Outcome::of_image(exported, leaves.new, None)
         }
         Request::Salvage(path, form, ref task) => {
             let image = NamedImage { path, form };
             let Streams { writer, errors, .. } = streams;
-            let saved = salvage_image(host, alloc, &image, leaves.image, task, writer, errors);
-            on_image(saved, leaves.new)
+            let shelf = Shelf::of(host, leaves.files);
+            let saved = salvage_image(&shelf, alloc, &image, leaves.image, task, writer, errors);
+            Outcome::of_image(saved, leaves.new, None)
         }
-    }
-}
-
-/// Returns the outcome of a run on a volume in memory alone.
-fn on_memory(served: (Status, Option<MemDisk>), leaves: Leaves) -> Outcome
-    ensures { result ≡ record {
-      status = served.0;
-      image = Unasked leaves.image;
-      new = Unasked leaves.new;
-      memory = served.1;
-    } }
-{
-    Outcome {
-        status: served.0,
-        image: Disks::Unasked(leaves.image),
-        new: Disks::Unasked(leaves.new),
-        memory: served.1,
-    }
-}
-
-/// Returns the outcome of a run on an existing image alone.
-fn on_image(served: (Status, ImageDisks), leave: MakingLeave) -> Outcome
-    ensures { result ≡ record { status = served.0; image = served.1; new = Unasked leave; memory = None } }
-{
-    Outcome {
-        status: served.0,
-        image: served.1,
-        new: Disks::Unasked(leave),
-        memory: None,
-    }
-}
-
-/// Returns the outcome of a run that only made an image.
-fn on_new(made: (Status, NewDisks), leave: OpeningLeave) -> Outcome
-    ensures { result ≡ record { status = made.0; image = Unasked leave; new = made.1; memory = None } }
-{
-    Outcome {
-        status: made.0,
-        image: Disks::Unasked(leave),
-        new: made.1,
-        memory: None,
     }
 }
 

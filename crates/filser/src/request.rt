@@ -1,6 +1,6 @@
 //! Requests: what the words of a command line ask for.
 ghost use Rattle.std.specs.Prelude.{◌≡◌, option_map};
-ghost use Rattle.filser.specs.Common.{image_named};
+ghost use Rattle.filser.specs.Common.{image_named, new_named};
 
 use crate::{ExportTask, ImportTask, Task};
 use imagefile::Form;
@@ -38,6 +38,16 @@ impl<'a> Request<'a> {
             Request::Convert(path, _, _) | Request::Migrate(path, _) => Some(*path),
             Request::Import(path, _, _) | Request::Export(path, _, _) => Some(*path),
             Request::Salvage(path, _, _) => Some(*path),
+        }
+    }
+
+    /// Returns the path of the new image that the request names beside an existing one.
+    pub fn new_image(&self) -> Option<&'a str>
+        ensures { option_map (λ path. path.now) result ≡ new_named self.now }
+    {
+        match self {
+            Request::Convert(_, new, _) => Some(*new),
+            _ => None,
         }
     }
 }

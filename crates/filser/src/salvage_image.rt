@@ -37,7 +37,7 @@ fn start_error(error: SalvageError) -> VolumeError
 
 /// Writes what is whole in a copy of a disk to files of the host, and reports why the run ended.
 fn salvage_copy<H: Host, W: Write, E: Write>(
-    host: &H,
+    shelf: &Shelf<'_, H>,
     alloc: Global,
     copied: &mut Copied,
     task: &ExportTask<'_>,
@@ -46,7 +46,7 @@ fn salvage_copy<H: Host, W: Write, E: Write>(
 ) -> Status
     requires { IsVolumeSize (length copied.old.disk.blocks) }
     ensures serving { result ≢ BadArguments }
-    ensures ran { ((files : List SavedFile) × AreFound (H.facts host.now).files task.now (W.contents writer.old)
+    ensures ran { ((files : List SavedFile) × AreFound (H.facts shelf.now.host.now).files task.now (W.contents writer.old)
         (W.contents writer.new) copied.old.disk copied.old.unread copied.old.has_bad_log files result
         × ((stored : Files StoredFile) → SettledStands (length copied.old.disk.blocks)
         (held copied.old.disk.blocks) stored → AreAllSaved (held copied.old.disk.blocks) files stored))
@@ -54,8 +54,7 @@ fn salvage_copy<H: Host, W: Write, E: Write>(
 {
     match survey_disk(alloc, &mut copied.disk) {
         Ok(found) => {
-            let shelf = Shelf::of(host);
-            let saved = save_survey(&shelf, alloc, task, &found, copied, writer, errors);
+            let saved = save_survey(shelf, alloc, task, &found, copied, writer, errors);
             let status = ending(saved);
             report_ending(errors, status, &saved);
             status
@@ -66,7 +65,7 @@ fn salvage_copy<H: Host, W: Write, E: Write>(
 
 /// Writes what is whole on a disk to files of the host.
 fn salvage_from<H: Host, D: Disk, W: Write, E: Write>(
-    host: &H,
+    shelf: &Shelf<'_, H>,
     alloc: Global,
     disk: &mut D,
     task: &ExportTask<'_>,
@@ -74,12 +73,12 @@ fn salvage_from<H: Host, D: Disk, W: Write, E: Write>(
     errors: &mut E,
 ) -> Status
     ensures serving { result ≢ BadArguments }
-    ensures ran { IsSalvagedFrom (H.facts host.now).files task.now (W.contents writer.old) (W.contents writer.new)
+    ensures ran { IsSalvagedFrom (H.facts shelf.now.host.now).files task.now (W.contents writer.old) (W.contents writer.new)
         (D.state disk.old) (D.state disk.new) result }
     ensures same { SameDisk (D.state disk.old) (D.state disk.new) }
 {
     match Copied::of(alloc, disk) {
-        Ok(mut copied) => salvage_copy(host, alloc, &mut copied, task, writer, errors),
+        Ok(mut copied) => salvage_copy(shelf, alloc, &mut copied, task, writer, errors),
         Err(error) => say(writer, Refusal::Start(start_error(error))),
     }
 }
@@ -87,7 +86,7 @@ fn salvage_from<H: Host, D: Disk, W: Write, E: Write>(
 /// Writes what is whole on an image to files of the host, if these don't exist, and prints a line for each and for each
 /// fault. As for a task, nothing is assumed of the host.
 pub(crate) fn salvage_image<H: Host, W: Write, E: Write>(
-    host: &H,
+    shelf: &Shelf<'_, H>,
     alloc: Global,
     image: &NamedImage<'_>,
     leave: OpeningLeave,
@@ -96,14 +95,14 @@ pub(crate) fn salvage_image<H: Host, W: Write, E: Write>(
     errors: &mut E,
 ) -> (Status, ImageDisks)
     ensures serving { result.0 ≢ BadArguments }
-    ensures ran { IsOnSalvaged (H.facts host.now) (⟦<Run as Seen>⟧.views) image.now.path.now image.now.form task.now
+    ensures ran { IsOnSalvaged (H.facts shelf.now.host.now) (⟦<Run as Seen>⟧.views) image.now.path.now image.now.form task.now
         (assumed_in leave.supposed) (W.contents writer.old) (W.contents writer.new) result.1 result.0 }
 {
     let (path, form) = (image.path, image.form);
-    match open_disk(host, path, form, Access::Read, leave) {
+    match open_disk(shelf.host, path, form, Access::Read, leave) {
         Ok(disk) => {
             let mut disk = disk;
-            let status = salvage_from(host, alloc, &mut disk, task, writer, errors);
+            let status = salvage_from(shelf, alloc, &mut disk, task, writer, errors);
             if let Some(fault) = &failure_of(disk.file()) {
                 report_fault(errors, path, fault);
             }

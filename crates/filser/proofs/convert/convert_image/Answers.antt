@@ -13,7 +13,7 @@ pub returns-in-Ok-clause-ran : goal.returns-in-Ok-clause-ran
 returns-in-Ok-clause-ran g c =
     let p = c.convert_disk.ensures.ran in
     converted (g.H.Host.facts c.args.host.now) _ _ _ _ c.args.conversion.now.path.now
-    c.args.conversion.now.new.now c.args.conversion.now.form (assumed_in c.args.leaves.image.supposed)
-    (assumed_in c.args.leaves.new.supposed) c.args.leaves.image c.args.leaves.new c.in-Ok.disk p.0
+    c.args.conversion.now.new.now c.args.conversion.now.form (assumed_in c.args.opening.supposed)
+    (assumed_in c.args.making.supposed) c.args.opening c.args.making c.in-Ok.disk p.0
     c.convert_disk.result.image c.convert_disk.result.new p.1
     c.in-Ok.ensures.opened c.in-Ok.ensures.began c.in-Ok.ensures.counted p.2 p.3 p.4

@@ -1,6 +1,4 @@
 use Rattle.std.proofs.Common.{inl, inr, refl, subst}
-use Rattle.collection.specs.Common.{IsExportRun}
-use Rattle.filser.specs.Common.{machine_over}
 use Rattle.filser.proofs.ImageOutcomes.{refused_by}
 use Rattle.filser.proofs.export_image.export_from.Goals as goal
 
@@ -32,11 +30,7 @@ returns-in-Ok-clause-ran g c =
             recovered = c.in-Ok.ensures.recovered (first h);
             settled = c.in-Ok.ensures.settled (first h);
           };
-      transcript = subst (λ host. IsExportRun ((g.H.Host.facts host).files) (machine_over g.D.Disk.state)
-          c.args.task.now
-          (g.W.Write.contents c.args.writer.now) (g.W.Write.contents c.export_files-exported.new.writer) c.in-Ok.monitor
-          c.export_files-exported.new.monitor c.export_files-exported.result) c.of-shelf.ensures
-          c.export_files-exported.ensures.done;
+      transcript = c.export_files-exported.ensures.done;
       ends = c.ending-status.ensures.ends;
       ended = c.finish.ensures;
     })

@@ -1,6 +1,4 @@
-use Rattle.std.proofs.Common.{inl, inr, map, refl, subst}
-use Rattle.collection.specs.Common.{IsImportRun}
-use Rattle.filser.specs.Common.{machine_over}
+use Rattle.std.proofs.Common.{inl, inr, refl, subst}
 use Rattle.filser.proofs.ImageOutcomes.{refused_by}
 use Rattle.filser.proofs.import_image.import_on.Goals as goal
 
@@ -32,12 +30,7 @@ returns-in-Ok-clause-ran g c =
             recovered = c.in-Ok.ensures.recovered (first h);
             settled = c.in-Ok.ensures.settled (first h);
           };
-      transcript = subst (λ host. IsImportRun ((g.H.Host.facts host).files) (machine_over g.D.Disk.state)
-          c.args.task.now
-          (map (λ p. p.now) c.args.task.now.paths.items) (g.W.Write.contents c.args.writer.now)
-          (g.W.Write.contents c.import_files-imported.new.writer) c.in-Ok.monitor
-          c.import_files-imported.new.monitor c.import_files-imported.result) c.of-shelf.ensures
-          c.import_files-imported.ensures.done;
+      transcript = c.import_files-imported.ensures.done;
       ends = c.ending-status.ensures.ends;
       ended = c.finish.ensures;
     })

@@ -1,4 +1,4 @@
-use Rattle.filser.proofs.ExitCodes.{code_is, code_mistaken, code_asked}
+use Rattle.filser.proofs.ExitCodes.{code_is, code_mistaken, code_asked, code_ran}
 use Rattle.filser.proofs.program.work.Goals as goal
 
 pub returns-clause-mistaken : goal.returns-clause-mistaken
@@ -15,7 +15,8 @@ pub returns-clause-ran : goal.returns-clause-ran
 returns-clause-ran g c = (
   c.answer-outcome.result.status,
   g.W.Write.contents c.answer-outcome.new.streams.writer.writer,
-  code_is c.flush-flushed.result c.answer-outcome.result.status c.exit_code.result c.exit_code.ensures,
+  code_ran c.flush-flushed.result c.answer-outcome.result.status c.exit_code.result _ c.exit_code.ensures
+      c.flush-flushed.ensures.failed,
   c.flush-flushed.ensures.bytes,
   c.answer-outcome.ensures.ran,
 )

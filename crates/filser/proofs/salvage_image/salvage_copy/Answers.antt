@@ -1,7 +1,5 @@
-use Rattle.std.proofs.Common.{inl, subst}
-use Rattle.blockdisk.specs.Common.{memory_state}
+use Rattle.std.proofs.Common.{inl}
 use Rattle.spec_image.specs.Common.{layout_number}
-use Rattle.collection.specs.Common.{IsSalvageRun, head_findings}
 use Rattle.filser.proofs.salvage_image.salvage_copy.Goals as goal
 
 pub returns-in-Ok-clause-ran : goal.returns-in-Ok-clause-ran
@@ -18,12 +16,7 @@ returns-in-Ok-clause-ran g c =
         layout_is = p.layout tt;
         no_layout = p.no_layout tt;
         surveyed = p.surveyed tt;
-        saved = subst (λ host. IsSalvageRun ((g.H.Host.facts host).files) memory_state c.args.task.now
-            (head_findings c.args.copied.now.has_bad_log c.args.copied.now.unread) c.in-Ok.found.files.items
-            c.in-Ok.found.findings.items (g.W.Write.contents c.args.writer.now)
-            (g.W.Write.contents c.save_survey-saved.new.writer) c.survey_disk.new.disk
-            c.save_survey-saved.new.copied.disk c.save_survey-saved.result) c.of-shelf.ensures
-            c.save_survey-saved.ensures;
+        saved = c.save_survey-saved.ensures;
         ends = c.ending-status.ensures.ends;
       },
       λ stored stands. p.found tt stored stands,

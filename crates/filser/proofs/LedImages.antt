@@ -1,0 +1,83 @@
+-- Images to which a standard stream leads, and streams that lead to no image that is named.
+use Rattle.std.proofs.Common.{◌≡◌, ◌⊎◌, inl, inr, ℕ, List, Bool, true, false, Option, Some, None, IfSome, All, unit}
+use Rattle.std.proofs.Common.{ap, subst, sym, refl, ◌∙◌}
+use Rattle.filser.specs.Common.{AreReportsSpared, Asks, Covers, HoldsOfImages, HostFacts, IsApart, IsLed, IsLedBy}
+use Rattle.filser.specs.Common.{IsStreamAt, SparesErrors, SparesOutput, forbids_errors, forbids_output, image_named}
+use Rattle.filser.specs.Common.{new_named}
+use Rattle.filser.specs.declared.fault.HostFault.{HostFault}
+use Rattle.filser.specs.declared.fault.HostFault.TheVariants.{System, InUse, Input, Output, Errors, Memory}
+use Rattle.filser.specs.declared.fault.HostFault.TheVariants.{WrongLength}
+use Rattle.filser.specs.declared.fault.ImageFault.{ImageFault}
+use Rattle.filser.specs.declared.refusal.Refusal.{Refusal}
+use Rattle.filser.specs.declared.request.Request.{Request}
+
+-- what forbids reports forbids the output too
+mute_too : (fault : HostFault) → forbids_errors fault ≡ true → forbids_output fault ≡ true
+mute_too (System error) h = h
+mute_too InUse h = h
+mute_too Input h = h
+mute_too Output h = refl
+mute_too Errors h = refl
+mute_too Memory h = refl
+mute_too WrongLength h = h
+
+-- of two faults one covers the other
+covers_one : (o e p f : Bool) → (e ≡ true → o ≡ true) → (f ≡ true → p ≡ true)
+    → ((p ≡ true → o ≡ true) × (f ≡ true → e ≡ true)) ⊎ ((o ≡ true → p ≡ true) × (e ≡ true → f ≡ true))
+covers_one true true p f one other = inl (λ h. refl, λ h. refl)
+covers_one true false p true one other = inr (λ h. other refl, λ h. refl)
+covers_one true false p false one other = inl (λ h. refl, λ h. h)
+covers_one false e p f one other = inr (λ h. let wrong : false ≡ true = h in cc, λ h. let wrong : false ≡ true = one h in cc)
+
+pub covers_back : (fault other : HostFault) → (Covers fault other → ⊥) → Covers other fault
+covers_back fault other not = elim (covers_one (forbids_output fault) (forbids_errors fault) (forbids_output other)
+    (forbids_errors other) (mute_too fault) (mute_too other)) [
+  | inl covers ↦ absurd (not covers)
+  | inr covers ↦ covers
+]
+
+-- what a covered fault forbids is forbidden
+pub unset : (a b : Bool) → (a ≡ true → b ≡ true) → b ≡ false → a ≡ false
+unset true b above is = let wrong : true ≡ false = sym (above refl) ∙ is in cc
+unset false b above is = refl
+
+-- if no stream leads to an image, nothing lands in it
+pub apart_output : {H : Type 0} (facts : HostFacts H) (image : Option (List ℕ)) → IsApart facts image
+    → IfSome image (SparesOutput facts)
+apart_output facts None apart = apart
+apart_output facts (Some path) apart = record { stream = None; leads = apart; free = refl }
+
+pub apart_errors : {H : Type 0} (facts : HostFacts H) (image : Option (List ℕ)) → IsApart facts image
+    → IfSome image (SparesErrors facts)
+apart_errors facts None apart = apart
+apart_errors facts (Some path) apart = record { stream = None; leads = apart; free = refl }
+
+-- nor if the stream that leads to it doesn't forbid that
+pub led_output : {H : Type 0} (facts : HostFacts H) (image : Option (List ℕ)) (refusal : Refusal) (path : List ℕ)
+    (fault : ImageFault) (stream : HostFault) → IsLedBy facts image refusal path fault → fault.host ≡ Some stream
+    → forbids_output stream ≡ false → IfSome image (SparesOutput facts)
+led_output facts image refusal path fault stream led is free =
+    subst (λ (i : Option (List ℕ)). IfSome i (SparesOutput facts)) (sym led.named) (record {
+      stream = Some stream;
+      leads = subst (λ s. IsStreamAt facts path s) (sym (ap (λ (f : ImageFault). f.host) led.cause) ∙ is) led.leads;
+      free = free;
+    })
+
+pub led_errors : {H : Type 0} (facts : HostFacts H) (image : Option (List ℕ)) (refusal : Refusal) (path : List ℕ)
+    (fault : ImageFault) (stream : HostFault) → IsLedBy facts image refusal path fault → fault.host ≡ Some stream
+    → forbids_errors stream ≡ false → IfSome image (SparesErrors facts)
+led_errors facts image refusal path fault stream led is free =
+    subst (λ (i : Option (List ℕ)). IfSome i (SparesErrors facts)) (sym led.named) (record {
+      stream = Some stream;
+      leads = subst (λ s. IsStreamAt facts path s) (sym (ap (λ (f : ImageFault). f.host) led.cause) ∙ is) led.leads;
+      free = free;
+    })
+
+-- what a request reports, and then the end of its run
+pub reports_spared : {H : Type 0} (facts : HostFacts H) (names : List (List ℕ)) (Spared : Type 0)
+    (told middle reported : Option (List ℕ)) → (middle ≡ told) ⊎ All (SparesErrors facts) names ⊎ Spared
+    → (reported ≡ middle) ⊎ All (SparesErrors facts) names
+    → (reported ≡ told) ⊎ All (SparesErrors facts) names ⊎ Spared
+reports_spared facts names Spared told middle reported first (inr spared) = inr (inl spared)
+reports_spared facts names Spared told middle reported (inl same) (inl still) = inl (still ∙ same)
+reports_spared facts names Spared told middle reported (inr spared) (inl still) = inr spared
