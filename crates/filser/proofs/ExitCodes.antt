@@ -1,6 +1,6 @@
 -- The exit status of a run, and what is printed if the words make no request.
-use Rattle.std.proofs.Common.{◌≡◌, ◌≢◌, ◌⊎◌, inl, inr, ℕ, List, Option, Result, Ok, Err, MatchResult, refl, sym, ◌∙◌, IfErr, IsSome}
-use Rattle.std.proofs.Common.{ap, subst}
+use Rattle.std.proofs.Common.{◌≡◌, ◌≢◌, ◌⊎◌, inl, inr, ℕ, List, Option, Result, Ok, Err, MatchResult, IfErr, IsSome}
+use Rattle.std.proofs.Common.{refl, sym, ◌∙◌, ap, subst}
 use Rattle.std.specs.Prelude.{IsErrOf}
 use Rattle.clap.specs.Words.{Kinds, Row, Text, kind_of}
 use Rattle.clap.specs.declared.error.Error.{Error}

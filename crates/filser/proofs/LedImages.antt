@@ -1,15 +1,14 @@
 -- Images to which a standard stream leads, and streams that lead to no image that is named.
-use Rattle.std.proofs.Common.{◌≡◌, ◌⊎◌, inl, inr, ℕ, List, Bool, true, false, Option, Some, None, IfSome, All, unit}
-use Rattle.std.proofs.Common.{ap, subst, sym, refl, ◌∙◌}
-use Rattle.filser.specs.Common.{AreReportsSpared, Asks, Covers, HoldsOfImages, HostFacts, IsApart, IsLed, IsLedBy}
-use Rattle.filser.specs.Common.{IsStreamAt, SparesErrors, SparesOutput, forbids_errors, forbids_output, image_named}
-use Rattle.filser.specs.Common.{new_named}
+use Rattle.std.proofs.Common.{◌≡◌, ◌⊎◌, inl, inr, ℕ, List, Bool, true, false, Option, Some, None, IfSome, All}
+use Rattle.std.proofs.Common.{MatchOption, IsTrue, IsFalse, ap, subst, sym, refl, ◌∙◌}
+use Rattle.filser.specs.Common.{Covers, HostFacts, IsApart, IsLedBy, IsStreamAt, SparesErrors, SparesOutput}
+use Rattle.filser.specs.Common.{forbids_errors, forbids_output}
 use Rattle.filser.specs.declared.fault.HostFault.{HostFault}
 use Rattle.filser.specs.declared.fault.HostFault.TheVariants.{System, InUse, Input, Output, Errors, Memory}
 use Rattle.filser.specs.declared.fault.HostFault.TheVariants.{WrongLength}
 use Rattle.filser.specs.declared.fault.ImageFault.{ImageFault}
+use Rattle.filser.specs.declared.led_image.LedImage.{LedImage}
 use Rattle.filser.specs.declared.refusal.Refusal.{Refusal}
-use Rattle.filser.specs.declared.request.Request.{Request}
 
 -- what forbids reports forbids the output too
 mute_too : (fault : HostFault) → forbids_errors fault ≡ true → forbids_output fault ≡ true
@@ -27,14 +26,17 @@ covers_one : (o e p f : Bool) → (e ≡ true → o ≡ true) → (f ≡ true �
 covers_one true true p f one other = inl (λ h. refl, λ h. refl)
 covers_one true false p true one other = inr (λ h. other refl, λ h. refl)
 covers_one true false p false one other = inl (λ h. refl, λ h. h)
-covers_one false e p f one other = inr (λ h. let wrong : false ≡ true = h in cc, λ h. let wrong : false ≡ true = one h in cc)
+covers_one false e p f one other = inr (
+  λ h. let wrong : false ≡ true = h in cc,
+  λ h. let wrong : false ≡ true = one h in cc,
+)
 
 pub covers_back : (fault other : HostFault) → (Covers fault other → ⊥) → Covers other fault
 covers_back fault other not = elim (covers_one (forbids_output fault) (forbids_errors fault) (forbids_output other)
     (forbids_errors other) (mute_too fault) (mute_too other)) [
-  | inl covers ↦ absurd (not covers)
-  | inr covers ↦ covers
-]
+      | inl covers ↦ absurd (not covers)
+      | inr covers ↦ covers
+    ]
 
 -- what a covered fault forbids is forbidden
 pub unset : (a b : Bool) → (a ≡ true → b ≡ true) → b ≡ false → a ≡ false
@@ -73,6 +75,27 @@ led_errors facts image refusal path fault stream led is free =
       free = free;
     })
 
+-- one image alone may have a stream that leads to it
+pub alone_output : {H : Type 0} (facts : HostFacts H) (image new : Option (List ℕ)) (refusal : Refusal)
+    (o : Option LedImage) → IsApart facts new
+    → MatchOption o (IsApart facts image) (λ led. IsLedBy facts image refusal led.path.now
+    (record { refusal = led.refusal; host = Some led.stream }))
+    → IfSome o (λ led. forbids_output led.stream ≡ false
+    → IfSome image (SparesOutput facts) × IfSome new (SparesOutput facts))
+alone_output facts image new refusal None apart is = tt
+alone_output facts image new refusal (Some led) apart is =
+    λ free. (led_output facts image refusal _ _ led.stream is refl free, apart_output facts new apart)
+
+pub alone_errors : {H : Type 0} (facts : HostFacts H) (image new : Option (List ℕ)) (refusal : Refusal)
+    (o : Option LedImage) → IsApart facts new
+    → MatchOption o (IsApart facts image) (λ led. IsLedBy facts image refusal led.path.now
+    (record { refusal = led.refusal; host = Some led.stream }))
+    → IfSome o (λ led. forbids_errors led.stream ≡ false
+    → IfSome image (SparesErrors facts) × IfSome new (SparesErrors facts))
+alone_errors facts image new refusal None apart is = tt
+alone_errors facts image new refusal (Some led) apart is =
+    λ free. (led_errors facts image refusal _ _ led.stream is refl free, apart_errors facts new apart)
+
 -- what a request reports, and then the end of its run
 pub reports_spared : {H : Type 0} (facts : HostFacts H) (names : List (List ℕ)) (Spared : Type 0)
     (told middle reported : Option (List ℕ)) → (middle ≡ told) ⊎ All (SparesErrors facts) names ⊎ Spared
@@ -81,3 +104,11 @@ pub reports_spared : {H : Type 0} (facts : HostFacts H) (names : List (List ℕ)
 reports_spared facts names Spared told middle reported first (inr spared) = inr (inl spared)
 reports_spared facts names Spared told middle reported (inl same) (inl still) = inl (still ∙ same)
 reports_spared facts names Spared told middle reported (inr spared) (inl still) = inr spared
+
+-- what is reported of words that make no request
+pub free_spared : {H : Type 0} (facts : HostFacts H) (names : List (List ℕ)) (Spared : Type 0)
+    (told reported : Option (List ℕ)) (free : Bool) → (IsFalse free → reported ≡ told)
+    → (IsTrue free → All (SparesErrors facts) names)
+    → (reported ≡ told) ⊎ All (SparesErrors facts) names ⊎ Spared
+free_spared facts names Spared told reported true kept spared = inr (inl (spared refl))
+free_spared facts names Spared told reported false kept spared = inl (kept refl)

@@ -5,7 +5,7 @@ pub use Rattle.filser.specs.Requests.{HasText, InRange, IsAsked, IsAt, IsDateNum
 pub use Rattle.filser.specs.Requests.{IsExportTask, IsFaultIn, IsImportTask, IsListedPlace, IsMistaken, IsNamedFile}
 pub use Rattle.filser.specs.Requests.{IsOneEncoding, IsStyle, IsTask, IsUsage, IsWrong, LacksDate, LacksOwned}
 pub use Rattle.filser.specs.Requests.{NamesDate, NamesEncoding, NamesFile, NamesNoDate, NamesOwner, SaysDate, Spells}
-pub use Rattle.filser.specs.Requests.{MovesFiles, image_named, new_named, task_name}
+pub use Rattle.filser.specs.Requests.{MovesFiles, encoding_flag, image_named, new_named, task_name}
 pub use Rattle.filser.specs.Statuses.{status_code}
 pub use Rattle.filser.specs.Refusals.{converted_text, refusal_code, refusal_text, start_text}
 pub use Rattle.filser.specs.Lines.{IsBegun, IsLine, Puts, message_text}

@@ -1,5 +1,5 @@
 -- The standard streams: which of them is missing, and which leads to a file.
-use Rattle.std.specs.Prelude.{◌≡◌, ◌≢◌, ◌⊎◌, ℕ, ℤ, List, Option, Some, None, codes, pos}
+use Rattle.std.specs.Prelude.{◌≡◌, ◌≢◌, ◌⊎◌, ◌≤ℤ◌, ℕ, ℤ, List, Option, Some, None, IfSome, codes, pos}
 use Rattle.std.specs.Fd.{file_raw_fd}
 use Rattle.std.specs.declared.fs.File.{File}
 use Rattle.filser.specs.Hosts.{HostFacts}
@@ -23,6 +23,14 @@ IsMissing missing number =
 -- the input is missing, or the output
 abbrev pub AreNeeded : MissingStreams → Type 0
 AreNeeded missing = IsMissing missing (pos 0) ⊎ IsMissing missing (pos 1)
+
+-- this file has the number of a stream
+abbrev pub IsInPlace : File → Type 0
+IsInPlace file = file_raw_fd file ≤ℤ pos 2
+
+-- each file is in the place of a stream
+abbrev pub HoldsStreams : MissingStreams → Type 0
+HoldsStreams missing = IfSome missing.first IsInPlace × IfSome missing.second IsInPlace × IfSome missing.third IsInPlace
 
 -- Streams that lead to a file.
 

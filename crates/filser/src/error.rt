@@ -1,4 +1,7 @@
 //! The errors of a command line.
+ghost use Rattle.std.specs.Prelude.{◌≡◌};
+ghost use Rattle.filser.specs.Common.{encoding_flag};
+
 use crate::Escaped;
 use clap::Error as ClapError;
 use commands::Encoding;
@@ -22,7 +25,9 @@ pub enum WrongArgument<'a> {
 }
 
 /// Returns the flag that chooses an encoding.
-fn flag_of(encoding: &Encoding) -> &'static str {
+fn flag_of(encoding: &Encoding) -> &'static str
+    ensures { result.now ≡ encoding_flag encoding.now }
+{
     match encoding {
         Encoding::Characters => "text",
         Encoding::Words => "words",

@@ -56,8 +56,9 @@ pub(crate) fn export_image<H: Host, W: Write, E: Write>(
     errors: &mut E,
 ) -> (Status, ImageDisks)
     ensures serving { result.0 ≢ BadArguments }
-    ensures ran { IsOnExported (H.facts shelf.now.host.now) (⟦<Run as Seen>⟧.views) image.now.path.now image.now.form task.now
-        (assumed_in leave.supposed) (W.contents writer.old) (W.contents writer.new) result.1 result.0 }
+    ensures ran { IsOnExported (H.facts shelf.now.host.now) (⟦<Run as Seen>⟧.views) image.now.path.now
+        image.now.form task.now (assumed_in leave.supposed) (W.contents writer.old) (W.contents writer.new)
+        result.1 result.0 }
 {
     let (path, form) = (image.path, image.form);
     match open_image(shelf.host, alloc, path, form, Access::Read, leave) {

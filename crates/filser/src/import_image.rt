@@ -36,8 +36,8 @@ fn import_on<H: Host, D: Disk + Drop, W: Write, E: Write>(
     errors: &mut E,
 ) -> (Status, D)
     ensures serving { result.0 ≢ BadArguments }
-    ensures ran { IsImportRun (H.facts shelf.now.host.now).files D.state task.now (W.contents writer.old) (W.contents writer.new)
-        (D.state disk) result.1 result.0 }
+    ensures ran { IsImportRun (H.facts shelf.now.host.now).files D.state task.now
+        (W.contents writer.old) (W.contents writer.new) (D.state disk) result.1 result.0 }
     ensures size { (D.state result.1).size ≡ (D.state disk).size }
     ensures was_honest { (D.state result.1).honest → (D.state disk).honest }
 {
@@ -65,8 +65,9 @@ pub(crate) fn import_image<H: Host, W: Write, E: Write>(
     errors: &mut E,
 ) -> (Status, ImageDisks)
     ensures serving { result.0 ≢ BadArguments }
-    ensures ran { IsOnImported (H.facts shelf.now.host.now) (⟦<Run as Seen>⟧.views) image.now.path.now image.now.form task.now
-        (assumed_in leave.supposed) (W.contents writer.old) (W.contents writer.new) result.1 result.0 }
+    ensures ran { IsOnImported (H.facts shelf.now.host.now) (⟦<Run as Seen>⟧.views) image.now.path.now
+        image.now.form task.now (assumed_in leave.supposed) (W.contents writer.old) (W.contents writer.new)
+        result.1 result.0 }
 {
     let (path, form) = (image.path, image.form);
     match open_image(shelf.host, alloc, path, form, Access::Write, leave) {

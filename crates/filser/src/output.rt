@@ -1,5 +1,7 @@
 //! A writer that remembers its first fault.
 ghost use Rattle.std.specs.Prelude.{◌≡◌, IfErr, IsSome, None};
+ghost use Rattle.std.specs.Io.{WritesAtMost};
+ghost use Rattle.std.specs.Io.KnownBytes.{Keeps, WriteAppends};
 
 use std::io::{self, Write};
 use thiserror::Error;
@@ -55,6 +57,8 @@ impl<W: Write> Write for OutputWriter<W> {
     ghost contents = { λ output. W.contents output.writer };
 
     fn write(&mut self, buf: &[u8]) -> io::Result<usize>
+        ensures bound { WritesAtMost result buf.now }
+        ensures bytes { WriteAppends (W.contents self.old.writer) (W.contents self.new.writer) result buf.now }
         ensures failed { IfErr result (λ error. IsSome self.new.fault) }
     {
         let count = self.writer.write(buf);
@@ -67,6 +71,7 @@ impl<W: Write> Write for OutputWriter<W> {
     }
 
     fn flush(&mut self) -> io::Result<()>
+        ensures bytes { Keeps (W.contents self.old.writer) (W.contents self.new.writer) }
         ensures failed { IfErr result (λ error. IsSome self.new.fault) }
     {
         let flushed = self.writer.flush();

@@ -113,7 +113,7 @@ fn report_streams<H: Host, R: Read, W: Write, E: Write>(
     writer: &OutputWriter<W>,
     errors: &mut E,
 )
-    ensures spared { (E.contents errors.new ≡ E.contents errors.old)
+    ensures { (E.contents errors.new ≡ E.contents errors.old)
         ⊎ All (SparesErrors (H.facts host.now)) (drop 1 (map (λ w. w.now) words.now)) }
 {
     let (broken, failed) = (reader.fault(), writer.fault());

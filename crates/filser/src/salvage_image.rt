@@ -95,8 +95,9 @@ pub(crate) fn salvage_image<H: Host, W: Write, E: Write>(
     errors: &mut E,
 ) -> (Status, ImageDisks)
     ensures serving { result.0 ≢ BadArguments }
-    ensures ran { IsOnSalvaged (H.facts shelf.now.host.now) (⟦<Run as Seen>⟧.views) image.now.path.now image.now.form task.now
-        (assumed_in leave.supposed) (W.contents writer.old) (W.contents writer.new) result.1 result.0 }
+    ensures ran { IsOnSalvaged (H.facts shelf.now.host.now) (⟦<Run as Seen>⟧.views) image.now.path.now
+        image.now.form task.now (assumed_in leave.supposed) (W.contents writer.old) (W.contents writer.new)
+        result.1 result.0 }
 {
     let (path, form) = (image.path, image.form);
     match open_disk(shelf.host, path, form, Access::Read, leave) {

@@ -1,8 +1,7 @@
 //! The standard streams: which are missing, and which lead to an image.
 ghost use Rattle.std.specs.Prelude.{◌↔◌, IfOk, IfSome, IsTrue, IsFalse, Some, pos, ◌≤ℤ◌};
-ghost use Rattle.std.specs.Fd.{file_raw_fd};
 ghost use Rattle.filser.specs.Common.{AreNeeded, IsMissing, IsStreamAt, IsStreamOf, LeadApart, LeadToOne};
-ghost use Rattle.filser.specs.Streams.{HasNumber};
+ghost use Rattle.filser.specs.Streams.{HasNumber, HoldsStreams, IsInPlace};
 
 use crate::{FileId, Host, HostFault};
 use std::fs::File;
@@ -50,7 +49,9 @@ impl MissingStreams {
     /// # Errors
     ///
     /// The system's, if no file can be opened.
-    pub fn hold<F: Files<File = File>>(files: &F) -> io::Result<Self> {
+    pub fn hold<F: Files<File = File>>(files: &F) -> io::Result<Self>
+        ensures { IfOk result HoldsStreams }
+    {
         let first = holder(files)?;
         let second = holder(files)?;
         let third = holder(files)?;
@@ -80,7 +81,7 @@ impl MissingStreams {
 
 /// Returns a file in the place of the next standard stream that is missing, or `None` if none is missing.
 fn holder<F: Files<File = File>>(files: &F) -> io::Result<Option<File>>
-    ensures { IfOk result (λ held. IfSome held (λ file. file_raw_fd file ≤ℤ pos 2)) }
+    ensures { IfOk result (λ held. IfSome held IsInPlace) }
 {
     let file = File::open(files, HOLDER)?;
     if file.as_raw_fd() > ERRORS {

@@ -1,7 +1,8 @@
-use Rattle.std.proofs.Common.{inl, inr, map, refl}
+use Rattle.std.proofs.Common.{inl, inr, map, refl, ⊎_elim}
 use Rattle.clap.specs.Words.{fault_of, subcommand_of}
 use Rattle.arguments.specs.CommandLine.{command_line}
 use Rattle.filser.proofs.ExitCodes.{bad_error, prints_only}
+use Rattle.filser.proofs.LedImages.{free_spared}
 use Rattle.filser.proofs.NamedStreams.{spares_named}
 use Rattle.filser.proofs.Unasked.{ends_asked, ends_mistaken, ends_shown}
 use Rattle.filser.proofs.program.answer.Goals as goal
@@ -42,3 +43,11 @@ returns-in-Err-clause-ran g c = rw c.without_disks.ensures (record {
     λ wrong is r asks. (c.in-Err.ensures.bad wrong (bad_error c.in-Err.error wrong is)).2 r asks,
   );
 })
+
+pub returns-in-Ok-clause-spared : goal.returns-in-Ok-clause-spared
+returns-in-Ok-clause-spared g c = ⊎_elim (λ same. inl same)
+    (λ spared. inr (inr (c.in-Ok.asked, c.in-Ok.ensures.asked, spared))) c.start.ensures.spared
+
+pub returns-in-Err-clause-spared : goal.returns-in-Err-clause-spared
+returns-in-Err-clause-spared g c = free_spared _ _ _ _ _ c.of_words-free.result.errors c.refuse-status.ensures.untold
+    c.of_words-free.ensures.errors

@@ -24,12 +24,15 @@ returns-in-Migrate-clause-ran g c =
 
 pub returns-in-Import-clause-ran : goal.returns-in-Import-clause-ran
 returns-in-Import-clause-ran g c =
-    rw (c.in-Import.is, c.of_image-in-Import.ensures) (refl, rw c.of-shelf.ensures at c.import_image-imported.ensures.ran, refl, refl)
+    rw (c.in-Import.is, c.of_image-in-Import.ensures)
+    (refl, rw c.of-shelf.ensures at c.import_image-imported.ensures.ran, refl, refl)
 
 pub returns-in-Export-clause-ran : goal.returns-in-Export-clause-ran
 returns-in-Export-clause-ran g c =
-    rw (c.in-Export.is, c.of_image-in-Export.ensures) (refl, rw c.of-shelf.ensures at c.export_image-exported.ensures.ran, refl, refl)
+    rw (c.in-Export.is, c.of_image-in-Export.ensures)
+    (refl, rw c.of-shelf-in-Export.ensures at c.export_image-exported.ensures.ran, refl, refl)
 
 pub returns-in-Salvage-clause-ran : goal.returns-in-Salvage-clause-ran
 returns-in-Salvage-clause-ran g c =
-    rw (c.in-Salvage.is, c.of_image-in-Salvage.ensures) (refl, rw c.of-shelf.ensures at c.salvage_image-saved.ensures.ran, refl, refl)
+    rw (c.in-Salvage.is, c.of_image-in-Salvage.ensures)
+    (refl, rw c.of-shelf-in-Salvage.ensures at c.salvage_image-saved.ensures.ran, refl, refl)

@@ -1,4 +1,5 @@
 use Rattle.filser.proofs.ExitCodes.{code_is, code_mistaken, code_asked, code_ran}
+use Rattle.filser.proofs.LedImages.{reports_spared}
 use Rattle.filser.proofs.program.work.Goals as goal
 
 pub returns-clause-mistaken : goal.returns-clause-mistaken
@@ -20,3 +21,6 @@ returns-clause-ran g c = (
   c.flush-flushed.ensures.bytes,
   c.answer-outcome.ensures.ran,
 )
+
+pub returns-clause-spared : goal.returns-clause-spared
+returns-clause-spared g c = reports_spared _ _ _ _ _ _ c.answer-outcome.ensures.spared c.report_streams.ensures
