@@ -65,7 +65,8 @@ pub fn work<H: Host, R: Read, W: Write, E: Write>(
         → fault_of command_line (map (λ w. w.now) words.now) ≡ [] → result.code ≢ 2 }
     // What was done with the images, what was printed, and the status of that, unless the output has failed.
     ensures ran { (status : Statuses) × (full : Option (List ℕ))
-        × ((result.code ≡ status_code status) ⊎ ((result.code ≡ 4) × IsSome streams.new.writer.fault)) × Keeps full (W.contents streams.new.writer.writer)
+        × ((result.code ≡ status_code status) ⊎ ((result.code ≡ 4) × IsSome streams.new.writer.fault))
+        × Keeps full (W.contents streams.new.writer.writer)
         × WasRun (H.facts host.now) (⟦<Run as Seen>⟧.views) missing.now (record {
           opening = leaves.image;
           making = leaves.new;
@@ -332,7 +333,8 @@ fn init_image<H: Host, W: Write, E: Write>(
 ) -> (Status, NewDisks)
     ensures serving { result.0 ≢ BadArguments }
     ensures ran { IsOnNew (H.facts host.now) (⟦<Run as Seen>⟧.views) path.now volume.now.form volume.now.blocks
-        volume.now.layout (assumed_in leave.supposed) (W.contents writer.old) (W.contents writer.new) result.1 result.0 }
+        volume.now.layout (assumed_in leave.supposed) (W.contents writer.old) (W.contents writer.new)
+        result.1 result.0 }
 {
     match make_image(host, path, volume, leave) {
         Ok((disk, right)) => (Status::Done, Disks::Made(disk, right)),

@@ -46,8 +46,9 @@ fn salvage_copy<H: Host, W: Write, E: Write>(
 ) -> Status
     requires { IsVolumeSize (length copied.old.disk.blocks) }
     ensures serving { result ≢ BadArguments }
-    ensures ran { ((files : List SavedFile) × AreFound (H.facts shelf.now.host.now).files task.now (W.contents writer.old)
-        (W.contents writer.new) copied.old.disk copied.old.unread copied.old.has_bad_log files result
+    ensures ran { ((files : List SavedFile) × AreFound (H.facts shelf.now.host.now).files task.now
+        (W.contents writer.old) (W.contents writer.new) copied.old.disk copied.old.unread copied.old.has_bad_log files
+        result
         × ((stored : Files StoredFile) → SettledStands (length copied.old.disk.blocks)
         (held copied.old.disk.blocks) stored → AreAllSaved (held copied.old.disk.blocks) files stored))
         ⊎ IsUnsurveyed copied.old.disk (W.contents writer.old) (W.contents writer.new) result }
@@ -73,8 +74,8 @@ fn salvage_from<H: Host, D: Disk, W: Write, E: Write>(
     errors: &mut E,
 ) -> Status
     ensures serving { result ≢ BadArguments }
-    ensures ran { IsSalvagedFrom (H.facts shelf.now.host.now).files task.now (W.contents writer.old) (W.contents writer.new)
-        (D.state disk.old) (D.state disk.new) result }
+    ensures ran { IsSalvagedFrom (H.facts shelf.now.host.now).files task.now
+        (W.contents writer.old) (W.contents writer.new) (D.state disk.old) (D.state disk.new) result }
     ensures same { SameDisk (D.state disk.old) (D.state disk.new) }
 {
     match Copied::of(alloc, disk) {
