@@ -1,6 +1,6 @@
 -- Images to which a standard stream leads, and streams that lead to no image that is named.
 use Rattle.std.proofs.Common.{◌≡◌, ◌⊎◌, inl, inr, ℕ, List, Bool, true, false, Option, Some, None, IfSome, All}
-use Rattle.std.proofs.Common.{MatchOption, IsTrue, IsFalse, ap, subst, sym, refl, ◌∙◌}
+use Rattle.std.proofs.Common.{MatchOption, IsTrue, IsFalse, not, ap, subst, sym, refl, ◌∙◌}
 use Rattle.filser.specs.Common.{Covers, HostFacts, IsApart, IsLedBy, IsStreamAt, SparesErrors, SparesOutput}
 use Rattle.filser.specs.Common.{forbids_errors, forbids_output}
 use Rattle.filser.specs.declared.fault.HostFault.{HostFault}
@@ -95,6 +95,11 @@ pub alone_errors : {H : Type 0} (facts : HostFacts H) (image new : Option (List 
 alone_errors facts image new refusal None apart is = tt
 alone_errors facts image new refusal (Some led) apart is =
     λ free. (led_errors facts image refusal _ _ led.stream is refl free, apart_errors facts new apart)
+
+-- the stream is free
+pub is_free : (free : Bool) → not free ≡ false → IsTrue free
+is_free true h = refl
+is_free false h = let wrong : true ≡ false = h in cc
 
 -- what a request reports, and then the end of its run
 pub reports_spared : {H : Type 0} (facts : HostFacts H) (names : List (List ℕ)) (Spared : Type 0)
