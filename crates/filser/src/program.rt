@@ -1,5 +1,5 @@
 //! A whole run of the program, by the words of its command line.
-ghost use Rattle.std.specs.Prelude.{◌≡◌, ◌≢◌, ◌⊎◌, ◌≤◌, ℕ, List, [], map, true, Option, None, Some, IfSome};
+ghost use Rattle.std.specs.Prelude.{◌≡◌, ◌≢◌, ◌⊎◌, ◌≤◌, ℕ, List, [], map, true, Option, IfSome};
 ghost use Rattle.std.specs.Prelude.{MatchResult, IsFalse, IsSome, All, drop};
 ghost use Rattle.std.specs.Io.KnownBytes.{Keeps};
 ghost use Rattle.clap.specs.Words.{fault_of, kind_of, subcommand_of};
@@ -15,7 +15,7 @@ ghost use Rattle.filser.specs.declared.error.RequestError.TheVariants.{BadArgume
 ghost use Rattle.filser.specs.declared.status.Status.{Status as Statuses};
 ghost use Rattle.filser.specs.declared.status.Status.TheVariants.{Done, BadArguments, Fault};
 
-use crate::convert::{Conversion, Converted, convert_image};
+use crate::convert::{Conversion, convert_image};
 use crate::escaped::EscapedLines;
 use crate::export_image::export_image;
 use crate::fault::{report, report_fault, report_no_memory};
