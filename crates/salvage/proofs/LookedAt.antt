@@ -1,6 +1,6 @@
 -- Blocks that are checked one after the other, and the files that are there.
-use Rattle.std.proofs.Common.{◌≡◌, ⊎_elim, ℕ, ◌+◌, ◌<◌, ◌≤◌, ◌^◌, List, [], ◌∷◌, ◌++◌, map, Option, None, Some}
-use Rattle.std.proofs.Common.{IsSome, slice_index, refl, sym, ap, subst, ◌∙◌, arith}
+use Rattle.std.proofs.Common.{◌≡◌, inl, inr, ⊎_elim, ℕ, ◌+◌, ◌<◌, ◌≤◌, ◌^◌, Bool, true, false, List, [], ◌∷◌, ◌++◌}
+use Rattle.std.proofs.Common.{map, Option, None, Some, IsSome, slice_index, refl, sym, ap, subst, ◌∙◌, arith}
 use Rattle.std.specs.List.{AllByRecursion}
 use Rattle.std.proofs.lemmas.Bool.{cases_eq}
 use Rattle.std.proofs.lemmas.List.{get_or_past}
@@ -8,7 +8,7 @@ use Rattle.blockdisk.specs.Common.{Contents}
 use Rattle.spec_image.specs.Common.{InSpace, times, SpecPrime, IsRetrieved, table_start}
 use Rattle.spec_image.proofs.Common.{times-append, all_append, each_times}
 use Rattle.changeset.specs.Common.{times_tail}
-use Rattle.alloctab.specs.Common.{digit, IsBadTableBlock, IsTableOf, TableState, IsTable, bit}
+use Rattle.alloctab.specs.Common.{digit, flag_at, IsBadTableBlock, IsTableOf, TableState, IsTable, bit}
 use Rattle.retrieval.specs.Common.{with_length, IsReadAs, IsStandingVersion}
 use Rattle.salvage.specs.Common.{CountTo, AreFound, IsCandidate, IsInUse, IsReadAt, IsTableRead, IsUnheld, AreApart}
 use Rattle.salvage.specs.Common.{IsAmong, IsRead, claims, place_in, MayBeUsed, IsScanned}
@@ -93,6 +93,15 @@ may_be_used size contents (Some table) n read unheld used = ⊎_elim
     (λ set clear. let is = read.bits_are n in omega arith)
     (λ bad. absurd (past_table size contents table bad.0 read unheld.0 unheld.1 bad.1)) used
 
+pub in_use : (size : ℕ) (contents : Contents) (table : Option TableState) (n : ℕ)
+    → IsTableRead size contents table → IsInUse table n → MayBeUsed size contents n
+in_use size contents None n read set = inr read
+in_use size contents (Some table) n read set = inl (sym (read.bits_are n) ∙ one (flag_at table.bits n) set)
+  where
+    one : (flag : Bool) → (digit flag ≡ 0 → ⊥) → digit flag ≡ 1
+    one true some = refl
+    one false some = absurd (some refl)
+
 -- After the blocks before it.
 
 none_at : (m : ℕ) (files : List SavedFile) → AllByRecursion (λ file. file.at ≡ m → ⊥) files
@@ -110,6 +119,7 @@ found_from size layout contents counts start from = record {
   apart = λ m. omega arith;
   earlier = tt;
   elsewhere = tt;
+  used = tt;
   all = λ file inside before. absurd (let a = from file.at inside in omega arith);
 }
 
@@ -126,6 +136,7 @@ module _ (size layout : ℕ) (contents : Contents) (counts : List ℕ) (files : 
     apart = found.apart;
     earlier = earlier_more;
     elsewhere = found.elsewhere;
+    used = found.used;
     all = λ file inside before is used uncounted. ⊎_elim
         (λ same. absurd (not (
           subst (λ (k : ℕ). slice_index counts k ≡ 0) same uncounted,
@@ -135,9 +146,9 @@ module _ (size layout : ℕ) (contents : Contents) (counts : List ℕ) (files : 
         (λ other. found.all file inside (omega arith) is used uncounted) (cases_eq file.at n);
   }
 
-  pub found_more : (new : List SavedFile) → slice_index counts n ≡ 0 → IsReadAt size layout contents n files new
-      → AreFound size layout contents counts new (n + 1)
-  found_more new uncounted at = subst (λ (l : List SavedFile). AreFound size layout contents counts l (n + 1))
+  pub found_more : (new : List SavedFile) → slice_index counts n ≡ 0 → MayBeUsed size contents n
+      → IsReadAt size layout contents n files new → AreFound size layout contents counts new (n + 1)
+  found_more new uncounted here at = subst (λ (l : List SavedFile). AreFound size layout contents counts l (n + 1))
       (sym at.new_is) (record {
         read = all_append (IsRead size layout contents) files at.found found.read at.read;
         apart = apart;
@@ -146,6 +157,9 @@ module _ (size layout : ℕ) (contents : Contents) (counts : List ℕ) (files : 
         elsewhere = all_append (λ file. slice_index counts file.at ≡ 0) files at.found found.elsewhere
             (all_of (λ file. file.at ≡ n) (λ file. slice_index counts file.at ≡ 0) at.found
             (λ file is. ap (slice_index counts) is ∙ uncounted) at.here);
+        used = all_append (λ file. MayBeUsed size contents file.at) files at.found found.used
+            (all_of (λ file. file.at ≡ n) (λ file. MayBeUsed size contents file.at) at.found
+            (λ file is. subst (λ (k : ℕ). MayBeUsed size contents k) (sym is) here) at.here);
         all = all;
       })
     where
@@ -190,6 +204,7 @@ all_scanned size layout contents counts named files counted found = record {
   apart = found.apart;
   elsewhere = all_of (λ file. slice_index counts file.at ≡ 0) (λ file. claims named file.at ≡ 0) files
       (λ file is. let e = counted file.at in omega arith) found.elsewhere;
+  used = found.used;
   all = λ file inside is used none. found.all file inside inside.below is used
       (let e = counted file.at in omega arith);
 }

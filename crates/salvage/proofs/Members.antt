@@ -4,6 +4,7 @@ use Rattle.std.proofs.Common.{Contains, slice_index_or, map, refl, sym, ap, subs
 use Rattle.std.specs.List.{AllByRecursion}
 use Rattle.spec_image.specs.Common.{times}
 use Rattle.spec_image.proofs.Common.{times-append}
+use Rattle.directory.proofs.GatheredEntries.{all_of}
 use Rattle.salvage.specs.Common.{AreApart}
 use Rattle.salvage.specs.declared.saved.SavedFile.{SavedFile}
 
@@ -37,6 +38,15 @@ pub all_contained : {X : Type 0} (P : X → Type 0) (y : X) (xs : List X) → Al
 all_contained P y [] all there = absurd (contains_none y there)
 all_contained P y (x ∷ xs) all there = ⊎_elim (λ is. subst P is all.0) (λ later. all_contained P y xs all.1 later)
     (contains_first x y xs there)
+
+-- each element is in its list
+pub each_contained : {X : Type 0} (xs : List X) → AllByRecursion (Contains xs) xs
+each_contained [] = tt
+each_contained (x ∷ xs) = (
+  contains_here x xs,
+  all_of (Contains xs) (Contains (x ∷ xs)) xs
+      (λ y there. contains_later x y xs there) (each_contained xs),
+)
 
 pub all_both : {X : Type 0} (P Q : X → Type 0) (xs : List X) → AllByRecursion P xs → AllByRecursion Q xs
     → AllByRecursion (λ x. P x × Q x) xs

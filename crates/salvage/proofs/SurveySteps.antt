@@ -1,18 +1,19 @@
 -- The three steps of a survey together.
 use Rattle.std.proofs.Common.{◌≡◌, ◌⊎◌, inl, inr, ⊎_elim, ℕ, zero, suc, ◌<◌, List, [], ◌∷◌, ◌++◌, refl, sym, subst}
-use Rattle.std.proofs.Common.{arith}
+use Rattle.std.proofs.Common.{Contains, arith}
 use Rattle.std.specs.List.{AllByRecursion}
 use Rattle.words36.specs.declared.names.FileName.{FileName}
 use Rattle.blockdisk.specs.Common.{Contents}
 use Rattle.spec_image.specs.Common.{InSpace, Place, times, place_of, IsFileNamed}
 use Rattle.volume.proofs.common.Lookups.{all_each}
 use Rattle.salvage.specs.Common.{IsFinding, AreApart, IsAmong, IsNamedRead, IsRead, blocks_of, claims, place_in}
-use Rattle.salvage.specs.Common.{IsLostBy, IsNamedBlock, IsNamedLoss, IsSurveyed, MayBeUsed, AreAdded, AreTaken}
-use Rattle.salvage.specs.Common.{IsScanned, IsTree}
+use Rattle.salvage.specs.Common.{IsLostBy, IsNamedBlock, IsNamedLoss, IsSurveyed, IsUndeleted, MayBeUsed, AreAdded}
+use Rattle.salvage.specs.Common.{AreTaken, IsScanned, IsTree}
 use Rattle.salvage.specs.declared.saved.SavedFile.{SavedFile}
 use Rattle.salvage.specs.declared.finding.Cost.{Cost}
 use Rattle.salvage.specs.declared.finding.Finding.{Finding}
-use Rattle.salvage.proofs.CarriedFacts.{moved}
+use Rattle.directory.proofs.GatheredEntries.{all_of}
+use Rattle.salvage.proofs.CarriedFacts.{element_has, moved}
 use Rattle.salvage.proofs.SavedFiles.{blocks_at, apart_both, lost_more}
 use Rattle.spec_image.proofs.Common.{all_append}
 use Rattle.salvage.specs.declared.finding.Cost.TheVariants as cost
@@ -95,6 +96,11 @@ module _ (size layout : ℕ) (contents : Contents) (named unnamed files : List S
   surveyed = record {
     whole = taken.whole;
     once = taken.once;
+    undeleted = all_of (λ file. Contains named file ⊎ Contains unnamed file) (IsUndeleted size layout contents) files
+        (λ file from. ⊎_elim
+        (λ there. inl (element_has (IsNamedRead size layout contents) named file tree.read there))
+        (λ there. inr (element_has (λ f. MayBeUsed size contents f.at) unnamed file scanned.used there)) from)
+        taken.only;
     stand = stand_added size layout contents second last more
         (stand_added size layout contents first second added tree.stand);
     named = named_there;

@@ -1,5 +1,5 @@
 -- The files that were taken, first of those that directories name and then of the others.
-use Rattle.std.proofs.Common.{◌≡◌, inl, inr, ⊎_elim, ℕ, ◌≤◌, Bool, true, false, List, [], ◌++◌, Contains, sym, ap}
+use Rattle.std.proofs.Common.{◌≡◌, ◌⊎◌, inl, inr, ⊎_elim, ℕ, ◌≤◌, Bool, true, false, List, [], ◌++◌, Contains, sym, ap}
 use Rattle.std.proofs.Common.{subst, ◌∙◌, arith, append_assoc}
 use Rattle.std.specs.List.{AllByRecursion}
 use Rattle.blockdisk.specs.Common.{Contents}
@@ -11,7 +11,7 @@ use Rattle.salvage.specs.declared.saved.SavedFile.{SavedFile}
 use Rattle.salvage.specs.declared.finding.Finding.{Finding}
 use Rattle.salvage.proofs.Faulty.{claims_each, named_fault, unnamed_fault}
 use Rattle.salvage.proofs.JudgedFiles.{judged_all, judged_each, judged_few, judged_told, sound_once}
-use Rattle.salvage.proofs.Members.{all_both, all_three, contains_left, contains_right}
+use Rattle.salvage.proofs.Members.{all_both, all_three, contains_left, contains_right, each_contained}
 use Rattle.directory.proofs.GatheredEntries.{all_of}
 
 module _ (size layout : ℕ) (contents : Contents) (named unnamed files now new : List SavedFile)
@@ -66,6 +66,18 @@ module _ (size layout : ℕ) (contents : Contents) (named unnamed files now new 
       (sound_once contents counts' false n (IsRead size layout contents) second.taken unnamed_sound))
       (sound_once contents counts true n (IsNamedRead size layout contents) first.taken named_sound)
 
+  abbrev IsOneOfThem : SavedFile → Type 0
+  IsOneOfThem file = Contains named file ⊎ Contains unnamed file
+
+  all_candidates : AllByRecursion IsOneOfThem (first.taken ++ second.taken)
+  all_candidates = all_append IsOneOfThem first.taken second.taken
+      (all_of (λ file. Contains named file × IsSound contents counts file) IsOneOfThem first.taken
+      (λ file is. inl is.0) (judged_all contents counts true (Contains named) named first.taken first.told first.judged
+      (each_contained named)))
+      (all_of (λ file. Contains unnamed file × IsSound contents counts' file) IsOneOfThem second.taken
+      (λ file is. inr is.0) (judged_all contents counts' false (Contains unnamed) unnamed second.taken second.told
+      second.judged (each_contained unnamed)))
+
   -- what is lost by a part of what was reported
   lost_in : (here : List Finding) (file : SavedFile) (is_named : Bool)
       → ((finding : Finding) → Contains here finding → Contains told finding)
@@ -88,6 +100,7 @@ module _ (size layout : ℕ) (contents : Contents) (named unnamed files now new 
   are_taken = record {
     whole = subst (AllByRecursion (IsWholeFile size layout contents)) (sym new_is) all_whole;
     once = λ n. subst (λ (t : List SavedFile). claims t n ≤ 1) (sym new_is) (all_once n);
+    only = subst (AllByRecursion IsOneOfThem) (sym new_is) all_candidates;
     named_ones = λ file there. ⊎_elim
         (λ taken. inl (subst (λ (t : List SavedFile). Contains t file) (sym new_is)
         (contains_left file first.taken second.taken taken)))

@@ -6,7 +6,7 @@ pub use Rattle.salvage.specs.BlockCounts.{CountTo}
 pub use Rattle.salvage.specs.Findings.{Concerns, ConcernsUnnamed, IsFaultAt, IsFaultOf, IsFaultOfChain}
 pub use Rattle.salvage.specs.Findings.{IsFaultOfDirectory, IsFaultOfMaster, IsFinding}
 pub use Rattle.salvage.specs.Surveys.{AreAllSaved, IsLostBy, IsNamedBlock, IsNamedLoss, IsSavedAs, IsSurveyed}
-pub use Rattle.salvage.specs.Surveys.{MayBeUsed}
+pub use Rattle.salvage.specs.Surveys.{IsUndeleted, MayBeUsed}
 pub use Rattle.salvage.specs.Trees.{AreAdded, AreTaken, IsScanned, IsTree}
 pub use Rattle.salvage.specs.TreeRead.{IsChainRefusal, IsIn, IsNamedIn, IsNoFault, IsReadTo, IsToldDirectory}
 pub use Rattle.salvage.specs.TreeRead.{IsToldFile, MayRefuse}

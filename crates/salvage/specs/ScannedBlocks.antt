@@ -43,5 +43,6 @@ pub record AreFound (size layout : ℕ) (contents : Contents) (counts : List ℕ
   pub apart : AreApart files
   pub earlier : AllByRecursion (λ file. file.at < before) files
   pub elsewhere : AllByRecursion (λ file. slice_index counts file.at ≡ 0) files
+  pub used : AllByRecursion (λ file. MayBeUsed size contents file.at) files
   pub all : (file : SavedFile) → InSpace size file.at → file.at < before → IsRead size layout contents file
       → MayBeUsed size contents file.at → slice_index counts file.at ≡ 0 → IsAmong files (place_in file) file.at

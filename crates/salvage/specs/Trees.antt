@@ -25,6 +25,7 @@ pub record IsScanned (size layout : ℕ) (contents : Contents) (named unnamed : 
   pub read : AllByRecursion (IsRead size layout contents) unnamed
   pub apart : AreApart unnamed
   pub elsewhere : AllByRecursion (λ file. claims named file.at ≡ 0) unnamed
+  pub used : AllByRecursion (λ file. MayBeUsed size contents file.at) unnamed
   pub all : (file : SavedFile) → InSpace size file.at → IsRead size layout contents file
       → MayBeUsed size contents file.at → claims named file.at ≡ 0 → IsAmong unnamed (place_in file) file.at
 
@@ -34,12 +35,13 @@ pub record AreAdded (size layout : ℕ) (contents : Contents) (old new : List Fi
   pub new_is : new ≡ old ++ added
   pub stand : AllByRecursion (IsFinding size layout contents) added
 
--- Those of these files that are whole and share no block with another were taken: with another of those that
--- directories name, or, for one that none names, with any.
+-- Those of these files that are whole and share no block with another were taken, and no others: with another of those
+-- that directories name, or, for one that none names, with any.
 pub record AreTaken (size layout : ℕ) (contents : Contents) (named unnamed files : List SavedFile)
     (findings : List Finding) : Type 0 where
   pub whole : AllByRecursion (IsWholeFile size layout contents) files
   pub once : (n : ℕ) → claims files n ≤ 1
+  pub only : AllByRecursion (λ file. Contains named file ⊎ Contains unnamed file) files
   pub named_ones : (file : SavedFile) → Contains named file → Contains files file
       ⊎ IsLostBy findings (cost.File file.stored.prime.ppn file.stored.prime.file)
   pub unnamed_ones : (file : SavedFile) → Contains unnamed file → Contains files file

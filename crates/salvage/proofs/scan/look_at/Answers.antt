@@ -2,7 +2,7 @@ use Rattle.std.proofs.Common.{◌+◌, refl}
 use Rattle.spec_image.specs.Common.{layout_number}
 use Rattle.volume.proofs.common.MarkedBlocks.{on_ok}
 use Rattle.salvage.specs.Common.{AreFound, IsReadAt}
-use Rattle.salvage.proofs.LookedAt.{found_passed, found_more}
+use Rattle.salvage.proofs.LookedAt.{found_passed, found_more, in_use}
 use Rattle.salvage.proofs.scan.look_at.Goals as goal
 
 pub returns-then-not-is_candidate-clause-found : goal.returns-then-not-is_candidate-clause-found
@@ -22,4 +22,5 @@ returns-clause-found g c h read found =
     let is = c.if-not-is_candidate.ensures.0 refl in
     on_ok c.read_at.result (IsReadAt s.size layout s.contents n old new)
     (AreFound s.size layout s.contents counts new (n + 1))
-    (λ at. found_more s.size layout s.contents counts old n found new is.0 at) (c.read_at.ensures.found h)
+    (λ at. found_more s.size layout s.contents counts old n found new is.0
+    (in_use s.size s.contents c.args.table.now n read is.1) at) (c.read_at.ensures.found h)
