@@ -1,0 +1,2 @@
+mod WalkedWords
+pub mod NamedWords
