@@ -8,7 +8,7 @@ pub use Rattle.collection.specs.Lines.{IsCounted, IsLineWritten, IsRefusedLine, 
 pub use Rattle.collection.specs.Import.{AreDoneWith, GoesOn, IsDoneWith, IsEncodingFor, IsImportRun, IsMomentFor}
 pub use Rattle.collection.specs.Import.{IsSourcePut, most_read}
 pub use Rattle.collection.specs.Export.{AreEntriesDone, AreOwnersDone, IsChangeOf, IsEntryDone, IsExportRun}
-pub use Rattle.collection.specs.Export.{IsOwnerDone, IsStored, IsTakenOut, encoding_text}
+pub use Rattle.collection.specs.Export.{IsOwnerDone, IsStored, IsTakenOut, MayExport, MayFill, encoding_text}
 pub use Rattle.collection.specs.Save.{AreFilesSaved, IsFileDone, IsFindingDone, IsReadStored, IsSalvageRun}
 pub use Rattle.collection.specs.Save.{IsSavedAt, IsWanted, IsWantedCost, IsWantedDone, fault_text, head_findings}
 pub use Rattle.collection.specs.Save.{is_device, path_of_cost, words_read}

@@ -3,6 +3,7 @@ use Rattle.std.specs.Prelude.{◌≡◌, ◌⊎◌, ◌≤◌, ◌++◌, ℕ, tr
 use Rattle.std.specs.declared.alloc.AllocError.{AllocError}
 use Rattle.std.specs.declared.io.Error.{Error}
 use Rattle.words36.specs.declared.moment.Moment.{Moment}
+use Rattle.words36.specs.declared.names.FileName.{FileName}
 use Rattle.spec_language.specs.Common.{is_broken, line, refusal}
 use Rattle.spec_machine.specs.declared.call.Reply.{Reply}
 use Rattle.spec_language.specs.declared.encoding.Encoding.{Encoding}
@@ -20,6 +21,16 @@ use Rattle.collection.specs.HostFacts.{FileFacts}
 use Rattle.collection.specs.Lines.{IsCounted, IsLineWritten, IsRefusedLine, IsUnnamed, label_of}
 use Rattle.collection.specs.HostNames.{folder_of, path_of, shown}
 use Rattle.collection.specs.declared.task.ExportTask.{ExportTask}
+
+-- A folder may be made, the folders of directories in it, and files in these.
+pub record MayFill (facts : FileFacts) (folder : List ℕ) : Type 0 where
+  pub itself : facts.may_make_folder folder
+  pub directory : (owner : ℕ) → facts.may_make_folder (folder_of folder owner)
+  pub file : (owner : ℕ) (name : FileName) → facts.may_store (path_of folder owner name)
+
+-- An export may do this with its folder, unless it only lists paths: then it makes nothing.
+abbrev pub MayExport : FileFacts → ExportTask → Type 0
+MayExport facts task = task.lists ≡ false → MayFill facts task.folder.now
 
 -- the word for the encoding of a file that was made
 abbrev pub encoding_text : Encoding → List ℕ

@@ -4,7 +4,7 @@ ghost use Rattle.monitor.specs.Common.{MonitorState};
 ghost use Rattle.commands.specs.Common.{machine_of};
 ghost use Rattle.collection.specs.Common.{EachDone, Goes, none_counted, folder_of as folder_text, AreEntriesDone};
 ghost use Rattle.collection.specs.Common.{AreOwnersDone, IsChangeOf, IsEntryDone, IsExportRun, IsOwnerDone, IsStored};
-ghost use Rattle.collection.specs.Common.{IsTakenOut, encoding_text};
+ghost use Rattle.collection.specs.Common.{IsTakenOut, MayExport, encoding_text};
 
 use crate::clock::first_moment;
 use crate::lines::{added, say, say_path, turn_down};
@@ -51,6 +51,7 @@ pub(crate) fn store<H: HostFiles, W: Write, E: Write>(
     writer: &mut W,
     errors: &mut E,
 ) -> Result<Tally, SessionError>
+    requires { (H.files host.now).may_store path.now }
     ensures { IsStored (H.files host.now) path.now changed exported (W.contents writer.old) (W.contents writer.new)
         result }
 {
@@ -105,6 +106,7 @@ fn take_out<H: HostFiles, W: Write, E: Write, D: Disk>(
     writer: &mut W,
     errors: &mut E,
 ) -> Result<Tally, SessionError>
+    requires { (H.files host.now).may_store file.now.path.now }
     ensures { IsTakenOut (H.files host.now) (λ (m : MonitorState D). machine_of (D.state m.disk) m.map m.failed m.jobs)
         directory.now.task.now.encoding file.now.path.now directory.now.owner file.now.entry.now (W.contents writer.old)
         (W.contents writer.new) monitor.old monitor.new result }
@@ -132,6 +134,7 @@ fn export_one<H: HostFiles, W: Write, E: Write, D: Disk>(
     writer: &mut W,
     errors: &mut E,
 ) -> Result<Tally, SessionError>
+    requires { MayExport (H.files host.now) directory.now.task.now }
     ensures { IsEntryDone (H.files host.now) (λ (m : MonitorState D). machine_of (D.state m.disk) m.map m.failed m.jobs)
         directory.now.task.now directory.now.owner entry.now (W.contents writer.old) (W.contents writer.new)
         monitor.old monitor.new result }
@@ -160,6 +163,7 @@ fn export_entries<H: HostFiles, W: Write, E: Write, D: Disk>(
     writer: &mut W,
     errors: &mut E,
 ) -> Result<Tally, SessionError>
+    requires { MayExport (H.files host.now) directory.now.task.now }
     ensures { EachDone (IsEntryDone (H.files host.now)
         (λ (m : MonitorState D). machine_of (D.state m.disk) m.map m.failed m.jobs) directory.now.task.now
         directory.now.owner) entries.now none_counted (W.contents writer.old) (W.contents writer.new) monitor.old
@@ -183,7 +187,8 @@ fn fill_folder<H: HostFiles, W: Write, E: Write, D: Disk>(
     writer: &mut W,
     errors: &mut E,
 ) -> Result<Tally, SessionError>
-    requires { listed.now.folder.now ≡ folder_text directory.now.task.now.folder.now directory.now.owner }
+    requires folder { listed.now.folder.now ≡ folder_text directory.now.task.now.folder.now directory.now.owner }
+    requires allowed { MayExport (H.files host.now) directory.now.task.now }
     ensures { AreEntriesDone (H.files host.now)
         (λ (m : MonitorState D). machine_of (D.state m.disk) m.map m.failed m.jobs) directory.now.task.now
         directory.now.owner listed.now.entries.now (W.contents writer.old) (W.contents writer.new) monitor.old
@@ -209,6 +214,7 @@ fn export_directory<H: HostFiles, W: Write, E: Write, D: Disk>(
     writer: &mut W,
     errors: &mut E,
 ) -> Result<Tally, SessionError>
+    requires { MayExport (H.files host.now) directory.now.task.now }
     ensures { IsOwnerDone (H.files host.now) (λ (m : MonitorState D). machine_of (D.state m.disk) m.map m.failed m.jobs)
         directory.now.task.now directory.now.owner (W.contents writer.old) (W.contents writer.new) monitor.old
         monitor.new result }
@@ -239,6 +245,7 @@ fn export_directories<H: HostFiles, W: Write, E: Write, D: Disk>(
     writer: &mut W,
     errors: &mut E,
 ) -> Result<Tally, SessionError>
+    requires { MayExport (H.files host.now) task.now }
     ensures { EachDone (IsOwnerDone (H.files host.now)
         (λ (m : MonitorState D). machine_of (D.state m.disk) m.map m.failed m.jobs) task.now) owners.now none_counted
         (W.contents writer.old) (W.contents writer.new) monitor.old monitor.new result }
@@ -265,6 +272,7 @@ fn export_owners<H: HostFiles, W: Write, E: Write, D: Disk>(
     writer: &mut W,
     errors: &mut E,
 ) -> Result<Tally, SessionError>
+    requires { MayExport (H.files host.now) task.now }
     ensures { AreOwnersDone (H.files host.now)
         (λ (m : MonitorState D). machine_of (D.state m.disk) m.map m.failed m.jobs) task.now owners.now
         (W.contents writer.old) (W.contents writer.new) monitor.old monitor.new result }
@@ -294,6 +302,7 @@ pub fn export_files<H: HostFiles, W: Write, E: Write, D: Disk>(
     writer: &mut W,
     errors: &mut E,
 ) -> Result<Tally, SessionError>
+    requires { MayExport (H.files host.now) task.now }
     ensures done { IsExportRun (H.files host.now) (λ (m : MonitorState D). machine_of (D.state m.disk) m.map m.failed m.jobs)
         task.now (W.contents writer.old) (W.contents writer.new) monitor.old monitor.new result }
     ensures goes { Goes (λ (m : MonitorState D). machine_of (D.state m.disk) m.map m.failed m.jobs) monitor.old

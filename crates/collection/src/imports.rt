@@ -1,5 +1,6 @@
 //! The import of files of the host into a directory.
-ghost use Rattle.std.specs.Prelude.{◌≡◌, ◌⊎◌, ◌<◌, ℕ, List, length, get_or, map, true, IfSome, IfNone, Ok, Err, None};
+ghost use Rattle.std.specs.Prelude.{◌≡◌, ◌⊎◌, ◌<◌, ℕ, List, All, length, get_or, map, true, IfSome, IfNone, Ok, Err};
+ghost use Rattle.std.specs.Prelude.{None};
 ghost use Rattle.spec_machine.specs.declared.call.Reply.TheVariants.{Refused};
 ghost use Rattle.spec_language.specs.Common.{is_broken, owner_text, refusal};
 ghost use Rattle.commands.specs.declared.error.SessionError.TheVariants.{NoMemory};
@@ -130,6 +131,7 @@ fn import_one<H: HostFiles, W: Write, E: Write, D: Disk>(
     writer: &mut W,
     errors: &mut E,
 ) -> Result<Tally, SessionError>
+    requires { (H.files host.now).may_read path.now }
     ensures { IsDoneWith (H.files host.now) (λ (m : MonitorState D). machine_of (D.state m.disk) m.map m.failed m.jobs)
         task.now path.now (W.contents writer.old) (W.contents writer.new) monitor.old monitor.new result }
 {
@@ -184,6 +186,7 @@ fn import_all<H: HostFiles, W: Write, E: Write, D: Disk>(
     writer: &mut W,
     errors: &mut E,
 ) -> Result<Tally, SessionError>
+    requires { All (H.files host.now).may_read (map (λ p. p.now) task.now.paths.items) }
     ensures { AreDoneWith (H.files host.now) (λ (m : MonitorState D). machine_of (D.state m.disk) m.map m.failed m.jobs)
         task.now (map (λ p. p.now) task.now.paths.items) (W.contents writer.old) (W.contents writer.new) monitor.old
         monitor.new result }
@@ -247,6 +250,7 @@ pub fn import_files<H: HostFiles, W: Write, E: Write, D: Disk>(
     writer: &mut W,
     errors: &mut E,
 ) -> Result<Tally, SessionError>
+    requires { All (H.files host.now).may_read (map (λ p. p.now) task.now.paths.items) }
     ensures done { IsImportRun (H.files host.now)
         (λ (m : MonitorState D). machine_of (D.state m.disk) m.map m.failed m.jobs) task.now
         (map (λ p. p.now) task.now.paths.items) (W.contents writer.old) (W.contents writer.new) monitor.old

@@ -5,7 +5,7 @@ ghost use Rattle.blockdisk.specs.Common.{memory_state};
 ghost use Rattle.salvage.specs.Common.{FitsDisk};
 ghost use Rattle.collection.specs.Common.{EachDone, none_counted, AreFilesSaved, IsFileDone, IsFindingDone};
 ghost use Rattle.collection.specs.Common.{IsReadStored, IsSalvageRun, IsSavedAt, IsWanted, IsWantedCost};
-ghost use Rattle.collection.specs.Common.{IsWantedDone, fault_text, head_findings, is_device, path_of_cost};
+ghost use Rattle.collection.specs.Common.{IsWantedDone, MayExport, fault_text, head_findings, is_device, path_of_cost};
 ghost use Rattle.collection.specs.Common.{words_read};
 ghost use Rattle.salvage.specs.declared.error.SalvageError.TheVariants.{NotVolume};
 ghost use Rattle.salvage.specs.declared.finding.Cost.TheVariants as cost;
@@ -40,7 +40,8 @@ fn store_read<H: HostFiles, W: Write, E: Write>(
     writer: &mut W,
     errors: &mut E,
 ) -> Result<Tally, SessionError>
-    requires { IsErrOf read NotVolume → ⊥ }
+    requires size { IsErrOf read NotVolume → ⊥ }
+    requires allowed { (H.files host.now).may_store saving.now.path.now }
     ensures { IsReadStored (H.files host.now) saving.now.task.now saving.now.path.now saving.now.file.now
         (words_read (λ v. v.items) read) (W.contents writer.old) (W.contents writer.new) result }
 {
@@ -76,7 +77,8 @@ fn save<H: HostFiles, W: Write, E: Write, D: Disk>(
     writer: &mut W,
     errors: &mut E,
 ) -> Result<Tally, SessionError>
-    requires { FitsDisk (D.state disk.old).size saving.now.file.now }
+    requires fits { FitsDisk (D.state disk.old).size saving.now.file.now }
+    requires allowed { (H.files host.now).may_store saving.now.path.now }
     ensures { IsSavedAt (H.files host.now) D.state saving.now.task.now saving.now.path.now saving.now.file.now
         (W.contents writer.old) (W.contents writer.new) disk.old disk.new result }
 {
@@ -94,7 +96,8 @@ fn save_wanted<H: HostFiles, W: Write, E: Write, D: Disk>(
     writer: &mut W,
     errors: &mut E,
 ) -> Result<Tally, SessionError>
-    requires { FitsDisk (D.state disk.old).size file.now }
+    requires fits { FitsDisk (D.state disk.old).size file.now }
+    requires allowed { MayExport (H.files host.now) task.now }
     ensures { IsWantedDone (H.files host.now) D.state task.now file.now (W.contents writer.old) (W.contents writer.new)
         disk.old disk.new result }
 {
@@ -143,7 +146,8 @@ fn save_one<H: HostFiles, W: Write, E: Write, D: Disk>(
     writer: &mut W,
     errors: &mut E,
 ) -> Result<Tally, SessionError>
-    requires { FitsDisk (D.state disk.old).size file.now }
+    requires fits { FitsDisk (D.state disk.old).size file.now }
+    requires allowed { MayExport (H.files host.now) task.now }
     ensures { IsFileDone (H.files host.now) D.state task.now file.now (W.contents writer.old) (W.contents writer.new)
         disk.old disk.new result }
 {
@@ -164,7 +168,8 @@ fn save_each<H: HostFiles, W: Write, E: Write, D: Disk>(
     writer: &mut W,
     errors: &mut E,
 ) -> Result<Tally, SessionError>
-    requires { AllByRecursion (FitsDisk (D.state disk.old).size) files.now }
+    requires fit { AllByRecursion (FitsDisk (D.state disk.old).size) files.now }
+    requires allowed { MayExport (H.files host.now) task.now }
     ensures { EachDone (IsFileDone (H.files host.now) D.state task.now) files.now none_counted (W.contents writer.old)
         (W.contents writer.new) disk.old disk.new result }
 {
@@ -186,7 +191,8 @@ fn save_files<H: HostFiles, W: Write, E: Write, D: Disk>(
     writer: &mut W,
     errors: &mut E,
 ) -> Result<Tally, SessionError>
-    requires { AllByRecursion (FitsDisk (D.state disk.old).size) files.now }
+    requires fit { AllByRecursion (FitsDisk (D.state disk.old).size) files.now }
+    requires allowed { MayExport (H.files host.now) task.now }
     ensures { AreFilesSaved (H.files host.now) D.state task.now files.now (W.contents writer.old)
         (W.contents writer.new) disk.old disk.new result }
 {
@@ -339,7 +345,8 @@ pub fn save_survey<H: HostFiles, W: Write, E: Write>(
     writer: &mut W,
     errors: &mut E,
 ) -> Result<Tally, SessionError>
-    requires { AllByRecursion (FitsDisk (length copied.old.disk.blocks)) found.now.files.items }
+    requires fit { AllByRecursion (FitsDisk (length copied.old.disk.blocks)) found.now.files.items }
+    requires allowed { MayExport (H.files host.now) task.now }
     ensures { IsSalvageRun (H.files host.now) memory_state task.now
         (head_findings copied.old.has_bad_log copied.old.unread) found.now.files.items found.now.findings.items
         (W.contents writer.old) (W.contents writer.new) copied.old.disk copied.new.disk result }

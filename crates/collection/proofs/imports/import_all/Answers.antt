@@ -55,3 +55,9 @@ returns g c = done_all
     (map (λ p. p.now) c.args.task.now.paths.items) (g.W.Write.contents c.args.writer.now) c.args.monitor.now
     c.loop-place.place c.loop-place.tally _ c.loop-place.monitor
     (past_map (λ p. p.now) c.args.task.now.paths.items c.loop-place.place (search rules)) c.loop-place.invariant
+
+pub import_one-requires : goal.import_one-requires
+import_one-requires g c = subst (g.H.HostFiles.files c.args.host.now).may_read
+    (sym (c.path_at-path.ensures c.path_at-path.result.now))
+    (c.requires c.loop-place.place c.path_at-path.result.now
+    (seen_inside (λ p. p.now) c.args.task.now.paths.items c.loop-place.place (search rules)))
