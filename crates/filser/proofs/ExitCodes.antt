@@ -1,10 +1,13 @@
 -- The exit status of a run, and what is printed if the words make no request.
 use Rattle.std.proofs.Common.{◌≡◌, ◌≢◌, ◌⊎◌, inl, inr, ℕ, List, Option, Result, Ok, Err, MatchResult, IfErr, IsSome}
 use Rattle.std.proofs.Common.{refl, sym, ◌∙◌, ap, subst}
-use Rattle.std.specs.Prelude.{IsErrOf}
+use Rattle.std.specs.Prelude.{IsErrOf, None, Some}
+use Rattle.std.specs.Option.{option_or}
+use Rattle.std.specs.declared.io.Error.{Error as IoError}
 use Rattle.clap.specs.Words.{Kinds, Row, Text, kind_of}
 use Rattle.clap.specs.declared.error.Error.{Error}
-use Rattle.filser.specs.Common.{AsksForHelp, IsMistaken, IsUsage, PrintsOnly, status_code}
+use Rattle.filser.specs.Common.{AsksForHelp, IsMistaken, IsUsage, PrintsOnly, fault_of_flush, status_code}
+use Rattle.filser.specs.declared.output.OutputFault.{OutputFault}
 use Rattle.filser.specs.declared.request.Request.{Request}
 use Rattle.filser.specs.declared.error.RequestError.{RequestError}
 use Rattle.filser.specs.declared.error.WrongArgument.{WrongArgument}
@@ -18,6 +21,13 @@ pub code_is : {V E : Type 0} (flushed : Result V E) (status : Status) (code : �
     → (code ≡ status_code status) ⊎ (code ≡ 4)
 code_is (Ok v) status code h = inl h
 code_is (Err e) status code h = inr h
+
+-- a flush that failed has shown a fault
+pub flush_failed : {T : Type 0} (flushed : Result T IoError) (old new : Option OutputFault)
+    → new ≡ option_or old (fault_of_flush flushed) → IfErr flushed (λ e. IsSome new)
+flush_failed (Ok v) old new is = tt
+flush_failed (Err e) None new is = subst IsSome (sym is) refl
+flush_failed (Err e) (Some fault) new is = subst IsSome (sym is) refl
 
 -- and 4 only after a fault of the output
 pub code_ran : {V E F : Type 0} (flushed : Result V E) (status : Status) (code : ℕ) (fault : Option F)

@@ -1,14 +1,18 @@
 -- Images to which a standard stream leads, and streams that lead to no image that is named.
 use Rattle.std.proofs.Common.{◌≡◌, ◌⊎◌, inl, inr, ℕ, List, Bool, true, false, Option, Some, None, IfSome, All}
 use Rattle.std.proofs.Common.{MatchOption, IsTrue, IsFalse, not, ap, subst, sym, refl, ◌∙◌}
-use Rattle.filser.specs.Common.{Covers, HostFacts, IsApart, IsLedBy, IsStreamAt, SparesErrors, SparesOutput}
-use Rattle.filser.specs.Common.{forbids_errors, forbids_output}
+use Rattle.std.specs.Prelude.{drop}
+use Rattle.clap.specs.Words.{subcommand_of}
+use Rattle.arguments.specs.CommandLine.{command_line}
+use Rattle.filser.specs.Common.{AreReportsSpared, AreWordsSpared, Covers, HostFacts, IsApart, IsLedBy, IsStreamAt}
+use Rattle.filser.specs.Common.{SparesErrors, SparesOutput, forbids_errors, forbids_output}
 use Rattle.filser.specs.declared.fault.HostFault.{HostFault}
 use Rattle.filser.specs.declared.fault.HostFault.TheVariants.{System, InUse, Input, Output, Errors, Memory}
 use Rattle.filser.specs.declared.fault.HostFault.TheVariants.{WrongLength}
 use Rattle.filser.specs.declared.fault.ImageFault.{ImageFault}
 use Rattle.filser.specs.declared.led_image.LedImage.{LedImage}
 use Rattle.filser.specs.declared.refusal.Refusal.{Refusal}
+use Rattle.filser.proofs.NamedFiles.{holds_of_images}
 
 -- what forbids reports forbids the output too
 mute_too : (fault : HostFault) → forbids_errors fault ≡ true → forbids_output fault ≡ true
@@ -101,19 +105,27 @@ pub is_free : (free : Bool) → not free ≡ false → IsTrue free
 is_free true h = refl
 is_free false h = let wrong : true ≡ false = h in cc
 
+-- a stream that leads to no file of the words leads to no image of their request
+words_spared : {H : Type 0} (facts : HostFacts H) (words : List (List ℕ)) → All (SparesErrors facts) (drop 1 words)
+    → AreWordsSpared facts (subcommand_of command_line words) (drop 1 words)
+words_spared facts words all = record {
+  files = all;
+  images = λ request asks. holds_of_images (SparesErrors facts) words (subcommand_of command_line words) request refl
+      asks all;
+}
+
 -- what a request reports, and then the end of its run
-pub reports_spared : {H : Type 0} (facts : HostFacts H) (names : List (List ℕ)) (Spared : Type 0)
-    (told middle reported : Option (List ℕ)) → (middle ≡ told) ⊎ All (SparesErrors facts) names ⊎ Spared
-    → (reported ≡ middle) ⊎ All (SparesErrors facts) names
-    → (reported ≡ told) ⊎ All (SparesErrors facts) names ⊎ Spared
-reports_spared facts names Spared told middle reported first (inr spared) = inr (inl spared)
-reports_spared facts names Spared told middle reported (inl same) (inl still) = inl (still ∙ same)
-reports_spared facts names Spared told middle reported (inr spared) (inl still) = inr spared
+pub reports_spared : {H : Type 0} (facts : HostFacts H) (words : List (List ℕ)) (told middle reported : Option (List ℕ))
+    → AreReportsSpared facts (subcommand_of command_line words) (drop 1 words) told middle
+    → (reported ≡ middle) ⊎ All (SparesErrors facts) (drop 1 words)
+    → AreReportsSpared facts (subcommand_of command_line words) (drop 1 words) told reported
+reports_spared facts words told middle reported first (inr spared) = inr (inl (words_spared facts words spared))
+reports_spared facts words told middle reported (inl same) (inl still) = inl (still ∙ same)
+reports_spared facts words told middle reported (inr spared) (inl still) = inr spared
 
 -- what is reported of words that make no request
-pub free_spared : {H : Type 0} (facts : HostFacts H) (names : List (List ℕ)) (Spared : Type 0)
-    (told reported : Option (List ℕ)) (free : Bool) → (IsFalse free → reported ≡ told)
-    → (IsTrue free → All (SparesErrors facts) names)
-    → (reported ≡ told) ⊎ All (SparesErrors facts) names ⊎ Spared
-free_spared facts names Spared told reported true kept spared = inr (inl (spared refl))
-free_spared facts names Spared told reported false kept spared = inl (kept refl)
+pub free_spared : {H : Type 0} (facts : HostFacts H) (words : List (List ℕ)) (told reported : Option (List ℕ))
+    (free : Bool) → (IsFalse free → reported ≡ told) → (IsTrue free → All (SparesErrors facts) (drop 1 words))
+    → AreReportsSpared facts (subcommand_of command_line words) (drop 1 words) told reported
+free_spared facts words told reported true kept spared = inr (inl (words_spared facts words (spared refl)))
+free_spared facts words told reported false kept spared = inl (kept refl)

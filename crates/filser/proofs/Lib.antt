@@ -6,7 +6,9 @@ mod ServiceFacts
 mod MatchedWords
 mod Unasked
 mod NamedStreams
+mod NamedFiles
 mod LedImages
 mod ExitCodes
+mod OutputFaults
 mod CollectionLaws
 mod SalvageLaws

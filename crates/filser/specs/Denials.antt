@@ -1,6 +1,6 @@
 -- Why an image isn't served or made, and what is then printed.
-use Rattle.std.specs.Prelude.{◌≡◌, ◌≢◌, ◌⊎◌, ℕ, List, Bool, true, false, Option, Some, None, Ok, Err, option_map, pos}
-use Rattle.std.specs.Prelude.{◌≤ℤ◌}
+use Rattle.std.specs.Prelude.{◌≡◌, ◌≢◌, ◌⊎◌, ℕ, List, Bool, true, false, Option, Some, None, Result, Ok, Err}
+use Rattle.std.specs.Prelude.{option_map, pos, ◌≤ℤ◌}
 use Rattle.std.specs.IoError.{error_kind}
 use Rattle.std.specs.declared.fs.TryLockError.TheVariants.{WouldBlock, Error as LockFailed}
 use Rattle.std.specs.declared.io.Error.{Error}
@@ -54,6 +54,11 @@ abbrev pub IsUnfilled : {F : Type 0} → HostFacts F → List ℕ → ImageFault
 IsUnfilled {F} facts path fault = (file : F) × facts.created path (Ok file)
     × (IsUnfit facts file fault
     ⊎ ((error : Error) × facts.filled file (Err error) × (fault ≡ of_host (System error))))
+
+-- No file was made at a path, or the one that was made was to be removed.
+abbrev pub IsCleared : {F : Type 0} → HostFacts F → List ℕ → ImageFault → Type 0
+IsCleared facts path fault = IsUnmade facts path fault
+    ⊎ ((result : Result (Unit {0}) Error) × facts.removed path result)
 
 -- A device failed, and the reason is reported, if the host has given one.
 abbrev pub IsDeviceFault : ImageFault → Type 0

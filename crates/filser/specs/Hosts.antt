@@ -1,6 +1,6 @@
 -- What the host answered to calls on files. A body that is proved for every host can show one of these facts only by
 -- the call that gives it.
-use Rattle.std.specs.Prelude.{ℕ, ℤ, List, Option, Result, Ok, pos, ◌<ℤ◌}
+use Rattle.std.specs.Prelude.{◌⊎◌, ℕ, ℤ, List, Option, Result, Ok, Err, pos, ◌<ℤ◌}
 use Rattle.std.specs.declared.io.Error.{Error}
 use Rattle.std.specs.declared.fs.TryLockError.{TryLockError}
 use Rattle.collection.specs.Common.{FileFacts}
@@ -13,10 +13,14 @@ pub record HostFacts (F : Type 0) : Type 1 where
   pub opened : List ℕ → Result F Error → Type 0
   -- a file was to be made at a path, if nothing is there
   pub created : List ℕ → Result F Error → Type 0
+  -- a file was made to have the permission bits of the file at a path
+  pub bits_of : F → List ℕ → Type 0
   -- a file was to be filled with zeros
   pub filled : F → Result (Unit {0}) Error → Type 0
   -- a file was to be locked for this process
   pub locked : F → Result (Unit {0}) TryLockError → Type 0
+  -- the file that was made at a path was to be removed
+  pub removed : List ℕ → Result (Unit {0}) Error → Type 0
   -- a path leads to this file, or to no file
   pub found : List ℕ → Option FileId → Type 0
   -- the number by which the system knows an open file
@@ -41,6 +45,11 @@ pub record IsOpened {F : Type 0} (facts : HostFacts F) (path : List ℕ) (u : Un
   pub opened : facts.opened path (Ok file)
   pub own : IsOwn facts file
   pub supposed : facts.supposed file u
+
+-- A file was made at this path, to have the permission bits of the file at another one; or none could be made.
+abbrev pub IsMadeLike : {F : Type 0} → HostFacts F → List ℕ → List ℕ → Type 0
+IsMadeLike {F} facts path other = ((error : Error) × facts.created path (Err error))
+    ⊎ ((file : F) × facts.created path (Ok file) × facts.bits_of file other)
 
 -- A file was made at this path, where nothing was, and filled with zeros; and this is supposed of it.
 pub record IsMade {F : Type 0} (facts : HostFacts F) (path : List ℕ) (u : Unseen) : Type 0 where

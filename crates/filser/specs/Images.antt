@@ -13,7 +13,8 @@ use Rattle.volume.specs.declared.error.CopyError.{CopyError}
 use Rattle.volume.specs.declared.error.CopyError.TheVariants.{Source, Target}
 use Rattle.volume.specs.declared.error.VolumeError.{VolumeError}
 use Rattle.volume.specs.declared.error.VolumeError.TheVariants.{NotVolume, Device}
-use Rattle.filser.specs.Denials.{IsDeviceFault, IsExplained, IsNoImage, IsUnfilled, IsUnmade, IsUnopened, of_host}
+use Rattle.filser.specs.Denials.{IsCleared, IsDeviceFault, IsExplained, IsNoImage, IsUnfilled, IsUnmade, IsUnopened}
+use Rattle.filser.specs.Denials.{of_host}
 use Rattle.filser.specs.Hosts.{HostFacts, IsMade, IsOpened}
 use Rattle.filser.specs.Lines.{IsLine}
 use Rattle.filser.specs.Refusals.{converted_text}
@@ -122,13 +123,14 @@ pub record IsEmptyVolume (layout : Layout) (d : DiskState) : Type 0 where
   pub rests : d.honest → AtRest d (λ c. StandsOn (pack_in (layout_number layout) d.size) c empty)
   pub settled : d.honest → NoneOpen d
 
--- What became of a requested image: it was made, and nothing was printed; or it wasn't, for a reason that holds.
+-- What became of a requested image: it was made, and nothing was printed; or it wasn't, for a reason that holds, and no
+-- file is left of it, if it could be removed.
 abbrev pub IsOnNew : {H L M F D I : Type 0} → HostFacts H → Views M F D I → List ℕ → Form → ℕ → Layout → Unseen
     → Option (List ℕ) → Option (List ℕ) → Disks L F D I → Status → Type 0
 IsOnNew {D = D} facts views path form blocks layout u sink full disks status =
     ((disk : D) × (right : RemovalRight) × (disks ≡ Made disk right) × IsNewDisk facts views path form blocks u disk
     × IsEmptyVolume layout (views.disk disk) × (full ≡ sink) × (status ≡ Done))
-    ⊎ ((fault : ImageFault) × IsNotMade facts views path form blocks u fault disks
+    ⊎ ((fault : ImageFault) × IsNotMade facts views path form blocks u fault disks × IsCleared facts path fault
     × IsExplained sink full status fault)
 
 -- A fresh volume in memory.

@@ -2,6 +2,7 @@ pub mod Hosts
 pub mod Requests
 pub mod Statuses
 pub mod Refusals
+pub mod Outputs
 pub mod Lines
 pub mod Endings
 pub mod HostFaults
@@ -11,6 +12,7 @@ pub mod Tasks
 pub mod Views
 pub mod Denials
 pub mod FreeStreams
+pub mod MovedFiles
 pub mod Images
 pub mod Migrations
 pub mod ImportRuns

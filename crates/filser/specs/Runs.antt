@@ -7,7 +7,7 @@ use Rattle.filser.specs.Denials.{IsExplained}
 use Rattle.filser.specs.Endings.{AsksForHelp, EndsUnasked}
 use Rattle.filser.specs.ExportRuns.{IsOnExported}
 use Rattle.filser.specs.SalvageRuns.{IsOnSalvaged}
-use Rattle.filser.specs.Hosts.{HostFacts}
+use Rattle.filser.specs.Hosts.{HostFacts, IsMadeLike}
 use Rattle.filser.specs.Images.{IsOnBoth, IsOnFresh, IsOnImage, IsOnNew}
 use Rattle.filser.specs.ImportRuns.{IsOnImported}
 use Rattle.filser.specs.Migrations.{IsOnMigrated}
@@ -64,6 +64,7 @@ IsRequestRun facts views things (Work path form task) source left sink full stat
 IsRequestRun facts views things (Convert path other form) source left sink full status =
     (left ≡ source) × IsOnBoth facts views path.now other.now form things.u things.v things.opening things.making sink
     full things.image things.new status × (things.memory ≡ Nothing)
+    × ((things.new ≡ Unasked things.making) ⊎ IsMadeLike facts other.now path.now)
 IsRequestRun facts views things (Migrate path form) source left sink full status =
     (left ≡ source) × IsOnMigrated facts views path.now form things.u sink full things.image status
     × (things.new ≡ Unasked things.making) × (things.memory ≡ Nothing)
@@ -140,9 +141,15 @@ pub record WasRun {H L N M F D I : Type 0} (facts : HostFacts H) (views : Views 
       × IsHandled facts views missing things request source left sink full status)
       ⊎ IsUnasked facts kinds found names things source left sink full status
 
+-- None of it lands in a file that the words name, and so in no image that a request of them names, as the host answered.
+pub record AreWordsSpared {H : Type 0} (facts : HostFacts H) (found : Option (Text × List Row)) (names : List (List ℕ))
+    : Type 0 where
+  pub files : All (SparesErrors facts) names
+  pub images : (request : Request) → Asks found request → HoldsOfImages request (SparesErrors facts)
+
 -- Nothing was reported, or none of it lands in a file that the words name, or in an image that their request names, as
 -- the host answered.
 abbrev pub AreReportsSpared : {H : Type 0} → HostFacts H → Option (Text × List Row) → List (List ℕ) → Option (List ℕ)
     → Option (List ℕ) → Type 0
-AreReportsSpared facts found names told reported = (reported ≡ told) ⊎ All (SparesErrors facts) names
+AreReportsSpared facts found names told reported = (reported ≡ told) ⊎ AreWordsSpared facts found names
     ⊎ ((request : Request) × Asks found request × HoldsOfImages request (SparesErrors facts))

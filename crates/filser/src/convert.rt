@@ -1,12 +1,12 @@
 //! `convert`: an image copied to a new one of the other form.
-ghost use Rattle.std.specs.Prelude.{◌≡◌, ◌≢◌, OnOk, IfOk, IfErr, IfSome, IsErrOf};
+ghost use Rattle.std.specs.Prelude.{◌≡◌, ◌≢◌, ◌⊎◌, OnOk, IfOk, IfErr, IfSome, IsErrOf};
 ghost use Rattle.blockdisk.specs.Common.{SameDisk, one_more};
 ghost use Rattle.imagefile.specs.Common.{BeganAs, other_form, assumed_in};
 ghost use Rattle.volume.specs.declared.error.CopyError.TheVariants.{Source, Target};
 ghost use Rattle.volume.specs.declared.error.VolumeError.{VolumeError as Errors};
 ghost use Rattle.filser.specs.Common.{IsExplained, IsCopied, IsCopyFault, IsCopyRun, IsLeftAlone, IsNewDisk};
 ghost use Rattle.filser.specs.Common.{IsNotMade, IsOnBoth, IsNameTaken, IsOnCopy, IsOnSource, IsTaken, IsLine};
-ghost use Rattle.filser.specs.Common.{converted_text, IsRefusedBy};
+ghost use Rattle.filser.specs.Common.{converted_text, IsMadeLike, IsRefusedBy};
 ghost use Rattle.filser.specs.declared.fault.ImageFault.{ImageFault as Faults};
 ghost use Rattle.filser.specs.declared.status.Status.TheVariants.{BadArguments};
 ghost use Rattle.filser.specs.declared.disks.Disks.TheVariants as disks;
@@ -83,6 +83,8 @@ pub(crate) fn convert_image<H: Host, W: Write, E: Write>(
         conversion.now.new.now conversion.now.form (assumed_in opening.supposed) (assumed_in making.supposed)
         opening making
         (W.contents writer.old) (W.contents writer.new) result.image result.new result.status }
+    ensures bits { (result.new ≡ disks.Unasked making)
+        ⊎ IsMadeLike (H.facts host.now) conversion.now.new.now conversion.now.path.now }
 {
     if let Some(fault) = name_taken(host, conversion.new) {
         let image = Disks::Unasked(opening);
@@ -168,6 +170,8 @@ fn convert_disk<H: Host, W: Write, E: Write>(
         (other_form conversion.now.form) (assumed_in leave.supposed) leave (⟦<ImageDisk<HostFile> as Disk>⟧.state disk)
         (⟦<ImageDisk<HostFile> as Disk>⟧.state from) (W.contents writer.old) (W.contents writer.new) result.new
         result.status }
+    ensures bits { (result.new ≡ disks.Unasked leave)
+        ⊎ IsMadeLike (H.facts host.now) conversion.now.new.now conversion.now.path.now }
 {
     match taken(alloc, disk) {
         Ok(source) => write_new(host, alloc, source, conversion, leave, writer, errors),
@@ -206,6 +210,7 @@ fn new_target<H: Host, E: Write>(
     ensures counted { IfOk result (λ made. (⟦<ImageDisk<HostFile> as Disk>⟧.state made.0).failures ≡ 0) }
     ensures denied { IfErr result (λ denied. IsNotMade (H.facts host.now) (⟦<Run as Seen>⟧.views)
         conversion.now.new.now (other_form conversion.now.form) blocks (assumed_in leave.supposed) denied.0 denied.1) }
+    ensures bits { IsMadeLike (H.facts host.now) conversion.now.new.now conversion.now.path.now }
 {
     let new = conversion.new;
     let (made, supposed) = match new_file(host, new, Some(conversion.path), leave) {
@@ -243,6 +248,7 @@ fn write_new<H: Host, W: Write, E: Write>(
         (other_form conversion.now.form) (assumed_in leave.supposed) (⟦<ImageDisk<HostFile> as Disk>⟧.state source)
         (⟦<ImageDisk<HostFile> as Disk>⟧.state from) (W.contents writer.old) (W.contents writer.new) result.new
         result.status }
+    ensures bits { IsMadeLike (H.facts host.now) conversion.now.new.now conversion.now.path.now }
 {
     match new_target(host, conversion, source.blocks(), leave, errors) {
         Ok((target, right)) => { copy_to(alloc, source, target, right, conversion, writer, errors) }

@@ -1,6 +1,7 @@
 //! `export`: files of an image written to new files of the host.
 ghost use Rattle.std.specs.Prelude.{◌≡◌, ◌≢◌};
 ghost use Rattle.imagefile.specs.Common.{assumed_in};
+ghost use Rattle.collection.specs.Common.{MayExport};
 ghost use Rattle.filser.specs.Common.{IsExportedFrom, IsOnExported};
 ghost use Rattle.filser.specs.declared.status.Status.TheVariants.{BadArguments};
 
@@ -27,6 +28,7 @@ fn export_from<H: Host, D: Disk + Drop, W: Write, E: Write>(
     writer: &mut W,
     errors: &mut E,
 ) -> (Status, D)
+    requires { MayExport (H.facts shelf.now.host.now).files task.now }
     ensures serving { result.0 ≢ BadArguments }
     ensures ran { IsExportedFrom (H.facts shelf.now.host.now).files D.state task.now (W.contents writer.old)
         (W.contents writer.new) (D.state disk) result.1 result.0 }
@@ -55,6 +57,7 @@ pub(crate) fn export_image<H: Host, W: Write, E: Write>(
     writer: &mut W,
     errors: &mut E,
 ) -> (Status, ImageDisks)
+    requires { MayExport (H.facts shelf.now.host.now).files task.now }
     ensures serving { result.0 ≢ BadArguments }
     ensures ran { IsOnExported (H.facts shelf.now.host.now) (⟦<Run as Seen>⟧.views) image.now.path.now
         image.now.form task.now (assumed_in leave.supposed) (W.contents writer.old) (W.contents writer.new)

@@ -1,5 +1,5 @@
 //! The files of the host: the calls that the program makes on them, and the system that serves these.
-ghost use Rattle.std.specs.Prelude.{◌≡◌, Ok, Err, IfOk, IfErr, pos, ◌<ℤ◌};
+ghost use Rattle.std.specs.Prelude.{◌≡◌, Ok, Err, IfOk, IfErr, IfSome, pos, ◌<ℤ◌};
 ghost use Rattle.imagefile.specs.Common.{BeganAs, IsImageSize, assumed_in, size_of};
 ghost use Rattle.imagefile.specs.declared.size.ImageError.TheVariants.{BadSize, Device};
 ghost use Rattle.filser.specs.Hosts.{HostFacts};
@@ -63,6 +63,7 @@ pub trait Host {
     ) -> Result<(NewFile<Self::File>, AssumedImage), io::Error>
         ensures made { IfOk result (λ made. (facts self.now).created path.now (Ok made.0.file)
             × (assumed_in made.1 ≡ assumed_in leave.supposed)) }
+        ensures bits { IfOk result (λ made. IfSome like.entry (λ other. (facts self.now).bits_of made.0.file other.now)) }
         ensures refused { IfErr result (λ error. (facts self.now).created path.now (Err error)) };
 
     /// Fills a file that was made with `blocks` blocks of zeros, in this form, and waits until these and the name of
@@ -119,7 +120,8 @@ pub trait Host {
     ///
     /// The system's.
     fn remove(&self, path: &str, right: RemovalRight) -> io::Result<()>
-        requires { (file : Self.File) × (facts self.now).created path.now (Ok file) };
+        requires { (file : Self.File) × (facts self.now).created path.now (Ok file) }
+        ensures { (facts self.now).removed path.now result };
 
     /// Reads the file at a path to its end, or until it has more bytes than `most`.
     ///
@@ -127,6 +129,7 @@ pub trait Host {
     ///
     /// The system's, and `OutOfMemory` if its bytes find no room.
     fn read(&self, alloc: Global, path: &str, most: usize, right: &FilesRight) -> io::Result<Source>
+        requires { (facts self.now).files.may_read path.now }
         ensures { (facts self.now).files.read path.now most result };
 
     /// Makes a folder at a path, unless there is one.
@@ -135,6 +138,7 @@ pub trait Host {
     ///
     /// The system's. Its parent must exist.
     fn make_folder(&self, path: &str, right: &FilesRight) -> io::Result<()>
+        requires { (facts self.now).files.may_make_folder path.now }
         ensures { (facts self.now).files.folder path.now result };
 
     /// Makes a file of these bytes at a path, if nothing is there, with this moment, in UTC, as its last change. A
@@ -151,6 +155,7 @@ pub trait Host {
         changed: Option<Moment>,
         right: &FilesRight,
     ) -> io::Result<()>
+        requires { (facts self.now).files.may_store path.now }
         ensures { (facts self.now).files.stored path.now bytes.now changed result };
 }
 
@@ -355,12 +360,17 @@ impl<F: Files<File = File>> Host for SystemHost<'_, F> {
     ghost facts = { λ host. record {
       opened = λ path result. Unit {0};
       created = λ path result. Unit {0};
+      bits_of = λ file path. Unit {0};
       filled = λ file result. Unit {0};
       locked = λ file result. Unit {0};
+      removed = λ path result. Unit {0};
       found = λ path file. Unit {0};
       number = λ file. file_raw_fd file;
       supposed = λ file u. Unit {0};
       files = record {
+        may_read = λ path. Unit {0};
+        may_make_folder = λ path. Unit {0};
+        may_store = λ path. Unit {0};
         read = λ path most result. Unit {0};
         folder = λ path result. Unit {0};
         stored = λ path bytes changed result. Unit {0};

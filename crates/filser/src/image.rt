@@ -1,11 +1,11 @@
 //! Images: opening an existing one, and making a new one.
-ghost use Rattle.std.specs.Prelude.{◌≡◌, Ok, Err, IfOk, IfErr, OnOk, option_map, pos, ◌<ℤ◌};
+ghost use Rattle.std.specs.Prelude.{◌≡◌, Ok, Err, IfOk, IfErr, IfSome, OnOk, option_map, pos, ◌<ℤ◌};
 ghost use Rattle.blockdisk.specs.Common.{SameDisk};
 ghost use Rattle.imagefile.specs.Common.{BeganAs, failure_of as reason_of, assumed_in, Unseen};
 ghost use Rattle.imagefile.specs.declared.form.Form.{Form as Forms};
 ghost use Rattle.filser.specs.Common.{IsNoImage, IsUnfilled, IsUnfit, IsUnlocked, IsUnmade, IsUnopened, of_host};
 ghost use Rattle.filser.specs.Common.{IsKept, IsOpened, IsOwn, HasNoDisk, IsDenied, IsEmptyVolume, IsNewDisk};
-ghost use Rattle.filser.specs.Common.{IsNoNewDisk, IsNotMade};
+ghost use Rattle.filser.specs.Common.{IsCleared, IsNoNewDisk, IsNotMade};
 ghost use Rattle.filser.specs.declared.fault.HostFault.TheVariants.{System, Memory as OutOfMemory};
 ghost use Rattle.filser.specs.declared.disks.Disks.TheVariants as disks;
 
@@ -278,6 +278,7 @@ pub(crate) fn new_file<H: Host>(
 ) -> Result<(NewFile<H::File>, AssumedImage), ImageFault>
     ensures made { IfOk result (λ made. (H.facts host.now).created path.now (Ok made.0.file)
         × (assumed_in made.1 ≡ assumed_in leave.supposed)) }
+    ensures bits { IfOk result (λ made. IfSome like.entry (λ other. (H.facts host.now).bits_of made.0.file other.now)) }
     ensures refused { IfErr result (IsUnmade (H.facts host.now) path.now) }
 {
     match host.create(path, like, leave) {
@@ -441,6 +442,7 @@ pub(crate) fn make_image<H: Host>(
         (⟦<ImageDisk<HostFile> as Disk>⟧.state made.0)) }
     ensures denied { IfErr result (λ denied. IsNotMade (H.facts host.now) (⟦<Run as Seen>⟧.views) path.now
         volume.now.form volume.now.blocks (assumed_in leave.supposed) denied.0 denied.1) }
+    ensures cleared { IfErr result (λ denied. IsCleared (H.facts host.now) path.now denied.0) }
 {
     let (made, supposed) = match new_file(host, path, None, leave) {
         Ok(made) => made,

@@ -1,5 +1,5 @@
 //! `import`: files of the host put on an image.
-ghost use Rattle.std.specs.Prelude.{◌≡◌, ◌≢◌};
+ghost use Rattle.std.specs.Prelude.{◌≡◌, ◌≢◌, All, map};
 ghost use Rattle.imagefile.specs.Common.{assumed_in};
 ghost use Rattle.filser.specs.Common.{IsImportRun, IsOnImported};
 ghost use Rattle.filser.specs.declared.status.Status.TheVariants.{BadArguments};
@@ -35,6 +35,7 @@ fn import_on<H: Host, D: Disk + Drop, W: Write, E: Write>(
     writer: &mut W,
     errors: &mut E,
 ) -> (Status, D)
+    requires { All (H.facts shelf.now.host.now).files.may_read (map (λ p. p.now) task.now.paths.items) }
     ensures serving { result.0 ≢ BadArguments }
     ensures ran { IsImportRun (H.facts shelf.now.host.now).files D.state task.now
         (W.contents writer.old) (W.contents writer.new) (D.state disk) result.1 result.0 }
@@ -64,6 +65,7 @@ pub(crate) fn import_image<H: Host, W: Write, E: Write>(
     writer: &mut W,
     errors: &mut E,
 ) -> (Status, ImageDisks)
+    requires { All (H.facts shelf.now.host.now).files.may_read (map (λ p. p.now) task.now.paths.items) }
     ensures serving { result.0 ≢ BadArguments }
     ensures ran { IsOnImported (H.facts shelf.now.host.now) (⟦<Run as Seen>⟧.views) image.now.path.now
         image.now.form task.now (assumed_in leave.supposed) (W.contents writer.old) (W.contents writer.new)

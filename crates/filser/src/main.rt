@@ -15,7 +15,8 @@
 //! 6. Files are reached through `Host` alone: generic code can't truncate one, write to one except through its disk, or
 //!    remove one that it didn't make. A call of the host can be shown only by making it. (`HostFacts`) A run can open
 //!    one file and make one, and hands back the leave that it didn't use. (`Leaves`) Only a run that moves files
-//!    between an image and the host can read or make other files. (`MovesFiles`)
+//!    between an image and the host can read or make other files, and these only at paths that its words name, or in a
+//!    folder that they name. (`MovesFiles`, `AllowsNamed`)
 //! 7. The file of an image was opened at its path, doesn't have the number of a standard stream, and is locked.
 //!    (`IsOpened`) The disk that is served has been that file's since before its first call. (`IsOnImage`)
 //! 8. Every task on an image is done by one function, `serve`: it starts a service on the disk, or reports why there is

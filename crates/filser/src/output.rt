@@ -1,7 +1,9 @@
 //! A writer that remembers its first fault.
-ghost use Rattle.std.specs.Prelude.{◌≡◌, IfErr, IsSome, None};
+ghost use Rattle.std.specs.Prelude.{◌≡◌, None, Some, length};
+ghost use Rattle.std.specs.Option.{option_or};
 ghost use Rattle.std.specs.Io.{WritesAtMost};
 ghost use Rattle.std.specs.Io.KnownBytes.{Keeps, WriteAppends};
+ghost use Rattle.filser.specs.Common.{fault_of_flush, fault_of_write};
 
 use std::io::{self, Write};
 use thiserror::Error;
@@ -45,11 +47,9 @@ impl<W: Write> OutputWriter<W> {
     /// Records a fault, unless there was one before.
     fn keep(&mut self, fault: OutputFault)
         ensures writer { self.new.writer ≡ self.old.writer }
-        ensures kept { IsSome self.new.fault }
+        ensures kept { self.new.fault ≡ option_or self.old.fault (Some fault) }
     {
-        if self.fault.is_none() {
-            self.fault = Some(fault);
-        }
+        self.fault = self.fault.or(Some(fault));
     }
 }
 
@@ -59,7 +59,7 @@ impl<W: Write> Write for OutputWriter<W> {
     fn write(&mut self, buf: &[u8]) -> io::Result<usize>
         ensures bound { WritesAtMost result buf.now }
         ensures bytes { WriteAppends (W.contents self.old.writer) (W.contents self.new.writer) result buf.now }
-        ensures failed { IfErr result (λ error. IsSome self.new.fault) }
+        ensures first { self.new.fault ≡ option_or self.old.fault (fault_of_write (length buf.now) result) }
     {
         let count = self.writer.write(buf);
         match count {
@@ -72,7 +72,7 @@ impl<W: Write> Write for OutputWriter<W> {
 
     fn flush(&mut self) -> io::Result<()>
         ensures bytes { Keeps (W.contents self.old.writer) (W.contents self.new.writer) }
-        ensures failed { IfErr result (λ error. IsSome self.new.fault) }
+        ensures first { self.new.fault ≡ option_or self.old.fault (fault_of_flush result) }
     {
         let flushed = self.writer.flush();
         if let Err(error) = flushed {

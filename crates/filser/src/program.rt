@@ -8,6 +8,7 @@ ghost use Rattle.arguments.specs.CommandLine.{command_line};
 ghost use Rattle.imagefile.specs.Common.{assumed_in};
 ghost use Rattle.filser.specs.Common.{IsExplained, AreMistaken, AskToSee, EndsUnasked, AsksForHelp, forbids_errors};
 ghost use Rattle.filser.specs.Common.{IsOnNew, Asks, InRange, IsHandled, IsRequestRun, WasRun};
+ghost use Rattle.filser.specs.Common.{AllowsMoved, AllowsNamed};
 ghost use Rattle.filser.specs.Common.{AreReportsSpared, HoldsOfImages, MovesFiles, SparesErrors, status_code};
 ghost use Rattle.filser.specs.declared.request.Request.{Request as Asked};
 ghost use Rattle.filser.specs.declared.error.WrongArgument.{WrongArgument as WrongArguments};
@@ -56,6 +57,7 @@ pub fn work<H: Host, R: Read, W: Write, E: Write>(
     leaves: Leaves,
     streams: &mut Streams<LineReader<R>, OutputWriter<W>, E>,
 ) -> Run
+    requires { AllowsNamed (H.facts host.now).files (drop 1 (map (λ w. w.now) words.now)) }
     ensures few { result.code ≤ 4 }
     ensures mistaken { AreMistaken (fault_of command_line (map (λ w. w.now) words.now))
         → (result.code ≡ 2) ⊎ (result.code ≡ 4) }
@@ -173,6 +175,7 @@ fn answer<H: Host, R: Read, W: Write, E: Write>(
     leaves: Leaves,
     streams: &mut Streams<R, W, E>,
 ) -> Outcome
+    requires { AllowsNamed (H.facts host.now).files (drop 1 (map (λ w. w.now) words.now)) }
     ensures mistaken { AreMistaken (fault_of command_line (map (λ w. w.now) words.now))
         → (result.status ≡ BadArguments) ⊎ (result.status ≡ Fault) }
     ensures shown { AskToSee (fault_of command_line (map (λ w. w.now) words.now))
@@ -217,7 +220,8 @@ fn start<H: Host, R: Read, W: Write, E: Write>(
     leaves: Leaves,
     streams: &mut Streams<R, W, E>,
 ) -> Outcome
-    requires { InRange asked.now }
+    requires range { InRange asked.now }
+    requires allowed { AllowsMoved (H.facts host.now).files asked.now }
     ensures serving { result.status ≢ BadArguments }
     ensures ran { IsHandled (H.facts host.now) (⟦<Run as Seen>⟧.views) missing.now (record {
       opening = leaves.image;
@@ -259,7 +263,8 @@ fn perform<H: Host, R: Read, W: Write, E: Write>(
     leaves: Leaves,
     streams: &mut Streams<R, W, E>,
 ) -> Outcome
-    requires { InRange asked.now }
+    requires range { InRange asked.now }
+    requires allowed { AllowsMoved (H.facts host.now).files asked.now }
     ensures serving { result.status ≢ BadArguments }
     ensures ran { IsRequestRun (H.facts host.now) (⟦<Run as Seen>⟧.views) (record {
       opening = leaves.image;

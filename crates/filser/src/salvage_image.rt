@@ -3,6 +3,7 @@ ghost use Rattle.std.specs.Prelude.{◌≡◌, ◌≢◌, ◌⊎◌, List, lengt
 ghost use Rattle.blockdisk.specs.Common.{SameDisk, held};
 ghost use Rattle.imagefile.specs.Common.{assumed_in};
 ghost use Rattle.spec_image.specs.Common.{File as StoredFile, Files, IsVolumeSize, SettledStands};
+ghost use Rattle.collection.specs.Common.{MayExport};
 ghost use Rattle.salvage.specs.Common.{AreAllSaved};
 ghost use Rattle.salvage.specs.declared.saved.SavedFile.{SavedFile};
 ghost use Rattle.filser.specs.Common.{AreFound, IsOnSalvaged, IsSalvagedFrom, IsUnsurveyed, start_error};
@@ -44,7 +45,8 @@ fn salvage_copy<H: Host, W: Write, E: Write>(
     writer: &mut W,
     errors: &mut E,
 ) -> Status
-    requires { IsVolumeSize (length copied.old.disk.blocks) }
+    requires size { IsVolumeSize (length copied.old.disk.blocks) }
+    requires allowed { MayExport (H.facts shelf.now.host.now).files task.now }
     ensures serving { result ≢ BadArguments }
     ensures ran { ((files : List SavedFile) × AreFound (H.facts shelf.now.host.now).files task.now
         (W.contents writer.old) (W.contents writer.new) copied.old.disk copied.old.unread copied.old.has_bad_log files
@@ -73,6 +75,7 @@ fn salvage_from<H: Host, D: Disk, W: Write, E: Write>(
     writer: &mut W,
     errors: &mut E,
 ) -> Status
+    requires { MayExport (H.facts shelf.now.host.now).files task.now }
     ensures serving { result ≢ BadArguments }
     ensures ran { IsSalvagedFrom (H.facts shelf.now.host.now).files task.now
         (W.contents writer.old) (W.contents writer.new) (D.state disk.old) (D.state disk.new) result }
@@ -95,6 +98,7 @@ pub(crate) fn salvage_image<H: Host, W: Write, E: Write>(
     writer: &mut W,
     errors: &mut E,
 ) -> (Status, ImageDisks)
+    requires { MayExport (H.facts shelf.now.host.now).files task.now }
     ensures serving { result.0 ≢ BadArguments }
     ensures ran { IsOnSalvaged (H.facts shelf.now.host.now) (⟦<Run as Seen>⟧.views) image.now.path.now
         image.now.form task.now (assumed_in leave.supposed) (W.contents writer.old) (W.contents writer.new)

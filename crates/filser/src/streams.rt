@@ -1,7 +1,9 @@
 //! The standard streams: which are missing, and which lead to an image.
-ghost use Rattle.std.specs.Prelude.{◌↔◌, IfOk, IfSome, IsTrue, IsFalse, Some, pos, ◌≤ℤ◌};
+ghost use Rattle.std.specs.Prelude.{◌↔◌, IfOk, IfSome, IsTrue, IsFalse, Option, Some, pos, ◌≡◌, ◌≤ℤ◌};
 ghost use Rattle.filser.specs.Common.{AreNeeded, IsMissing, IsStreamAt, IsStreamOf, LeadApart, LeadToOne};
 ghost use Rattle.filser.specs.Streams.{HasNumber, HoldsStreams, IsInPlace};
+ghost use Rattle.filser.specs.FreeStreams.{is_silent};
+ghost use Rattle.filser.specs.declared.fault.HostFault.{HostFault as Faults};
 
 use crate::{FileId, Host, HostFault};
 use std::fs::File;
@@ -128,7 +130,9 @@ fn leads_to<H: Host>(host: &H, named: FileId, path: &str, other: &str) -> bool
 }
 
 /// Returns whether the standard error leads to the file at a path.
-pub(crate) fn is_at_errors<H: Host>(host: &H, path: &str) -> bool {
+pub(crate) fn is_at_errors<H: Host>(host: &H, path: &str) -> bool
+    ensures { (stream : Option Faults) × IsStreamAt (H.facts host.now) path.now stream × (result ≡ is_silent stream) }
+{
     stream_at(host, path).is_some_and(|stream| stream.forbids_errors())
 }
 

@@ -3,6 +3,7 @@ use Rattle.clap.specs.Words.{fault_of, subcommand_of}
 use Rattle.arguments.specs.CommandLine.{command_line}
 use Rattle.filser.proofs.ExitCodes.{bad_error, prints_only}
 use Rattle.filser.proofs.LedImages.{free_spared}
+use Rattle.filser.proofs.NamedFiles.{allows_moved}
 use Rattle.filser.proofs.NamedStreams.{spares_named}
 use Rattle.filser.proofs.Unasked.{ends_asked, ends_mistaken, ends_shown}
 use Rattle.filser.proofs.program.answer.Goals as goal
@@ -24,6 +25,10 @@ returns-in-Err-clause-asked g c = rw c.without_disks.ensures
     (ends_asked (fault_of command_line (map (λ w. w.now) c.args.words.now))
     (subcommand_of command_line (map (λ w. w.now) c.args.words.now)) c.in-Err.error c.refuse-status.result
     c.refuse-status.ensures.ends c.in-Err.ensures.usage (λ wrong bad. (c.in-Err.ensures.bad wrong bad).2))
+
+pub start-requires-clause-allowed : goal.start-requires-clause-allowed
+start-requires-clause-allowed g c = allows_moved _ (map (λ w. w.now) c.args.words.now) _ c.in-Ok.asked refl
+    c.in-Ok.ensures.asked c.requires
 
 pub returns-in-Ok-clause-ran : goal.returns-in-Ok-clause-ran
 returns-in-Ok-clause-ran g c = record { is = inl (c.in-Ok.asked, c.in-Ok.ensures.asked, c.start.ensures.ran) }
@@ -49,5 +54,5 @@ returns-in-Ok-clause-spared g c = ⊎_elim (λ same. inl same)
     (λ spared. inr (inr (c.in-Ok.asked, c.in-Ok.ensures.asked, spared))) c.start.ensures.spared
 
 pub returns-in-Err-clause-spared : goal.returns-in-Err-clause-spared
-returns-in-Err-clause-spared g c = free_spared _ _ _ _ _ c.of_words-free.result.errors c.refuse-status.ensures.untold
+returns-in-Err-clause-spared g c = free_spared _ (map (λ w. w.now) c.args.words.now) _ _ c.of_words-free.result.errors c.refuse-status.ensures.untold
     c.of_words-free.ensures.errors

@@ -1,4 +1,5 @@
-use Rattle.std.proofs.Common.{refl}
+use Rattle.std.proofs.Common.{refl, subst}
+use Rattle.filser.specs.Common.{AllowsMoved}
 use Rattle.filser.proofs.program.perform.Goals as goal
 
 pub returns-in-Fresh-clause-ran : goal.returns-in-Fresh-clause-ran
@@ -15,22 +16,38 @@ returns-in-Work-clause-ran g c =
 
 pub returns-in-Convert-clause-ran : goal.returns-in-Convert-clause-ran
 returns-in-Convert-clause-ran g c =
-    rw (c.in-Convert.is, c.of_both.ensures)
-    (refl, rw c.new-conversion.ensures at c.convert_image-converted.ensures.ran, refl)
+    rw (c.in-Convert.is, c.of_both.ensures) (
+      refl,
+      rw c.new-conversion.ensures at c.convert_image-converted.ensures.ran,
+      refl,
+      rw c.new-conversion.ensures at c.convert_image-converted.ensures.bits,
+    )
 
 pub returns-in-Migrate-clause-ran : goal.returns-in-Migrate-clause-ran
 returns-in-Migrate-clause-ran g c =
     rw (c.in-Migrate.is, c.of_image-in-Migrate.ensures) (refl, c.migrate_image-migrated.ensures.ran, refl, refl)
+
+pub import_image-imported-requires : goal.import_image-imported-requires
+import_image-imported-requires g c = rw c.of-shelf.ensures (subst (AllowsMoved (g.H.Host.facts c.args.host.now).files)
+    c.in-Import.is c.requires.allowed)
 
 pub returns-in-Import-clause-ran : goal.returns-in-Import-clause-ran
 returns-in-Import-clause-ran g c =
     rw (c.in-Import.is, c.of_image-in-Import.ensures)
     (refl, rw c.of-shelf.ensures at c.import_image-imported.ensures.ran, refl, refl)
 
+pub export_image-exported-requires : goal.export_image-exported-requires
+export_image-exported-requires g c = rw c.of-shelf-in-Export.ensures (subst
+    (AllowsMoved (g.H.Host.facts c.args.host.now).files) c.in-Export.is c.requires.allowed)
+
 pub returns-in-Export-clause-ran : goal.returns-in-Export-clause-ran
 returns-in-Export-clause-ran g c =
     rw (c.in-Export.is, c.of_image-in-Export.ensures)
     (refl, rw c.of-shelf-in-Export.ensures at c.export_image-exported.ensures.ran, refl, refl)
+
+pub salvage_image-saved-requires : goal.salvage_image-saved-requires
+salvage_image-saved-requires g c = rw c.of-shelf-in-Salvage.ensures (subst
+    (AllowsMoved (g.H.Host.facts c.args.host.now).files) c.in-Salvage.is c.requires.allowed)
 
 pub returns-in-Salvage-clause-ran : goal.returns-in-Salvage-clause-ran
 returns-in-Salvage-clause-ran g c =

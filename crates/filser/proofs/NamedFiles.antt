@@ -1,0 +1,60 @@
+-- Images, files and folders that a request names are words of the command line.
+use Rattle.std.proofs.Common.{◌≡◌, inl, inr, refl, List, Option, Some, None, All, codes}
+use Rattle.std.specs.Prelude.{drop}
+use Rattle.clap.specs.Words.{Row, Text, subcommand_of}
+use Rattle.collection.specs.Common.{FileFacts, MayFill}
+use Rattle.arguments.specs.CommandLine.{command_line}
+use Rattle.arguments.proofs.NamedWords.{files_are_words, text_is_a_word}
+use Rattle.filser.specs.Common.{AllowsMoved, AllowsNamed, Asks, HoldsOfImages}
+use Rattle.filser.specs.declared.request.Request.{Request}
+use Rattle.filser.specs.declared.request.Request.TheVariants.{Fresh, Init, Work, Convert, Migrate, Import, Export}
+use Rattle.filser.specs.declared.request.Request.TheVariants.{Salvage}
+
+-- what holds of all words holds of the paths of the images
+pub holds_of_images : (Holds : Text → Type 0) (words : List Text) (found : Option (Text × List Row))
+    (request : Request) → subcommand_of command_line words ≡ found → Asks found request → All Holds (drop 1 words)
+    → HoldsOfImages request Holds
+holds_of_images Holds words None Fresh is asks all = (tt, tt)
+holds_of_images Holds words None (Init image blocks form layout) is asks all = absurd asks
+holds_of_images Holds words None (Work image form task) is asks all = absurd asks
+holds_of_images Holds words None (Convert image new form) is asks all = absurd asks
+holds_of_images Holds words None (Migrate image form) is asks all = absurd asks
+holds_of_images Holds words None (Import image form task) is asks all = absurd asks
+holds_of_images Holds words None (Export image form task) is asks all = absurd asks
+holds_of_images Holds words None (Salvage image form task) is asks all = absurd asks
+holds_of_images Holds words (Some found) Fresh is asks all = absurd asks
+holds_of_images Holds words (Some found) (Init image blocks form layout) is asks all =
+    (text_is_a_word Holds words found (codes "IMAGE") image.now is (inl refl) asks.1 all, tt)
+holds_of_images Holds words (Some found) (Work image form task) is asks all =
+    (text_is_a_word Holds words found (codes "IMAGE") image.now is (inl refl) asks.0 all, tt)
+holds_of_images Holds words (Some found) (Convert image new form) is asks all = (
+  text_is_a_word Holds words found (codes "IMAGE") image.now is (inl refl) asks.1 all,
+  text_is_a_word Holds words found (codes "NEW") new.now is (inr (inl refl)) asks.2 all,
+)
+holds_of_images Holds words (Some found) (Migrate image form) is asks all =
+    (text_is_a_word Holds words found (codes "IMAGE") image.now is (inl refl) asks.1 all, tt)
+holds_of_images Holds words (Some found) (Import image form task) is asks all =
+    (text_is_a_word Holds words found (codes "IMAGE") image.now is (inl refl) asks.1 all, tt)
+holds_of_images Holds words (Some found) (Export image form task) is asks all =
+    (text_is_a_word Holds words found (codes "IMAGE") image.now is (inl refl) asks.1 all, tt)
+holds_of_images Holds words (Some found) (Salvage image form task) is asks all =
+    (text_is_a_word Holds words found (codes "IMAGE") image.now is (inl refl) asks.1 all, tt)
+
+-- a host that allows what the words name allows what their request moves
+pub allows_moved : (files : FileFacts) (words : List Text) (found : Option (Text × List Row)) (request : Request)
+    → subcommand_of command_line words ≡ found → Asks found request → AllowsNamed files (drop 1 words)
+    → AllowsMoved files request
+allows_moved files words found Fresh is asks allows = tt
+allows_moved files words found (Init image blocks form layout) is asks allows = tt
+allows_moved files words found (Work image form task) is asks allows = tt
+allows_moved files words found (Convert image new form) is asks allows = tt
+allows_moved files words found (Migrate image form) is asks allows = tt
+allows_moved files words None (Import image form task) is asks allows = absurd asks
+allows_moved files words None (Export image form task) is asks allows = absurd asks
+allows_moved files words None (Salvage image form task) is asks allows = absurd asks
+allows_moved files words (Some found) (Import image form task) is asks allows =
+    files_are_words files.may_read words found _ is asks.3.paths allows.read
+allows_moved files words (Some found) (Export image form task) is asks allows = λ makes. text_is_a_word (MayFill files)
+    words found (codes "FOLDER") task.folder.now is (inr (inr refl)) asks.3.folder allows.fill
+allows_moved files words (Some found) (Salvage image form task) is asks allows = λ makes. text_is_a_word (MayFill files)
+    words found (codes "FOLDER") task.folder.now is (inr (inr refl)) asks.3.folder allows.fill
