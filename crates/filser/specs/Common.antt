@@ -19,7 +19,7 @@ pub use Rattle.filser.specs.Tasks.{Attends, IsFirstMoment}
 pub use Rattle.filser.specs.Views.{Views}
 pub use Rattle.filser.specs.Denials.{IsCleared, IsDeviceFault, IsExplained, IsNoImage, IsUnfilled, IsUnfit, IsUnlocked}
 pub use Rattle.filser.specs.Denials.{IsUnmade, IsUnopened, of_host}
-pub use Rattle.filser.specs.FreeStreams.{SparesErrors, SparesNamed, SparesOutput}
+pub use Rattle.filser.specs.FreeStreams.{BarsErrors, BarsOutput, SparesErrors, SparesNamed, SparesOutput}
 pub use Rattle.filser.specs.MovedFiles.{AllowsMoved, AllowsNamed}
 pub use Rattle.filser.specs.Images.{HasNoDisk, IsCopied, IsCopyFault, IsCopyRun, IsDenied, IsEmptyVolume, IsFaultOf}
 pub use Rattle.filser.specs.Images.{IsFresh, IsLeftAlone, IsNameTaken, IsNewDisk, IsNoNewDisk, IsNotMade, IsOnBoth}

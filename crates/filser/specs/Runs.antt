@@ -64,6 +64,7 @@ IsRequestRun facts views things (Work path form task) source left sink full stat
 IsRequestRun facts views things (Convert path other form) source left sink full status =
     (left ≡ source) × IsOnBoth facts views path.now other.now form things.u things.v things.opening things.making sink
     full things.image things.new status × (things.memory ≡ Nothing)
+    × ((things.image ≡ Unasked things.opening) ⊎ facts.found other.now Nothing)
     × ((things.new ≡ Unasked things.making) ⊎ IsMadeLike facts other.now path.now)
 IsRequestRun facts views things (Migrate path form) source left sink full status =
     (left ≡ source) × IsOnMigrated facts views path.now form things.u sink full things.image status

@@ -1,7 +1,6 @@
 -- The standard streams: which of them is missing, and which leads to a file.
-use Rattle.std.specs.Prelude.{◌≡◌, ◌≢◌, ◌⊎◌, ◌≤ℤ◌, ℕ, ℤ, List, Option, Some, None, IfSome, codes, pos}
+use Rattle.std.specs.Prelude.{◌≡◌, ◌≢◌, ◌⊎◌, ℕ, ℤ, List, Option, Some, None, codes, pos}
 use Rattle.std.specs.Fd.{file_raw_fd}
-use Rattle.std.specs.declared.fs.File.{File}
 use Rattle.filser.specs.Hosts.{HostFacts}
 use Rattle.filser.specs.declared.fault.HostFault.{HostFault}
 use Rattle.filser.specs.declared.fault.HostFault.TheVariants.{Input, Output, Errors}
@@ -10,27 +9,14 @@ use Rattle.filser.specs.declared.streams.MissingStreams.{MissingStreams}
 
 -- Missing streams.
 
--- the open file has this number
-abbrev pub HasNumber : Option File → ℤ → Type 0
-HasNumber None number = ⊥
-HasNumber (Some file) number = file_raw_fd file ≡ number
-
--- the stream of this number is missing
+-- the stream of this number is missing, since a file has it
 abbrev pub IsMissing : MissingStreams → ℤ → Type 0
-IsMissing missing number =
-    HasNumber missing.first number ⊎ HasNumber missing.second number ⊎ HasNumber missing.third number
+IsMissing missing number = (file_raw_fd missing.first ≡ number) ⊎ (file_raw_fd missing.second ≡ number)
+    ⊎ (file_raw_fd missing.third ≡ number)
 
 -- the input is missing, or the output
 abbrev pub AreNeeded : MissingStreams → Type 0
 AreNeeded missing = IsMissing missing (pos 0) ⊎ IsMissing missing (pos 1)
-
--- this file has the number of a stream
-abbrev pub IsInPlace : File → Type 0
-IsInPlace file = file_raw_fd file ≤ℤ pos 2
-
--- each file is in the place of a stream
-abbrev pub HoldsStreams : MissingStreams → Type 0
-HoldsStreams missing = IfSome missing.first IsInPlace × IfSome missing.second IsInPlace × IfSome missing.third IsInPlace
 
 -- Streams that lead to a file.
 

@@ -1,5 +1,5 @@
 //! `convert`: an image copied to a new one of the other form.
-ghost use Rattle.std.specs.Prelude.{◌≡◌, ◌≢◌, ◌⊎◌, OnOk, IfOk, IfErr, IfSome, IsErrOf};
+ghost use Rattle.std.specs.Prelude.{◌≡◌, ◌≢◌, ◌⊎◌, OnOk, IfOk, IfErr, IfSome, IfNone, IsErrOf, None};
 ghost use Rattle.blockdisk.specs.Common.{SameDisk, one_more};
 ghost use Rattle.imagefile.specs.Common.{BeganAs, other_form, assumed_in};
 ghost use Rattle.volume.specs.declared.error.CopyError.TheVariants.{Source, Target};
@@ -83,6 +83,8 @@ pub(crate) fn convert_image<H: Host, W: Write, E: Write>(
         conversion.now.new.now conversion.now.form (assumed_in opening.supposed) (assumed_in making.supposed)
         opening making
         (W.contents writer.old) (W.contents writer.new) result.image result.new result.status }
+    ensures looked { (result.image ≡ disks.Unasked opening)
+        ⊎ (H.facts host.now).found conversion.now.new.now None }
     ensures bits { (result.new ≡ disks.Unasked making)
         ⊎ IsMadeLike (H.facts host.now) conversion.now.new.now conversion.now.path.now }
 {
@@ -102,7 +104,8 @@ pub(crate) fn convert_image<H: Host, W: Write, E: Write>(
 /// Returns why a new image can't have a name, if something has that name. If a stream leads there, nothing is printed
 /// into it.
 fn name_taken<H: Host>(host: &H, new: &str) -> Option<ImageFault>
-    ensures { IfSome result (IsNameTaken (H.facts host.now) new.now) }
+    ensures taken { IfSome result (IsNameTaken (H.facts host.now) new.now) }
+    ensures free { IfNone result ((H.facts host.now).found new.now None) }
 {
     host.identity(new)?;
     Some(ImageFault {

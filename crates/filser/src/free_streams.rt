@@ -1,6 +1,6 @@
 //! The standard streams that lead to no file of the words.
-ghost use Rattle.std.specs.Prelude.{IsTrue, All, drop, map};
-ghost use Rattle.filser.specs.Common.{SparesErrors, SparesOutput};
+ghost use Rattle.std.specs.Prelude.{◌⊎◌, IsTrue, IsFalse, All, Any, drop, map};
+ghost use Rattle.filser.specs.Common.{BarsErrors, BarsOutput, SparesErrors, SparesOutput};
 
 use crate::Host;
 use crate::streams::stream_at;
@@ -22,13 +22,17 @@ impl FreeStreams {
         errors: true,
     };
 
-    /// Returns the streams that lead to no file of these words, the first of which is the program's name. The host is
-    /// asked for each.
+    /// Returns the streams that lead to no file of these words, the first of which is the program's name: all of them.
+    /// The host is asked for each.
     pub(crate) fn of_words<H: Host>(host: &H, words: &[&str]) -> Self
         ensures output { IsTrue result.output
             → All (SparesOutput (H.facts host.now)) (drop 1 (map (λ w. w.now) words.now)) }
         ensures errors { IsTrue result.errors
             → All (SparesErrors (H.facts host.now)) (drop 1 (map (λ w. w.now) words.now)) }
+        ensures no_output { IsFalse result.output
+            → Any (BarsOutput (H.facts host.now)) (drop 1 (map (λ w. w.now) words.now)) }
+        ensures no_errors { IsFalse result.errors
+            → Any (BarsErrors (H.facts host.now)) (drop 1 (map (λ w. w.now) words.now)) }
     {
         match words {
             [] => FreeStreams::BOTH,
@@ -42,6 +46,10 @@ impl FreeStreams {
             → All (SparesOutput (H.facts host.now)) (map (λ n. n.now) names.now) }
         ensures errors { IsTrue result.errors
             → All (SparesErrors (H.facts host.now)) (map (λ n. n.now) names.now) }
+        ensures no_output { IsFalse result.output
+            → Any (BarsOutput (H.facts host.now)) (map (λ n. n.now) names.now) }
+        ensures no_errors { IsFalse result.errors
+            → Any (BarsErrors (H.facts host.now)) (map (λ n. n.now) names.now) }
     {
         let mut free = FreeStreams::BOTH;
         for name in names {
@@ -54,6 +62,8 @@ impl FreeStreams {
     fn besides<H: Host>(self, host: &H, name: &str) -> Self
         ensures output { IsTrue result.output → IsTrue self.output × SparesOutput (H.facts host.now) name.now }
         ensures errors { IsTrue result.errors → IsTrue self.errors × SparesErrors (H.facts host.now) name.now }
+        ensures no_output { IsFalse result.output → IsFalse self.output ⊎ BarsOutput (H.facts host.now) name.now }
+        ensures no_errors { IsFalse result.errors → IsFalse self.errors ⊎ BarsErrors (H.facts host.now) name.now }
     {
         match stream_at(host, name) {
             Some(stream) => FreeStreams {

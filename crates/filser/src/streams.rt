@@ -1,7 +1,6 @@
 //! The standard streams: which are missing, and which lead to an image.
-ghost use Rattle.std.specs.Prelude.{◌↔◌, IfOk, IfSome, IsTrue, IsFalse, Option, Some, pos, ◌≡◌, ◌≤ℤ◌};
+ghost use Rattle.std.specs.Prelude.{◌↔◌, IsTrue, IsFalse, Option, Some, pos, ◌≡◌, ◌≤ℤ◌};
 ghost use Rattle.filser.specs.Common.{AreNeeded, IsMissing, IsStreamAt, IsStreamOf, LeadApart, LeadToOne};
-ghost use Rattle.filser.specs.Streams.{HasNumber, HoldsStreams, IsInPlace};
 ghost use Rattle.filser.specs.FreeStreams.{is_silent};
 ghost use Rattle.filser.specs.declared.fault.HostFault.{HostFault as Faults};
 
@@ -36,31 +35,26 @@ pub struct Streams<R, W, E> {
 }
 
 /// The standard streams that the program was started without. An open file takes the place of each, so that no file
-/// that is opened later gets its number, and what is printed can't land in an image.
+/// that is opened later gets its number, and what is printed can't land in an image. The system gives a file the lowest
+/// number that is free, so three files take all places; those with a higher number show that no more are free.
 #[derive(Drop)]
 pub struct MissingStreams {
-    first: Option<File>,
-    second: Option<File>,
-    third: Option<File>,
+    first: File,
+    second: File,
+    third: File,
 }
 
 impl MissingStreams {
-    /// Finds the streams that are missing, and takes their places. The system gives a file the lowest number that is
-    /// free, so the first one above them shows that all are taken.
+    /// Finds the streams that are missing, and takes their places.
     ///
     /// # Errors
     ///
     /// The system's, if no file can be opened.
-    pub fn hold<F: Files<File = File>>(files: &F) -> io::Result<Self>
-        ensures { IfOk result HoldsStreams }
-    {
-        let first = holder(files)?;
-        let second = holder(files)?;
-        let third = holder(files)?;
+    pub fn hold<F: Files<File = File>>(files: &F) -> io::Result<Self> {
         Ok(MissingStreams {
-            first,
-            second,
-            third,
+            first: File::open(files, HOLDER)?,
+            second: File::open(files, HOLDER)?,
+            third: File::open(files, HOLDER)?,
         })
     }
 
@@ -75,30 +69,9 @@ impl MissingStreams {
     fn have(&self, number: RawFd) -> bool
         ensures { IsTrue result ↔ IsMissing self.now number }
     {
-        is_numbered(&self.first, number)
-            || is_numbered(&self.second, number)
-            || is_numbered(&self.third, number)
-    }
-}
-
-/// Returns a file in the place of the next standard stream that is missing, or `None` if none is missing.
-fn holder<F: Files<File = File>>(files: &F) -> io::Result<Option<File>>
-    ensures { IfOk result (λ held. IfSome held IsInPlace) }
-{
-    let file = File::open(files, HOLDER)?;
-    if file.as_raw_fd() > ERRORS {
-        return Ok(None);
-    }
-    Ok(Some(file))
-}
-
-/// Returns whether there is a file with this number.
-fn is_numbered(file: &Option<File>, number: RawFd) -> bool
-    ensures { IsTrue result ↔ HasNumber file.now number }
-{
-    match file {
-        Some(file) => file.as_raw_fd() == number,
-        None => false,
+        self.first.as_raw_fd() == number
+            || self.second.as_raw_fd() == number
+            || self.third.as_raw_fd() == number
     }
 }
 

@@ -6,7 +6,7 @@ use Rattle.filser.proofs.convert.convert_image.Goals as goal
 pub returns-in-Some-clause-ran : goal.returns-in-Some-clause-ran
 returns-in-Some-clause-ran g c = inr (
   c.unconverted.ensures.new,
-  (_, inl (c.unconverted.ensures.image, c.in-Some.ensures), c.unconverted.ensures.explained),
+  (_, inl (c.unconverted.ensures.image, c.in-Some.ensures.taken), c.unconverted.ensures.explained),
 )
 
 pub returns-in-Ok-clause-ran : goal.returns-in-Ok-clause-ran

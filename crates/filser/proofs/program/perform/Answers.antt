@@ -20,6 +20,7 @@ returns-in-Convert-clause-ran g c =
       refl,
       rw c.new-conversion.ensures at c.convert_image-converted.ensures.ran,
       refl,
+      rw c.new-conversion.ensures at c.convert_image-converted.ensures.looked,
       rw c.new-conversion.ensures at c.convert_image-converted.ensures.bits,
     )
 
