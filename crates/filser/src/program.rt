@@ -46,6 +46,9 @@ use std::io::{self, Read, Write};
 /// date is past the dates of the volume; which lines of the input were refused; why the input can't be a file; the line
 /// in which it broke off; and, if `telling` requires it, the progress of a conversion.
 ///
+/// Of the files that aren't images it reads those that the words name, and fills folders that they name, which the host
+/// must allow; it reads and makes no others.
+///
 /// If there are several faults, the first of these is met: the arguments, a new file that exists already, a file that
 /// can't be opened or made or that another process has, its size, the start, the input.
 pub fn work<H: Host, R: Read, W: Write, E: Write>(
