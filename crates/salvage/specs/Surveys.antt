@@ -35,7 +35,7 @@ pub record IsNamedBlock (size layout : ℕ) (contents : Contents) (n : ℕ) : Ty
   pub named : IsNamedRead size layout contents file
   pub among : 0 < times n (blocks_of file)
 
--- A directory names the file, or its prime block may be in use: a file that was deleted is neither.
+-- A directory names the file, or its prime block may be in use: it wasn't deleted, as far as the table shows.
 abbrev pub IsUndeleted : ℕ → ℕ → Contents → SavedFile → Type 0
 IsUndeleted size layout contents file = IsNamedRead size layout contents file ⊎ MayBeUsed size contents file.at
 
@@ -44,7 +44,7 @@ pub record IsSurveyed (size layout : ℕ) (contents : Contents) (files : List Sa
   -- each file is whole, and no block is in two of them
   pub whole : AllByRecursion (IsWholeFile size layout contents) files
   pub once : (n : ℕ) → claims files n ≤ 1
-  -- none was deleted
+  -- none was deleted, as far as the table shows
   pub undeleted : AllByRecursion (IsUndeleted size layout contents) files
   -- each fault is there
   pub stand : AllByRecursion (IsFinding size layout contents) findings
