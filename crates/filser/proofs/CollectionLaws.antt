@@ -8,17 +8,18 @@ use Rattle.monitor.specs.Common.{MonitorState}
 use Rattle.commands.specs.declared.answer.Tally.{Tally}
 use Rattle.commands.specs.declared.error.SessionError.{SessionError}
 use Rattle.filser.specs.Common.{HostFacts, IsOpened, IsWhole, IsServed, IsUnserved}
+use Rattle.filser.specs.declared.host.Access.{Access}
 use Rattle.filser.specs.declared.status.Status.{Status}
 use Rattle.filser.proofs.Since.{served_since, unserved_since}
 
-pub run_image : {H I : Type 0} (facts : HostFacts H) (state : I → DiskState) (path : List ℕ) (form : Form) (u : Unseen)
-    (IsTranscript : MonitorState I → MonitorState I → Result Tally SessionError → Type 0) (sink full : Option (List ℕ))
-    (status : Status) (image end : I)
-    → IsOpened facts path u → BeganAs form u (state image) → (state image).failures ≡ 0
+pub run_image : {H I : Type 0} {access : Access} (facts : HostFacts H) (state : I → DiskState) (path : List ℕ)
+    (form : Form) (u : Unseen) (IsTranscript : MonitorState I → MonitorState I → Result Tally SessionError → Type 0)
+    (sink full : Option (List ℕ)) (status : Status) (image end : I)
+    → IsOpened facts path access u → BeganAs form u (state image) → (state image).failures ≡ 0
     → (state end).size ≡ (state image).size → ((state end).honest → (state image).honest)
     → IsServed state (state image) end status IsTranscript
     ⊎ IsUnserved (state image) (state end) Nothing Nothing sink full status
-    → IsOpened facts path u × IsWhole form u (state end)
+    → IsOpened facts path access u × IsWhole form u (state end)
     × (IsServed state (begun_image form (state end).size u) end status IsTranscript
     ⊎ IsUnserved (begun_image form (state end).size u) (state end) Nothing Nothing sink full status)
 run_image facts state path form u IsTranscript sink full status image end opened began sound size was ran = (

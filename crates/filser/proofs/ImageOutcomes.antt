@@ -22,12 +22,13 @@ use Rattle.volume.specs.declared.error.VolumeError.TheVariants.{NotVolume, Devic
 use Rattle.filser.specs.Common.{IsDeviceFault, IsExplained, HostFacts, IsOpened, IsCopied, IsCopyFault, IsCopyRun}
 use Rattle.filser.specs.Common.{IsEmptyVolume, IsFaultOf, IsFresh, IsLeftAlone, IsNewDisk, IsNoNewDisk, IsNotMade}
 use Rattle.filser.specs.Common.{IsOnBoth, IsOnCopy, IsOnSource, IsTaskRun, IsWhole, IsLine, refusal_code}
-use Rattle.filser.specs.Common.{refusal_text, IsGivenBack, IsRefusedBy, Attends, Views}
+use Rattle.filser.specs.Common.{access_of, refusal_text, IsGivenBack, IsRefusedBy, Attends, Views}
 use Rattle.filser.specs.declared.disks.Disks.{Disks}
 use Rattle.filser.specs.declared.disks.Disks.TheVariants.{Unserved}
 use Rattle.filser.specs.declared.fault.HostFault.{HostFault}
 use Rattle.filser.specs.declared.fault.HostFault.TheVariants.{System}
 use Rattle.filser.specs.declared.fault.ImageFault.{ImageFault}
+use Rattle.filser.specs.declared.host.Access.TheVariants.{Read}
 use Rattle.filser.specs.declared.refusal.Refusal.TheVariants.{Start}
 use Rattle.filser.specs.declared.status.Status.{Status}
 use Rattle.filser.specs.declared.task.Task.{Task}
@@ -189,6 +190,15 @@ alone_on a b c size was p q = record {
       ));
 }
 
+-- a new disk on which no volume was made
+pub not_made : {H L M F D I : Type 0} (facts : HostFacts H) (views : Views M F D I) (path : List ℕ) (form : Form)
+    (blocks : ℕ) (u : Unseen) (made left : D) (fault : ImageFault) (disks : Disks L F D I)
+    → IsNewDisk facts views path form blocks u made → disks ≡ Unserved left
+    → ((n : ℕ) → IsNoNewDisk (views.disk left).size (views.disk left).failures n fault)
+    → IsNotMade facts views path form blocks u fault disks
+not_made facts views path form blocks u made left fault disks new is none =
+    subst (λ d. IsNotMade facts views path form blocks u fault d) (sym is) (new.made, none blocks)
+
 -- A task on an image.
 
 -- a disk that is handed back after a refusal has the same size, and is as honest
@@ -202,12 +212,12 @@ pub given_honest : {D : Type 0} (state : D → DiskState) (task : Task) (refused
 given_honest state task refused end given h = ⊎_elim (λ same. subst (λ d. (state d).honest) same h)
     (λ searched. searched.1.same.was_honest h) given
 
-pub served_image : {H I : Type 0} (facts : HostFacts H) (state : I → DiskState) (path : List ℕ) (form : Form)
-    (u : Unseen) (task : Task) (source left sink full : Option (List ℕ)) (status : Status) (image end : I)
-    → IsOpened facts path u → BeganAs form u (state image) → (state image).failures ≡ 0
+pub served_image : {H I : Type 0} (facts : HostFacts H) (state : I → DiskState) (path : List ℕ)
+    (form : Form) (u : Unseen) (task : Task) (source left sink full : Option (List ℕ)) (status : Status)
+    (image end : I) → IsOpened facts path (access_of task) u → BeganAs form u (state image) → (state image).failures ≡ 0
     → (state end).size ≡ (state image).size → ((state end).honest → (state image).honest)
     → IsTaskRun state (state image) task source left sink full end status
-    → IsOpened facts path u × IsWhole form u (state end)
+    → IsOpened facts path (access_of task) u × IsWhole form u (state end)
     × IsTaskRun state (begun_image form (state end).size u) task source left sink full end status
 served_image facts state path form u task source left sink full status image end opened began sound size was ran = (
   opened,
@@ -309,8 +319,8 @@ module _ {H L M F D I : Type 0} (facts : HostFacts H) (views : Views M F D I) (s
   })
 
   pub converted : {N : Type 0} (path new : List ℕ) (form : Form) (u v : Unseen) (opening : N) (making : L)
-      (disk from : D) (image : Disks N F D I) (copy : Disks L F D I) → image ≡ Unserved from → IsOpened facts path u
-      → BeganAs form u (views.disk disk) → (views.disk disk).failures ≡ 0
+      (disk from : D) (image : Disks N F D I) (copy : Disks L F D I) → image ≡ Unserved from
+      → IsOpened facts path Read u → BeganAs form u (views.disk disk) → (views.disk disk).failures ≡ 0
       → SameDisk (views.disk disk) (views.disk from) → IsLeftAlone (views.disk disk) (views.disk from)
       → IsOnSource facts views new (other_form form) v making (views.disk disk) (views.disk from) sink full copy status
       → IsOnBoth facts views path new form u v opening making sink full image copy status

@@ -18,7 +18,7 @@ pub wrote : {T : Type 0} (sink full : Option (List ℕ)) (given text : List ℕ)
     × Appends sink full written × (given ≡ written ++ unwritten) × (0 < length unwritten)))
     → Puts result sink full text
 wrote sink full given text (Ok value) same ok err = subst (λ t. Appends sink full t) same ok
-wrote sink full given text (Err error) same ok err = subst (λ t. IsBegun sink full t) same err.1
+wrote sink full given text (Err error) same ok err = (err.0, subst (λ t. IsBegun sink full t) same err.1)
 
 -- a writer that failed has no more of what would have followed
 pub cut_on : (sink full : Option (List ℕ)) (given text more : List ℕ) → given ≡ text → IsBegun sink full given
@@ -42,17 +42,18 @@ cut_behind sink mid full given text more same p q = (
   q.4,
 )
 
-pub put_on : {T E : Type 0} (result : Result T E) (sink mid full : Option (List ℕ)) (text more : List ℕ)
+pub put_on : {T : Type 0} (result : Result T SessionError) (sink mid full : Option (List ℕ)) (text more : List ℕ)
     → Appends sink mid text → Puts result mid full more → Puts result sink full (text ++ more)
 put_on (Ok value) sink mid full text more p q = Appends-trans sink mid full text more p q
-put_on (Err error) sink mid full text more p q = cut_behind sink mid full text text more refl p q
+put_on (Err error) sink mid full text more p q = (q.0, cut_behind sink mid full text text more refl p q.1)
 
 no_less : (xs : List ℕ) → xs ≡ [] → 0 < length xs → ⊥
 no_less [] none some = omega (arith, some)
 no_less (x ∷ xs) none some = cc
 
 -- a line that was written, or a beginning of it, and how the run ends then
-pub printed : {T E : Type 0} (result : Result T E) (sink full : Option (List ℕ)) (text : List ℕ) (status end : Status)
+pub printed : {T : Type 0} (result : Result T SessionError) (sink full : Option (List ℕ)) (text : List ℕ)
+    (status end : Status)
     → Puts result sink full (text ++ feed ∷ []) → OnOk result (end ≡ status) → IfErr result (λ error. end ≡ Fault)
     → IsLine sink full end (status_code status) text
 printed (Ok value) sink full text status end p done failed = record {
@@ -64,10 +65,10 @@ printed (Ok value) sink full text status end p done failed = record {
   cut = λ some. absurd (no_less [] refl some);
 }
 printed (Err error) sink full text status end p done failed = record {
-  written = p.0;
-  unwritten = p.1;
-  appended = p.2;
-  parts = p.3;
-  whole = λ none. absurd (no_less p.1 none p.4);
+  written = p.1.0;
+  unwritten = p.1.1;
+  appended = p.1.2;
+  parts = p.1.3;
+  whole = λ none. absurd (no_less p.1.1 none p.1.4);
   cut = λ some. failed;
 }

@@ -16,6 +16,7 @@ use Rattle.volume.specs.declared.migrate.Migrated.{Migrated}
 use Rattle.volume.specs.declared.migrate.Migrated.TheVariants.{Done, Already}
 use Rattle.filser.specs.Common.{HostFacts, IsOpened, IsWhole, IsKeptBack, IsMigration, IsMigrationRefused}
 use Rattle.filser.specs.Common.{IsMigrationRun, IsRaised}
+use Rattle.filser.specs.declared.host.Access.{Access}
 use Rattle.filser.specs.declared.status.Status.{Status}
 use Rattle.filser.proofs.Since.{leaves_since}
 
@@ -149,10 +150,11 @@ module _ (form : Form) (u : Unseen) (d : DiskState) (began : BeganAs form u d) (
     p.2,
   )
 
-pub migrated_image : {H : Type 0} (facts : HostFacts H) (path : List ℕ) (form : Form) (u : Unseen)
-    (sink full : Option (List ℕ)) (status : Status) (disk end : DiskState) → IsOpened facts path u
+pub migrated_image : {H : Type 0} {access : Access} (facts : HostFacts H) (path : List ℕ) (form : Form) (u : Unseen)
+    (sink full : Option (List ℕ)) (status : Status) (disk end : DiskState) → IsOpened facts path access u
     → BeganAs form u disk → disk.failures ≡ 0 → SameDisk disk end → IsMigrationRun disk end sink full status
-    → IsOpened facts path u × IsWhole form u end × IsMigrationRun (begun_image form end.size u) end sink full status
+    → IsOpened facts path access u × IsWhole form u end
+    × IsMigrationRun (begun_image form end.size u) end sink full status
 migrated_image facts path form u sink full status disk end opened began sound same ran = (
   opened,
   record { size = λ h. began.size (same.was_honest h) ∙ (λ i. block_length form * sym same.size i) },

@@ -11,6 +11,7 @@ use Rattle.collection.specs.Common.{FileFacts}
 use Rattle.collection.specs.declared.task.ExportTask.{ExportTask}
 use Rattle.filser.specs.Common.{HostFacts, IsOpened, IsWhole, IsSalvagedFrom, IsUncopied}
 use Rattle.filser.specs.SalvageRuns.{IsCopied}
+use Rattle.filser.specs.declared.host.Access.{Access}
 use Rattle.filser.specs.declared.status.Status.{Status}
 use Rattle.filser.proofs.Since.{same}
 
@@ -77,11 +78,11 @@ module _ (form : Form) (u : Unseen) (d : DiskState) (began : BeganAs form u d) (
   }
 
 -- The same with the number of blocks that the disk has at the end, and with its file.
-pub salvage_run : {H : Type 0} (facts : HostFacts H) (path : List ℕ) (form : Form) (u : Unseen) (task : ExportTask)
-    (sink full : Option (List ℕ)) (status : Status) (d e : DiskState)
-    → IsOpened facts path u → BeganAs form u d → d.failures ≡ 0 → SameDisk d e
+pub salvage_run : {H : Type 0} {access : Access} (facts : HostFacts H) (path : List ℕ) (form : Form) (u : Unseen)
+    (task : ExportTask) (sink full : Option (List ℕ)) (status : Status) (d e : DiskState)
+    → IsOpened facts path access u → BeganAs form u d → d.failures ≡ 0 → SameDisk d e
     → IsSalvagedFrom facts.files task sink full d e status
-    → IsOpened facts path u × IsWhole form u e
+    → IsOpened facts path access u × IsWhole form u e
     × IsSalvagedFrom facts.files task sink full (begun_image form e.size u) e status
 salvage_run facts path form u task sink full status d e opened began sound kept ran = (
   opened,

@@ -15,7 +15,7 @@ pub use Rattle.filser.specs.HostFaults.{Covers, forbids_errors, forbids_output}
 pub use Rattle.filser.specs.Streams.{AreNeeded, IsMissing, IsStreamAt, IsStreamOf, LeadApart, LeadToOne}
 pub use Rattle.filser.specs.ServedDisks.{IsEnding, IsGivenBack, IsRefusedBy, IsSearched, IsServed, IsStarted}
 pub use Rattle.filser.specs.ServedDisks.{IsTurnedDown, IsUnserved, machine_over}
-pub use Rattle.filser.specs.Tasks.{Attends, IsFirstMoment}
+pub use Rattle.filser.specs.Tasks.{access_of, Attends, IsFirstMoment}
 pub use Rattle.filser.specs.Views.{Views}
 pub use Rattle.filser.specs.Denials.{IsCleared, IsDeviceFault, IsExplained, IsNoImage, IsUnfilled, IsUnfit, IsUnlocked}
 pub use Rattle.filser.specs.Denials.{IsUnmade, IsUnopened, of_host}

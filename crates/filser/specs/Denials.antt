@@ -17,6 +17,7 @@ use Rattle.filser.specs.Streams.{IsStreamOf}
 use Rattle.filser.specs.declared.fault.HostFault.{HostFault}
 use Rattle.filser.specs.declared.fault.HostFault.TheVariants.{System, InUse}
 use Rattle.filser.specs.declared.fault.ImageFault.{ImageFault}
+use Rattle.filser.specs.declared.host.Access.{Access}
 use Rattle.filser.specs.declared.refusal.Refusal.{Refusal}
 use Rattle.filser.specs.declared.refusal.Refusal.TheVariants.{Exists, Start}
 use Rattle.filser.specs.declared.status.Status.{Status}
@@ -37,11 +38,11 @@ IsUnfit facts file fault =
     × (fault ≡ of_host stream))
     ⊎ IsUnlocked facts file fault
 
--- The file at a path wasn't opened, or can't be used.
-abbrev pub IsUnopened : {F : Type 0} → HostFacts F → List ℕ → ImageFault → Type 0
-IsUnopened {F} facts path fault =
-    ((error : Error) × facts.opened path (Err error) × (fault ≡ of_host (System error)))
-    ⊎ ((file : F) × facts.opened path (Ok file) × IsUnfit facts file fault)
+-- The file at a path wasn't opened for this, or can't be used.
+abbrev pub IsUnopened : {F : Type 0} → HostFacts F → List ℕ → Access → ImageFault → Type 0
+IsUnopened {F} facts path access fault =
+    ((error : Error) × facts.opened path access (Err error) × (fault ≡ of_host (System error)))
+    ⊎ ((file : F) × facts.opened path access (Ok file) × IsUnfit facts file fault)
 
 -- No file was made at a path: something is there, or the host couldn't make one.
 abbrev pub IsUnmade : {F : Type 0} → HostFacts F → List ℕ → ImageFault → Type 0
@@ -49,11 +50,11 @@ IsUnmade facts path fault = (error : Error) × facts.created path (Err error) ×
     × (((error_kind error ≡ AlreadyExists) × (fault.refusal ≡ Exists))
     ⊎ ((error_kind error ≢ AlreadyExists) × (fault.refusal ≡ Start Device)))
 
--- A file was made, and can't be used, or wasn't filled.
-abbrev pub IsUnfilled : {F : Type 0} → HostFacts F → List ℕ → ImageFault → Type 0
-IsUnfilled {F} facts path fault = (file : F) × facts.created path (Ok file)
+-- A file was made, and can't be used, or wasn't filled with this many blocks in this form.
+abbrev pub IsUnfilled : {F : Type 0} → HostFacts F → List ℕ → Form → ℕ → ImageFault → Type 0
+IsUnfilled {F} facts path form blocks fault = (file : F) × facts.created path (Ok file)
     × (IsUnfit facts file fault
-    ⊎ ((error : Error) × facts.filled file (Err error) × (fault ≡ of_host (System error))))
+    ⊎ ((error : Error) × facts.filled file form blocks (Err error) × (fault ≡ of_host (System error))))
 
 -- No file was made at a path, or the one that was made was to be removed.
 abbrev pub IsCleared : {F : Type 0} → HostFacts F → List ℕ → ImageFault → Type 0

@@ -10,6 +10,7 @@ use Rattle.filser.specs.Images.{IsOnImageBy}
 use Rattle.filser.specs.ServedDisks.{IsServed, IsUnserved, machine_over}
 use Rattle.filser.specs.Views.{Views}
 use Rattle.filser.specs.declared.disks.Disks.{Disks}
+use Rattle.filser.specs.declared.host.Access.TheVariants.{Read}
 use Rattle.filser.specs.declared.status.Status.{Status}
 
 -- The files were read by a service on a disk, or the disk was refused.
@@ -23,4 +24,5 @@ IsExportedFrom files state task sink full begun end status =
 abbrev pub IsOnExported : {H L M F D I : Type 0} → HostFacts H → Views M F D I → List ℕ → Form → ExportTask
     → Unseen → Option (List ℕ) → Option (List ℕ) → Disks L F D I → Status → Type 0
 IsOnExported facts views path form task u sink full disks status =
-    IsOnImageBy facts views path form u (IsExportedFrom facts.files views.image task sink full) sink full disks status
+    IsOnImageBy facts views path Read form u (IsExportedFrom facts.files views.image task sink full) sink full disks
+    status

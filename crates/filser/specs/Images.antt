@@ -20,13 +20,15 @@ use Rattle.filser.specs.Lines.{IsLine}
 use Rattle.filser.specs.Refusals.{converted_text}
 use Rattle.filser.specs.ServedDisks.{IsGivenBack, IsRefusedBy, IsServed, IsUnserved}
 use Rattle.filser.specs.Streams.{IsStreamAt}
-use Rattle.filser.specs.Tasks.{Attends, IsFirstMoment}
+use Rattle.filser.specs.Tasks.{access_of, Attends, IsFirstMoment}
 use Rattle.filser.specs.Views.{Views}
 use Rattle.filser.specs.declared.disks.Disks.{Disks}
 use Rattle.filser.specs.declared.disks.Disks.TheVariants.{Unasked, None, NoImage, Unserved, Served, Made}
 use Rattle.filser.specs.declared.fault.HostFault.{HostFault}
 use Rattle.filser.specs.declared.fault.HostFault.TheVariants.{System, Memory as NoMemory, WrongLength}
 use Rattle.filser.specs.declared.fault.ImageFault.{ImageFault}
+use Rattle.filser.specs.declared.host.Access.{Access}
+use Rattle.filser.specs.declared.host.Access.TheVariants.{Read}
 use Rattle.filser.specs.declared.host.RemovalRight.{RemovalRight}
 use Rattle.filser.specs.declared.identity.FileId.{FileId}
 use Rattle.filser.specs.declared.refusal.Refusal.TheVariants.{Exists, Start}
@@ -51,16 +53,16 @@ pub record IsWhole (form : Form) (u : Unseen) (d : DiskState) : Type 0 where
 -- A task on the image of this form at a path.
 
 -- why it wasn't done
-abbrev pub IsDenied : {H L M F D I : Type 0} → HostFacts H → Views M F D I → List ℕ → Form → Unseen → ImageFault
-    → Disks L F D I → Type 0
-IsDenied facts views path form u fault None = IsUnopened facts path fault
-IsDenied facts views path form u fault (Unasked leave) = ⊥
-IsDenied facts views path form u fault (NoImage file) =
-    IsOpened facts path u × IsNoImage form u (views.file file) fault
-IsDenied facts views path form u fault (Unserved disk) =
-    IsOpened facts path u × BeganAs form u (views.disk disk) × (fault ≡ of_host NoMemory)
-IsDenied facts views path form u fault (Served image) = ⊥
-IsDenied facts views path form u fault (Made disk right) = ⊥
+abbrev pub IsDenied : {H L M F D I : Type 0} → HostFacts H → Views M F D I → List ℕ → Access → Form → Unseen
+    → ImageFault → Disks L F D I → Type 0
+IsDenied facts views path access form u fault None = IsUnopened facts path access fault
+IsDenied facts views path access form u fault (Unasked leave) = ⊥
+IsDenied facts views path access form u fault (NoImage file) =
+    IsOpened facts path access u × IsNoImage form u (views.file file) fault
+IsDenied facts views path access form u fault (Unserved disk) =
+    IsOpened facts path access u × BeganAs form u (views.disk disk) × (fault ≡ of_host NoMemory)
+IsDenied facts views path access form u fault (Served image) = ⊥
+IsDenied facts views path access form u fault (Made disk right) = ⊥
 
 -- no disk was made of its file
 abbrev pub HasNoDisk : {L F D I : Type 0} → Disks L F D I → Type 0
@@ -73,20 +75,20 @@ HasNoDisk (Made disk right) = ⊥
 
 -- What became of the image, if `IsRun` is what a run on its disk comes to: the image was run on, and only by calls of
 -- its disk since the file was opened; or it wasn't, for a reason that holds.
-abbrev pub IsOnImageBy : {H L M F D I : Type 0} → HostFacts H → Views M F D I → List ℕ → Form → Unseen
+abbrev pub IsOnImageBy : {H L M F D I : Type 0} → HostFacts H → Views M F D I → List ℕ → Access → Form → Unseen
     → (DiskState → I → Status → Type 0) → Option (List ℕ) → Option (List ℕ) → Disks L F D I → Status → Type 0
-IsOnImageBy {I = I} facts views path form u IsRun sink full disks status =
-    ((image : I) × (disks ≡ Served image) × IsOpened facts path u × IsWhole form u (views.image image)
+IsOnImageBy {I = I} facts views path access form u IsRun sink full disks status =
+    ((image : I) × (disks ≡ Served image) × IsOpened facts path access u × IsWhole form u (views.image image)
     × IsRun (begun_image form (views.image image).size u) image status)
-    ⊎ ((fault : ImageFault) × IsDenied facts views path form u fault disks × IsExplained sink full status fault)
+    ⊎ ((fault : ImageFault) × IsDenied facts views path access form u fault disks × IsExplained sink full status fault)
 
 -- The same for an image that is served.
 abbrev pub IsOnImage : {H L M F D I : Type 0} → HostFacts H → Views M F D I → List ℕ → Form → Unseen → Task
     → Option (List ℕ) → Option (List ℕ) → Option (List ℕ) → Option (List ℕ) → Disks L F D I → Status → Type 0
 IsOnImage {I = I} facts views path form u task source left sink full disks status =
-    ((image : I) × (disks ≡ Served image) × IsOpened facts path u × IsWhole form u (views.image image)
+    ((image : I) × (disks ≡ Served image) × IsOpened facts path (access_of task) u × IsWhole form u (views.image image)
     × IsTaskRun views.image (begun_image form (views.image image).size u) task source left sink full image status)
-    ⊎ ((left ≡ source) × ((fault : ImageFault) × IsDenied facts views path form u fault disks
+    ⊎ ((left ≡ source) × ((fault : ImageFault) × IsDenied facts views path (access_of task) form u fault disks
     × IsExplained sink full status fault))
 
 -- A new image of this form with this number of blocks at a path.
@@ -102,19 +104,20 @@ IsNoNewDisk size failures blocks fault = (IsDeviceFault fault × (failures ≡ 1
 -- why it wasn't made
 abbrev pub IsNotMade : {H L M F D I : Type 0} → HostFacts H → Views M F D I → List ℕ → Form → ℕ → Unseen → ImageFault
     → Disks L F D I → Type 0
-IsNotMade facts views path form blocks u fault None = IsUnmade facts path fault ⊎ IsUnfilled facts path fault
+IsNotMade facts views path form blocks u fault None =
+    IsUnmade facts path fault ⊎ IsUnfilled facts path form blocks fault
 IsNotMade facts views path form blocks u fault (Unasked leave) = ⊥
 IsNotMade facts views path form blocks u fault (NoImage file) =
-    IsMade facts path u × IsNoImage form u (views.file file) fault
+    IsMade facts path form blocks u × IsNoImage form u (views.file file) fault
 IsNotMade facts views path form blocks u fault (Unserved disk) =
-    IsMade facts path u × IsNoNewDisk (views.disk disk).size (views.disk disk).failures blocks fault
+    IsMade facts path form blocks u × IsNoNewDisk (views.disk disk).size (views.disk disk).failures blocks fault
 IsNotMade facts views path form blocks u fault (Served image) = ⊥
 IsNotMade facts views path form blocks u fault (Made disk right) = ⊥
 
 -- the file was made where nothing was, and has the length of that many blocks in that form
 pub record IsNewDisk {H M F D I : Type 0} (facts : HostFacts H) (views : Views M F D I) (path : List ℕ) (form : Form)
     (blocks : ℕ) (u : Unseen) (disk : D) : Type 0 where
-  pub made : IsMade facts path u
+  pub made : IsMade facts path form blocks u
   pub size : (views.disk disk).size ≡ blocks
   pub whole : IsWhole form u (views.disk disk)
 
@@ -209,8 +212,8 @@ IsOnCopy {D = D} facts views new form v mid from sink full copy status =
     ((to : D) × (right : RemovalRight) × (copy ≡ Made to right) × IsNewDisk facts views new form mid.size v to
     × (from.honest → (views.disk to).honest → IsCopied mid from (begun_image form mid.size v) (views.disk to))
     × IsLine sink full status 0 (converted_text mid.size))
-    ⊎ ((to : D) × (copy ≡ Unserved to) × IsMade facts new v × ((fault : ImageFault) × IsFaultOf mid from fault
-    × IsExplained sink full status fault))
+    ⊎ ((to : D) × (copy ≡ Unserved to) × IsMade facts new form mid.size v × ((fault : ImageFault)
+    × IsFaultOf mid from fault × IsExplained sink full status fault))
     ⊎ ((fault : ImageFault) × IsNotMade facts views new form mid.size v fault copy
     × IsExplained sink full status fault)
 
@@ -243,10 +246,10 @@ IsNameTaken facts new fault = ((file : FileId) × facts.found new (Some file))
 abbrev pub IsOnBoth : {H L N M F D I : Type 0} → HostFacts H → Views M F D I → List ℕ → List ℕ → Form → Unseen → Unseen
     → L → N → Option (List ℕ) → Option (List ℕ) → Disks L F D I → Disks N F D I → Status → Type 0
 IsOnBoth {D = D} facts views path new form u v opening making sink full image copy status =
-    ((from : D) × (image ≡ Unserved from) × IsOpened facts path u × IsWhole form u (views.disk from)
+    ((from : D) × (image ≡ Unserved from) × IsOpened facts path Read u × IsWhole form u (views.disk from)
     × IsLeftAlone (begun_image form (views.disk from).size u) (views.disk from)
     × IsOnSource facts views new (other_form form) v making (begun_image form (views.disk from).size u)
     (views.disk from) sink full copy status)
     ⊎ ((copy ≡ Unasked making) × ((fault : ImageFault)
     × (((image ≡ Unasked opening) × IsNameTaken facts new fault)
-    ⊎ (HasNoDisk image × IsDenied facts views path form u fault image)) × IsExplained sink full status fault))
+    ⊎ (HasNoDisk image × IsDenied facts views path Read form u fault image)) × IsExplained sink full status fault))

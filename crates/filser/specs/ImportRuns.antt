@@ -10,6 +10,7 @@ use Rattle.filser.specs.Images.{IsOnImageBy}
 use Rattle.filser.specs.ServedDisks.{IsServed, IsUnserved, machine_over}
 use Rattle.filser.specs.Views.{Views}
 use Rattle.filser.specs.declared.disks.Disks.{Disks}
+use Rattle.filser.specs.declared.host.Access.TheVariants.{Write}
 use Rattle.filser.specs.declared.status.Status.{Status}
 
 -- The files were put by a service on a disk, or the disk was refused.
@@ -23,4 +24,5 @@ IsImportRun files state task sink full begun end status =
 abbrev pub IsOnImported : {H L M F D I : Type 0} → HostFacts H → Views M F D I → List ℕ → Form → ImportTask
     → Unseen → Option (List ℕ) → Option (List ℕ) → Disks L F D I → Status → Type 0
 IsOnImported facts views path form task u sink full disks status =
-    IsOnImageBy facts views path form u (IsImportRun facts.files views.image task sink full) sink full disks status
+    IsOnImageBy facts views path Write form u (IsImportRun facts.files views.image task sink full) sink full disks
+    status

@@ -2,6 +2,8 @@
 use Rattle.std.specs.Prelude.{◌≡◌, ◌<◌, ◌++◌, ◌∷◌, ℕ, List, [], Option, Result, Ok, Err, length}
 use Rattle.std.specs.Fmt.{decimal}
 use Rattle.std.specs.Io.KnownBytes.{Appends}
+use Rattle.commands.specs.declared.error.SessionError.{SessionError}
+use Rattle.commands.specs.declared.error.SessionError.TheVariants.{Write}
 use Rattle.spec_language.specs.Common.{feed}
 use Rattle.filser.specs.Statuses.{status_code}
 use Rattle.filser.specs.declared.message.Message.{Message}
@@ -19,10 +21,10 @@ abbrev pub IsBegun : Option (List ℕ) → Option (List ℕ) → List ℕ → Ty
 IsBegun sink full text = (written : List ℕ) × (unwritten : List ℕ) × Appends sink full written
     × (text ≡ written ++ unwritten) × (0 < length unwritten)
 
--- A text was written, or a beginning of it by a writer that failed.
-abbrev pub Puts : {T E : Type 0} → Result T E → Option (List ℕ) → Option (List ℕ) → List ℕ → Type 0
+-- A text was written, or a beginning of it by a writer that failed, which is the error.
+abbrev pub Puts : {T : Type 0} → Result T SessionError → Option (List ℕ) → Option (List ℕ) → List ℕ → Type 0
 Puts (Ok value) sink full text = Appends sink full text
-Puts (Err error) sink full text = IsBegun sink full text
+Puts (Err error) sink full text = (error ≡ Write) × IsBegun sink full text
 
 -- A line was printed, with its end, and the run ends with this code; or the writer failed: then it holds a beginning of
 -- the line, and the run ends with a fault.

@@ -17,6 +17,7 @@ use Rattle.filser.specs.Views.{Views}
 use Rattle.filser.specs.declared.disks.Disks.{Disks}
 use Rattle.filser.specs.declared.disks.Disks.TheVariants.{Served}
 use Rattle.filser.specs.declared.fault.ImageFault.{ImageFault}
+use Rattle.filser.specs.declared.host.Access.TheVariants.{Write}
 use Rattle.filser.specs.declared.status.Status.{Status}
 
 -- The disk stood for these files, in layout 1 or in layout 2, and all that a crash leaves now stands for them in layout
@@ -70,6 +71,6 @@ IsMigrationRun begun end sink full status =
 abbrev pub IsOnMigrated : {H L M F D I : Type 0} → HostFacts H → Views M F D I → List ℕ → Form → Unseen
     → Option (List ℕ) → Option (List ℕ) → Disks L F D I → Status → Type 0
 IsOnMigrated {I = I} facts views path form u sink full disks status =
-    ((image : I) × (disks ≡ Served image) × IsOpened facts path u × IsWhole form u (views.image image)
+    ((image : I) × (disks ≡ Served image) × IsOpened facts path Write u × IsWhole form u (views.image image)
     × IsMigrationRun (begun_image form (views.image image).size u) (views.image image) sink full status)
-    ⊎ ((fault : ImageFault) × IsDenied facts views path form u fault disks × IsExplained sink full status fault)
+    ⊎ ((fault : ImageFault) × IsDenied facts views path Write form u fault disks × IsExplained sink full status fault)

@@ -142,7 +142,7 @@ pub record WasRun {H L N M F D I : Type 0} (facts : HostFacts H) (views : Views 
       × IsHandled facts views missing things request source left sink full status)
       ⊎ IsUnasked facts kinds found names things source left sink full status
 
--- None of it lands in a file that the words name, and so in no image that a request of them names, as the host answered.
+-- None of it lands in a file that the words name, and so in no image that their request names, as the host answered.
 pub record AreWordsSpared {H : Type 0} (facts : HostFacts H) (found : Option (Text × List Row)) (names : List (List ℕ))
     : Type 0 where
   pub files : All (SparesErrors facts) names

@@ -24,6 +24,7 @@ use Rattle.filser.specs.Views.{Views}
 use Rattle.filser.specs.declared.disks.Disks.{Disks}
 use Rattle.filser.specs.declared.disks.Disks.TheVariants.{Unserved}
 use Rattle.filser.specs.declared.fault.ImageFault.{ImageFault}
+use Rattle.filser.specs.declared.host.Access.TheVariants.{Read}
 use Rattle.filser.specs.declared.status.Status.{Status}
 use Rattle.volume.specs.declared.error.VolumeError.TheVariants as volume
 
@@ -91,6 +92,6 @@ pub record IsSalvagedFrom (facts : FileFacts) (task : ExportTask) (sink full : O
 abbrev pub IsOnSalvaged : {H L M F D I : Type 0} → HostFacts H → Views M F D I → List ℕ → Form → ExportTask → Unseen
     → Option (List ℕ) → Option (List ℕ) → Disks L F D I → Status → Type 0
 IsOnSalvaged {D = D} facts views path form task u sink full disks status =
-    ((disk : D) × (disks ≡ Unserved disk) × IsOpened facts path u × IsWhole form u (views.disk disk)
+    ((disk : D) × (disks ≡ Unserved disk) × IsOpened facts path Read u × IsWhole form u (views.disk disk)
     × IsSalvagedFrom facts.files task sink full (begun_image form (views.disk disk).size u) (views.disk disk) status)
-    ⊎ ((fault : ImageFault) × IsDenied facts views path form u fault disks × IsExplained sink full status fault)
+    ⊎ ((fault : ImageFault) × IsDenied facts views path Read form u fault disks × IsExplained sink full status fault)

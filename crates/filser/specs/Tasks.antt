@@ -9,8 +9,21 @@ use Rattle.commands.specs.declared.answer.Tally.{Tally}
 use Rattle.commands.specs.declared.error.SessionError.{SessionError}
 use Rattle.exchange.specs.Exchanges.{Exchange}
 use Rattle.filser.specs.ServedDisks.{machine_over}
+use Rattle.filser.specs.declared.host.Access.{Access}
+use Rattle.filser.specs.declared.host.Access.TheVariants.{Read, Write}
 use Rattle.filser.specs.declared.task.Task.{Task}
 use Rattle.filser.specs.declared.task.Task.TheVariants.{Run, Calls, Wire, Put, Get, Delete, List as ListAll, Check}
+
+-- What the file of the image is opened for: only to be read, if the task can change no file.
+abbrev pub access_of : Task → Access
+access_of (Run at) = Write
+access_of (Calls at) = Write
+access_of Wire = Write
+access_of (Put file existing at) = Write
+access_of (Get file at) = Read
+access_of (Delete owner name) = Write
+access_of (ListAll place style) = Read
+access_of Check = Read
 
 -- date 0, minute 0
 abbrev pub IsFirstMoment : Moment → Type 0

@@ -45,9 +45,9 @@ pub trait Host {
         access: Access,
         leave: OpeningLeave,
     ) -> Result<(Self::File, AssumedImage), io::Error>
-        ensures opened { IfOk result (λ opened. (facts self.now).opened path.now (Ok opened.0)
+        ensures opened { IfOk result (λ opened. (facts self.now).opened path.now access (Ok opened.0)
             × (assumed_in opened.1 ≡ assumed_in leave.supposed)) }
-        ensures refused { IfErr result (λ error. (facts self.now).opened path.now (Err error)) };
+        ensures refused { IfErr result (λ error. (facts self.now).opened path.now access (Err error)) };
 
     /// Makes a file at a path, if nothing is there, and returns it with what is supposed of it and the right to remove
     /// it. It gets the permission bits of the file at `like`, if one is named; until then only its owner may open it.
@@ -63,7 +63,8 @@ pub trait Host {
     ) -> Result<(NewFile<Self::File>, AssumedImage), io::Error>
         ensures made { IfOk result (λ made. (facts self.now).created path.now (Ok made.0.file)
             × (assumed_in made.1 ≡ assumed_in leave.supposed)) }
-        ensures bits { IfOk result (λ made. IfSome like.entry (λ other. (facts self.now).bits_of made.0.file other.now)) }
+        ensures bits { IfOk result
+            (λ made. IfSome like.entry (λ other. (facts self.now).bits_of made.0.file other.now)) }
         ensures refused { IfErr result (λ error. (facts self.now).created path.now (Err error)) };
 
     /// Fills a file that was made with `blocks` blocks of zeros, in this form, and waits until these and the name of
@@ -75,7 +76,7 @@ pub trait Host {
     /// The system's.
     fn fill(&self, path: &str, file: &Self::File, form: Form, blocks: u32) -> io::Result<()>
         requires { (facts self.now).created path.now (Ok file.now) }
-        ensures { (facts self.now).filled file.now result };
+        ensures { (facts self.now).filled file.now form blocks result };
 
     /// Locks a file for this process, until the process ends. It never waits, and retries an interrupted call.
     ///
@@ -358,10 +359,10 @@ impl<F: Files<File = File>> Host for SystemHost<'_, F> {
     ghost use Rattle.std.specs.Fd.{file_raw_fd};
 
     ghost facts = { λ host. record {
-      opened = λ path result. Unit {0};
+      opened = λ path access result. Unit {0};
       created = λ path result. Unit {0};
       bits_of = λ file path. Unit {0};
-      filled = λ file result. Unit {0};
+      filled = λ file form blocks result. Unit {0};
       locked = λ file result. Unit {0};
       removed = λ path result. Unit {0};
       found = λ path file. Unit {0};

@@ -1,5 +1,5 @@
 //! Images: opening an existing one, and making a new one.
-ghost use Rattle.std.specs.Prelude.{◌≡◌, Ok, Err, IfOk, IfErr, IfSome, OnOk, option_map, pos, ◌<ℤ◌};
+ghost use Rattle.std.specs.Prelude.{◌≡◌, Ok, Err, IfOk, IfErr, IfSome, OnOk, option_map, pos, ◌<ℤ◌, ℕ};
 ghost use Rattle.blockdisk.specs.Common.{SameDisk};
 ghost use Rattle.imagefile.specs.Common.{BeganAs, failure_of as reason_of, assumed_in, Unseen};
 ghost use Rattle.imagefile.specs.declared.form.Form.{Form as Forms};
@@ -130,9 +130,9 @@ fn open_file<H: Host>(
     access: Access,
     leave: OpeningLeave,
 ) -> Result<(H::File, AssumedImage), ImageFault>
-    ensures opened { IfOk result (λ opened. (H.facts host.now).opened path.now (Ok opened.0)
+    ensures opened { IfOk result (λ opened. (H.facts host.now).opened path.now access (Ok opened.0)
         × IsOwn (H.facts host.now) opened.0 × (assumed_in opened.1 ≡ assumed_in leave.supposed)) }
-    ensures refused { IfErr result (IsUnopened (H.facts host.now) path.now) }
+    ensures refused { IfErr result (IsUnopened (H.facts host.now) path.now access) }
 {
     match host.open(path, access, leave) {
         Ok((file, supposed)) => Ok((own(host, file)?, supposed)),
@@ -190,11 +190,11 @@ pub(crate) fn open_disk<H: Host>(
     access: Access,
     leave: OpeningLeave,
 ) -> Result<ImageDisk<HostFile>, Denied>
-    ensures opened { IfOk result (λ disk. IsOpened (H.facts host.now) path.now (assumed_in leave.supposed)) }
+    ensures opened { IfOk result (λ disk. IsOpened (H.facts host.now) path.now access (assumed_in leave.supposed)) }
     ensures began { IfOk result
         (λ disk. BeganAs form (assumed_in leave.supposed) (⟦<ImageDisk<HostFile> as Disk>⟧.state disk)) }
     ensures counted { IfOk result (λ disk. (⟦<ImageDisk<HostFile> as Disk>⟧.state disk).failures ≡ 0) }
-    ensures denied { IfErr result (λ denied. IsDenied (H.facts host.now) (⟦<Run as Seen>⟧.views) path.now form
+    ensures denied { IfErr result (λ denied. IsDenied (H.facts host.now) (⟦<Run as Seen>⟧.views) path.now access form
         (assumed_in leave.supposed) denied.0 denied.1) }
     ensures undone { IfErr result (λ denied. HasNoDisk denied.1) }
 {
@@ -252,11 +252,11 @@ pub(crate) fn open_image<H: Host>(
     access: Access,
     leave: OpeningLeave,
 ) -> Result<Image, Denied>
-    ensures opened { IfOk result (λ image. IsOpened (H.facts host.now) path.now (assumed_in leave.supposed)) }
+    ensures opened { IfOk result (λ image. IsOpened (H.facts host.now) path.now access (assumed_in leave.supposed)) }
     ensures began { IfOk result
         (λ image. BeganAs form (assumed_in leave.supposed) (⟦<Cached<ImageDisk<HostFile>> as Disk>⟧.state image)) }
     ensures counted { IfOk result (λ image. (⟦<Cached<ImageDisk<HostFile>> as Disk>⟧.state image).failures ≡ 0) }
-    ensures denied { IfErr result (λ denied. IsDenied (H.facts host.now) (⟦<Run as Seen>⟧.views) path.now form
+    ensures denied { IfErr result (λ denied. IsDenied (H.facts host.now) (⟦<Run as Seen>⟧.views) path.now access form
         (assumed_in leave.supposed) denied.0 denied.1) }
 {
     let disk = open_disk(host, path, form, access, leave)?;
@@ -305,8 +305,8 @@ fn filled<H: Host>(
 ) -> Result<H::File, ImageFault>
     requires { (H.facts host.now).created path.now (Ok file) }
     ensures filled { IfOk result (λ kept. (kept ≡ file) × IsOwn (H.facts host.now) kept
-        × (H.facts host.now).filled kept (Ok tt)) }
-    ensures refused { IfErr result (λ fault. IsUnfilled (H.facts host.now) path.now fault) }
+        × (H.facts host.now).filled kept form blocks (Ok tt)) }
+    ensures refused { IfErr result (λ fault. IsUnfilled (H.facts host.now) path.now form blocks fault) }
 {
     let file = own(host, file)?;
     match host.fill(path, &file, form, blocks) {
@@ -373,10 +373,9 @@ pub(crate) fn zeros_in<H: Host>(
 ///
 /// # Errors
 ///
-/// `NotVolume` if no volume has that number of blocks, `Device` if the device failed.
+/// `NotVolume` if no volume has as many blocks as the disk, `Device` if the device failed.
 fn volume_on(
     disk: ImageDisk<HostFile>,
-    blocks: u32,
     layout: Layout,
 ) -> Result<ImageDisk<HostFile>, NotMade>
     requires { (⟦<ImageDisk<HostFile> as Disk>⟧.state disk).failures ≡ 0 }
@@ -384,8 +383,8 @@ fn volume_on(
     ensures same { IfOk result (λ made. SameDisk (⟦<ImageDisk<HostFile> as Disk>⟧.state disk)
         (⟦<ImageDisk<HostFile> as Disk>⟧.state made)) }
     ensures denied { IfErr result (λ denied. (left : _) × (denied.1 ≡ disks.Unserved left)
-        × IsNoNewDisk (⟦<ImageDisk<HostFile> as Disk>⟧.state left).size
-        (⟦<ImageDisk<HostFile> as Disk>⟧.state left).failures blocks denied.0) }
+        × ((blocks : ℕ) → IsNoNewDisk (⟦<ImageDisk<HostFile> as Disk>⟧.state left).size
+        (⟦<ImageDisk<HostFile> as Disk>⟧.state left).failures blocks denied.0)) }
 {
     let mut disk = disk;
     match Volume::init_layout(&mut disk, layout) {
@@ -420,7 +419,7 @@ fn volume_in<H: Host>(
         volume.now.form volume.now.blocks (assumed_in supposed) denied.0 denied.1) }
 {
     let disk = zeros_in(host, file, path, volume.form, volume.blocks, supposed)?;
-    volume_on(disk, volume.blocks, volume.layout)
+    volume_on(disk, volume.layout)
 }
 
 /// Makes an image with this volume, which has no directory. All of its blocks are written. Its disk is returned with

@@ -1,4 +1,7 @@
 //! The tasks that can be done on an image.
+ghost use Rattle.std.specs.Prelude.{◌≡◌};
+ghost use Rattle.filser.specs.Common.{access_of};
+
 use crate::Access;
 use commands::{Encoding, Existing, Style};
 use words36::{FileName, Moment, Ppn};
@@ -46,7 +49,9 @@ impl Task {
     }
 
     /// Returns what the file of the image is opened for: only reading, if nothing in the input can change a file.
-    pub fn access(&self) -> Access {
+    pub fn access(&self) -> Access
+        ensures { result ≡ access_of self.now }
+    {
         match self {
             Task::Get(_, _) | Task::List(_, _) | Task::Check => Access::Read,
             Task::Run(_) | Task::Calls(_) | Task::Wire | Task::Put(_, _, _) | Task::Delete(_, _) =>

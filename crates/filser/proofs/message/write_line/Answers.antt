@@ -6,4 +6,4 @@ use Rattle.filser.proofs.message.write_line.Goals as goal
 pub returns-in_err-write_message : goal.returns-in_err-write_message
 returns-in_err-write_message g c =
     let p = err_from_is_err_and c.from_residual.result c.from_residual.ensures.1 in
-    rw p.1 (cut_on _ _ _ _ _ refl c.in_err-write_message.ensures)
+    rw (p.1, p.2) (c.in_err-write_message.ensures.0, cut_on _ _ _ _ _ refl c.in_err-write_message.ensures.1)

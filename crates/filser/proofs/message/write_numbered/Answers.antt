@@ -10,17 +10,23 @@ pub returns-in_err-write_text : goal.returns-in_err-write_text
 returns-in_err-write_text g c =
     let p = err_from_is_err_and c.from_residual.result c.from_residual.ensures.1 in
     let digits = decimal c.args.number in
-    rw p.1 (cut_on _ _ _ (c.args.before.now ++ digits) c.args.after.now refl
-    (cut_on _ _ _ c.args.before.now digits c.as_bytes.ensures.value c.in_err-write_text.ensures.err.1))
+    rw (p.1, p.2) (
+      c.in_err-write_text.ensures.err.0,
+      cut_on _ _ _ (c.args.before.now ++ digits) c.args.after.now refl
+          (cut_on _ _ _ c.args.before.now digits c.as_bytes.ensures.value c.in_err-write_text.ensures.err.1),
+    )
 
 pub returns-in_err-write_number : goal.returns-in_err-write_number
 returns-in_err-write_number g c =
     let p = err_from_is_err_and c.from_residual-in_err-write_number.result
     c.from_residual-in_err-write_number.ensures.1 in
     let digits = decimal c.args.number in
-    rw p.1 (cut_on _ _ _ (c.args.before.now ++ digits) c.args.after.now refl
-    (cut_behind _ _ _ _ c.args.before.now digits c.as_bytes.ensures.value c.in_ok-write_text.ensures.ok
-    c.in_err-write_number.ensures))
+    rw (p.1, p.2) (
+      c.in_err-write_number.ensures.0,
+      cut_on _ _ _ (c.args.before.now ++ digits) c.args.after.now refl
+          (cut_behind _ _ _ _ c.args.before.now digits c.as_bytes.ensures.value c.in_ok-write_text.ensures.ok
+          c.in_err-write_number.ensures.1),
+    )
 
 pub returns : goal.returns
 returns g c =

@@ -54,5 +54,5 @@ returns-in-Ok-clause-spared g c = ⊎_elim (λ same. inl same)
     (λ spared. inr (inr (c.in-Ok.asked, c.in-Ok.ensures.asked, spared))) c.start.ensures.spared
 
 pub returns-in-Err-clause-spared : goal.returns-in-Err-clause-spared
-returns-in-Err-clause-spared g c = free_spared _ (map (λ w. w.now) c.args.words.now) _ _ c.of_words-free.result.errors c.refuse-status.ensures.untold
-    c.of_words-free.ensures.errors
+returns-in-Err-clause-spared g c = free_spared _ (map (λ w. w.now) c.args.words.now) _ _
+    c.of_words-free.result.errors c.refuse-status.ensures.untold c.of_words-free.ensures.errors
