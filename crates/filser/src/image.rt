@@ -374,10 +374,7 @@ pub(crate) fn zeros_in<H: Host>(
 /// # Errors
 ///
 /// `NotVolume` if no volume has as many blocks as the disk, `Device` if the device failed.
-fn volume_on(
-    disk: ImageDisk<HostFile>,
-    layout: Layout,
-) -> Result<ImageDisk<HostFile>, NotMade>
+fn volume_on(disk: ImageDisk<HostFile>, layout: Layout) -> Result<ImageDisk<HostFile>, NotMade>
     requires { (⟦<ImageDisk<HostFile> as Disk>⟧.state disk).failures ≡ 0 }
     ensures empty { IfOk result (λ made. IsEmptyVolume layout (⟦<ImageDisk<HostFile> as Disk>⟧.state made)) }
     ensures same { IfOk result (λ made. SameDisk (⟦<ImageDisk<HostFile> as Disk>⟧.state disk)
