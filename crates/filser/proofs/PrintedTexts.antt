@@ -1,15 +1,12 @@
--- Texts that are written one after the other, and the line that they are.
-use Rattle.std.proofs.Common.{◌≡◌, ◌<◌, ◌++◌, ◌∷◌, ℕ, List, [], Option, Result, Ok, Err, OnOk, IfErr, length, refl}
+-- Texts that are written one after the other.
+use Rattle.std.proofs.Common.{◌≡◌, ◌<◌, ◌++◌, ℕ, List, Option, Result, Ok, Err, OnOk, IfErr, length, refl}
 use Rattle.std.proofs.Common.{sym, ap, ◌∙◌, subst, arith}
 use Rattle.std.proofs.KnownBytes.{Appends-trans}
-use Rattle.std.proofs.lemmas.List.{append_assoc, append-nil, length-append}
+use Rattle.std.proofs.lemmas.List.{append_assoc, length-append}
 use Rattle.std.specs.Io.KnownBytes.{Appends}
 use Rattle.commands.specs.declared.error.SessionError.{SessionError}
 use Rattle.commands.specs.declared.error.SessionError.TheVariants.{Write}
-use Rattle.spec_language.specs.Common.{feed}
-use Rattle.filser.specs.Common.{IsBegun, IsLine, Puts, status_code}
-use Rattle.filser.specs.declared.status.Status.{Status}
-use Rattle.filser.specs.declared.status.Status.TheVariants.{Fault}
+use Rattle.filser.specs.Common.{IsBegun, Puts}
 
 -- what `write_text` promises
 pub wrote : {T : Type 0} (sink full : Option (List ℕ)) (given text : List ℕ) (result : Result T SessionError)
@@ -46,29 +43,3 @@ pub put_on : {T : Type 0} (result : Result T SessionError) (sink mid full : Opti
     → Appends sink mid text → Puts result mid full more → Puts result sink full (text ++ more)
 put_on (Ok value) sink mid full text more p q = Appends-trans sink mid full text more p q
 put_on (Err error) sink mid full text more p q = (q.0, cut_behind sink mid full text text more refl p q.1)
-
-no_less : (xs : List ℕ) → xs ≡ [] → 0 < length xs → ⊥
-no_less [] none some = omega (arith, some)
-no_less (x ∷ xs) none some = cc
-
--- a line that was written, or a beginning of it, and how the run ends then
-pub printed : {T : Type 0} (result : Result T SessionError) (sink full : Option (List ℕ)) (text : List ℕ)
-    (status end : Status)
-    → Puts result sink full (text ++ feed ∷ []) → OnOk result (end ≡ status) → IfErr result (λ error. end ≡ Fault)
-    → IsLine sink full end (status_code status) text
-printed (Ok value) sink full text status end p done failed = record {
-  written = text ++ feed ∷ [];
-  unwritten = [];
-  appended = p;
-  parts = sym (append-nil (text ++ feed ∷ []));
-  whole = λ none. ap status_code done;
-  cut = λ some. absurd (no_less [] refl some);
-}
-printed (Err error) sink full text status end p done failed = record {
-  written = p.1.0;
-  unwritten = p.1.1;
-  appended = p.1.2;
-  parts = p.1.3;
-  whole = λ none. absurd (no_less p.1.1 none p.1.4);
-  cut = λ some. failed;
-}

@@ -14,7 +14,7 @@ use Rattle.filser.specs.declared.host.Access.TheVariants.{Read, Write}
 use Rattle.filser.specs.declared.task.Task.{Task}
 use Rattle.filser.specs.declared.task.Task.TheVariants.{Run, Calls, Wire, Put, Get, Delete, List as ListAll, Check}
 
--- What the file of the image is opened for: only to be read, if the task can change no file.
+-- What the file of the image is opened for: reading is enough if the task can change no file.
 abbrev pub access_of : Task → Access
 access_of (Run at) = Write
 access_of (Calls at) = Write

@@ -17,9 +17,9 @@
 //!    one file and make one, and hands back the leave that it didn't use. (`Leaves`) Only a run that moves files
 //!    between an image and the host can read or make other files, and these only at paths that its words name, or in a
 //!    folder that they name. (`MovesFiles`, `AllowsNamed`)
-//! 7. The file of an image was opened at its path, only to be read if the request can change no file (`access_of`),
-//!    doesn't have the number of a standard stream, and is locked. (`IsOpened`) The disk that is served has been that
-//!    file's since before its first call. (`IsOnImage`)
+//! 7. The file of an image was opened at its path, doesn't have the number of a standard stream, and is locked.
+//!    (`IsOpened`) That it may be written is required only if the request can change a file. (`access_of`) The disk
+//!    that is served has been that file's since before its first call. (`IsOnImage`)
 //! 8. Every task on an image is done by one function, `serve`: it starts a service on the disk, or reports why there is
 //!    none, and hands the disk back. (`IsTaskRun`) Only a check reads a disk that was refused, and it writes nothing to
 //!    it. (`IsGivenBack`) A new image has the requested layout. (`IsEmptyVolume`) A migration changes the home copies
