@@ -1,5 +1,6 @@
 //! Plays the worked rows of its standard input, which is the file `stdin` next to its sources, and prints which of them
-//! come out as they should. The status is 1 if a line comes out otherwise.
+//! come out as they should, and what the service asks of its disk in the last ones. The status is 1 if a line comes out
+//! otherwise.
 #![tactic(auto)]
 
 use anyhow::Result;
