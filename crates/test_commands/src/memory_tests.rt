@@ -1,12 +1,12 @@
 //! Sessions, scripts, imports and exports with each allocation refused in turn.
-use crate::service::{Language, drop_monitor, serve, started};
+use crate::service::{Language, bar, drop_monitor, serve, started};
 use blockdisk::MemDisk;
 use commands::{Encoding, Export, Exported, Import, Monitor, SessionError, export, import};
 use std::alloc::Global;
 use std::process::Abort;
 use std::test::Fail;
 use test_support::{foo, owner};
-use words36::{FileName, Half, Moment, Word};
+use words36::Moment;
 
 /// Checks how lines end if an allocation is refused: a line whose calls find no memory prints so, and a text that finds
 /// none ends the session after the texts of whole lines.
@@ -40,9 +40,18 @@ fn expect_ended(
 fn each_allocation_of_a_session_refused(rt: HostRuntime) -> Result<(), Fail> {
     let lines =
         b"LOGIN [10,20]\nCOPY BAR.TXT=FOO.TXT\nTYPE BAR.TXT\nRENAME BAZ=FOO.TXT\nDIRECTORY\n";
-    let text =
-        b"Job 1 [10,20]\nOK\nHELLO\r\nOK\nBAR    TXT     1  <057>   1-Jan-1964\nBAZ            1  <057>   4-Jan-1975\nTotal 2 blocks in 2 files [10,20]\n";
-    expect_ended(&rt, rt.alloc(), Language::Session, lines, text)
+    let mut text = Vec::new(rt.alloc());
+    for line in [
+        b"Job 1 [10,20]\nOK\nHELLO\r\nOK\n".as_slice(),
+        b"BAR    TXT     1  <057>   1-Jan-1964\n",
+        b"BAZ            1  <057>   4-Jan-1975\n",
+        b"Total 2 blocks in 2 files [10,20]\n",
+    ] {
+        if text.extend_from_slice(line).is_err() {
+            return Ok(());
+        }
+    }
+    expect_ended(&rt, rt.alloc(), Language::Session, lines, &text)
 }
 
 #[test]
@@ -50,14 +59,6 @@ fn each_allocation_of_a_script_refused(rt: HostRuntime) -> Result<(), Fail> {
     let lines = b"1 LOGIN 10,20 1000\n1 EXA 121\n1 RESET\n";
     let text = b"DONE\nVALUE 000000000140\nDONE\n";
     expect_ended(&rt, rt.alloc(), Language::Script, lines, text)
-}
-
-/// Returns the name BAR, which isn't on the image.
-fn bar() -> FileName {
-    FileName {
-        name: Word::from_bits(0o424162000000),
-        ext: Half::from_bits(0),
-    }
 }
 
 /// Imports BAR from bytes. If memory was refused, that is printed, or nothing is written.
@@ -103,21 +104,12 @@ fn expect_exported(rt: &impl Abort, alloc: Global, monitor: &mut Monitor<MemDisk
 }
 
 #[test]
-fn each_allocation_of_an_import_refused(rt: HostRuntime) -> Result<(), Fail> {
-    let Ok(Some(mut monitor)) = started(rt.alloc(), 64) else {
-        return Ok(());
-    };
-    expect_imported(&rt, rt.alloc(), &mut monitor);
-    drop_monitor(monitor);
-    Ok(())
-}
-
-#[test]
-fn each_allocation_of_an_export_refused(rt: HostRuntime) -> Result<(), Fail> {
+fn each_allocation_of_an_import_and_an_export_refused(rt: HostRuntime) -> Result<(), Fail> {
     let Ok(Some(mut monitor)) = started(rt.alloc(), 64) else {
         return Ok(());
     };
     expect_exported(&rt, rt.alloc(), &mut monitor);
+    expect_imported(&rt, rt.alloc(), &mut monitor);
     drop_monitor(monitor);
     Ok(())
 }

@@ -7,7 +7,7 @@ use std::io::{Read, Write};
 use std::process::Abort;
 use std::test::Fail;
 use test_support::v1;
-use words36::Moment;
+use words36::{FileName, Half, Moment, Word};
 
 /// Returns a monitor over a disk, if that is accepted. The contract of `start` stays inside this function: the proofs
 /// of the tests are short without it.
@@ -80,5 +80,13 @@ pub fn counted(count: u64, first: u64, broke: bool) -> Tally {
         } else {
             None
         },
+    }
+}
+
+/// Returns the name BAR, which isn't on the image.
+pub fn bar() -> FileName {
+    FileName {
+        name: Word::from_bits(0o424162000000),
+        ext: Half::from_bits(0),
     }
 }

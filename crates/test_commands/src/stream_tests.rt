@@ -156,20 +156,16 @@ fn small_pieces(rt: HostRuntime) -> Result<(), Fail> {
     Ok(())
 }
 
-/// Checks that the texts of all lines that end in one read are written by one call, and that a read in which no line
-/// ends makes no write.
+/// Checks that the texts of all lines that end in one read are written by one call, that a read in which no line ends
+/// makes no write, and that texts of more than 64 KiB are written before all lines of a piece are answered, with none
+/// lost.
 #[test]
 fn one_write_for_each_read(rt: HostRuntime) -> Result<(), Fail> {
     for (size, calls) in [(31, 1), (14, 3), (13, 2), (1, 3)] {
         let writes = (calls, TEXT.len());
         expect_writes(&rt, rt.alloc(), (Language::Session, LINES), size, writes)?;
     }
-    expect_writes(&rt, rt.alloc(), (Language::Script, ORDERS), 100, (2, 29))
-}
-
-/// Checks that texts of more than 64 KiB are written before all lines of a piece are answered, and none is lost.
-#[test]
-fn many_texts_are_written_early(rt: HostRuntime) -> Result<(), Fail> {
+    expect_writes(&rt, rt.alloc(), (Language::Script, ORDERS), 100, (2, 29))?;
     let mut lines = Vec::new(rt.alloc());
     lines.extend_from_slice(b"LOGIN [10,20]\nCOPY A=FOO.TXT\nCOPY B=FOO.TXT\nCOPY C=FOO.TXT\n")?;
     for _ in 0..400 {

@@ -1,5 +1,5 @@
 //! Puts, imports and exports of bytes in each encoding.
-use crate::service::{drop_monitor, started};
+use crate::service::{bar, drop_monitor, started};
 use blockdisk::MemDisk;
 use commands::{
     Encoding, Existing, Export, Exported, Import, Monitor, PutFile, encoding_of, entries, export,
@@ -9,7 +9,7 @@ use std::alloc::Global;
 use std::process::Abort;
 use std::test::Fail;
 use test_support::{foo, owner};
-use words36::{FileName, Half, Moment, Word};
+use words36::{FileName, Moment};
 
 type Service = Monitor<MemDisk>;
 
@@ -32,14 +32,6 @@ const WORD: [u8; 8] = [0, 0, 0, 1, 0x40, 0, 0, 9];
 
 fn moment() -> Moment {
     Moment::new(0, 0).unwrap()
-}
-
-/// Returns a name that isn't.
-fn bar() -> FileName {
-    FileName {
-        name: Word::from_bits(0o424162000000),
-        ext: Half::from_bits(0),
-    }
 }
 
 /// Puts a file, and checks what is printed.

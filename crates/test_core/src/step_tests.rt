@@ -88,24 +88,19 @@ fn close_sides(core: &mut Core, output: u32, output_closes: bool, input: u32, in
     core.ring_close(output, input);
 }
 
-/// Checks an IN and an OUT by the rings of an OPEN, and a CLOSE of the output side.
-fn expect_rings(rt: &impl Abort, core: &mut Core) {
-    open_sides(core, 0o1000, 0o1010, 0);
-    let status = IoStatus::of_mode(0);
-    let read = in_by_ring(core, 0o1010, ByteSize::Ascii, status, &[word(2)]);
-    assert_eq!(rt; read, Ok(()));
-    let put = out_by_ring(core, 0o1000, ByteSize::Ascii);
-    assert!(rt; put.is_ok());
-    close_sides(core, 0o1000, true, 0o1010, false);
-    expect_words(rt, core, 0o1000, &[0o400000000547, 0o000700000550, 0]);
-    expect_words(rt, core, 0o1010, &[0o141, 0o000700000142, 5]);
-}
-
 /// The clauses of the calls above follow from the clauses of `usercore` alone.
 #[test]
 fn calls_are_those_of_the_file_machine(rt: HostRuntime) -> Result<(), Fail> {
     let mut core = Core::new(rt.alloc(), 0o2000)?;
-    expect_rings(&rt, &mut core);
+    open_sides(&mut core, 0o1000, 0o1010, 0);
+    let status = IoStatus::of_mode(0);
+    let read = in_by_ring(&mut core, 0o1010, ByteSize::Ascii, status, &[word(2)]);
+    assert_eq!(rt; read, Ok(()));
+    let put = out_by_ring(&mut core, 0o1000, ByteSize::Ascii);
+    assert!(rt; put.is_ok());
+    close_sides(&mut core, 0o1000, true, 0o1010, false);
+    expect_words(&rt, &core, 0o1000, &[0o400000000547, 0o000700000550, 0]);
+    expect_words(&rt, &core, 0o1010, &[0o141, 0o000700000142, 5]);
     place(&rt, &mut core, 0o400, &[0o777776000577, 0]);
     let read = in_by_list(&mut core, 0o400, &[word(8), word(9)]);
     let put = out_by_list(rt.alloc(), &core, 0o400);

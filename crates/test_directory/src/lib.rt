@@ -6,8 +6,4 @@
 #[cfg(test)]
 mod edit_tests;
 #[cfg(test)]
-mod entry_tests;
-#[cfg(test)]
 mod load_tests;
-#[cfg(test)]
-mod reserve_tests;

@@ -10,7 +10,3 @@ mod call_tests;
 mod host_tests;
 #[cfg(test)]
 mod image_tests;
-#[cfg(test)]
-mod packed_tests;
-#[cfg(test)]
-mod same_tests;

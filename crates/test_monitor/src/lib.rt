@@ -1,6 +1,6 @@
-//! Tests of lists of events, of quotas, of the areas that calls change, of a start after a crash, and of a device that
-//! fails at a read or while a quota is set, through the calls of a monitor. The program `scenarios` plays what single
-//! calls do. There is no code here besides them.
+//! Tests of a list of events, of a start after a crash, of the areas that calls change, and of words that are put and
+//! shown at once, through the calls of a monitor. The program `scenarios` plays what single calls do, on a device that
+//! fails too. There is no code here besides them.
 #![tactic(auto)]
 
 #[cfg(test)]
@@ -8,14 +8,6 @@ mod changed_tests;
 #[cfg(test)]
 mod event_tests;
 #[cfg(test)]
-mod fault_tests;
-#[cfg(test)]
-mod list_tests;
-#[cfg(test)]
-mod quota_tests;
-#[cfg(test)]
 mod service;
-#[cfg(test)]
-mod stop_tests;
 #[cfg(test)]
 mod word_tests;

@@ -8,6 +8,4 @@ mod body_tests;
 #[cfg(test)]
 mod read_tests;
 #[cfg(test)]
-mod run_tests;
-#[cfg(test)]
 mod write_tests;

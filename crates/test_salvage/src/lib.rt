@@ -1,11 +1,7 @@
-//! Tests of salvage through its public calls alone: disks are copied with the pending puts of their logs, and what is
-//! whole on them is found and read, on disks that are valid, damaged or too small, and on a device that fails. They
-//! are apart from the crate that they test so that it is proved once. There is no other code here.
+//! Tests of salvage through its public calls alone: a disk is copied with the pending puts of its log, and what is
+//! whole on it is found and read, if blocks are damaged, if the device fails, and if memory is refused. They are apart
+//! from the crate that they test so that it is proved once. There is no other code here.
 #![tactic(auto)]
 
-#[cfg(test)]
-mod copy_tests;
-#[cfg(test)]
-mod disks;
 #[cfg(test)]
 mod survey_tests;

@@ -1,16 +1,32 @@
-//! Tests of surveys.
-use crate::disks::{CALLS, copy_of, damage};
-use blockdisk::{MemDisk, NoMemory};
-use salvage::{Copied, Cost, Finding, SalvageError, Survey, survey_disk};
+//! Tests of copies of disks, and of surveys of them.
+use blockdisk::{Disk, Fail as Failing, FuseDisk, MemDisk, NoMemory};
+use salvage::{Copied, Cost, Finding, SalvageError, Survey, read_words, survey_disk};
 use std::alloc::Global;
 use std::process::Abort;
 use std::test::Fail;
-use test_support::{foo, owner, v1};
+use test_support::{OPEN, TEXT, beginning, filled, foo, owner, v1, word};
 use volume::VolumeError;
+use words36::{Block, Word};
 
-/// Returns the cost of a fault that costs FOO.TXT, which its directory names.
-pub(crate) fn cost_of_foo() -> Cost {
-    Cost::File(owner(), foo())
+/// The number of writes and syncs that the disks have room to record.
+const CALLS: usize = 4;
+
+/// Other words for FOO.TXT than those in V1.
+const OTHER: [u64; 2] = [0o123456701234, 0o765432107654];
+
+fn load(rt: &impl Abort, disk: &mut MemDisk, n: u32, block: &Block) {
+    assert!(rt; n < disk.blocks());
+    disk.load(n, block);
+}
+
+fn damage(rt: &impl Abort, disk: &mut MemDisk, n: u32) {
+    assert!(rt; n < disk.blocks());
+    disk.damage(n);
+}
+
+/// Returns the copy of a disk. What else `Copied::of` promises stays behind this function.
+fn copied_from<D: Disk>(alloc: Global, disk: &mut D) -> Result<Copied, SalvageError> {
+    Copied::of(alloc, disk)
 }
 
 /// Returns what a survey of a disk finds. What else `survey_disk` promises stays behind this function.
@@ -18,106 +34,139 @@ fn surveyed(alloc: Global, disk: &mut MemDisk) -> Result<Survey, SalvageError> {
     survey_disk(alloc, disk)
 }
 
-/// Returns the prime block of the first file that was found.
-fn first_at(survey: &Survey) -> Option<u32> {
+/// Returns the words of the first file that is found on a disk; `None` if there is none.
+fn first_words(alloc: Global, disk: &mut MemDisk) -> Result<Option<Vec<Word>>, SalvageError> {
+    let survey = survey_disk(alloc, disk)?;
     match survey.files.first() {
-        Some(file) => Some(file.at),
-        None => None,
+        Some(file) => read_words(alloc, disk, file),
+        None => Ok(None),
     }
 }
 
-/// Expects that a survey found FOO.TXT or no file, and reported this or nothing.
-fn expect_found(rt: &impl Abort, survey: &Survey, is_found: bool, told: Option<Finding>) {
-    assert!(rt; survey.files.len() == usize::from(is_found));
-    assert!(rt; first_at(survey) == if is_found { Some(17) } else { None });
-    assert!(rt; survey.findings.len() == usize::from(told.is_some()));
-    assert!(rt; survey.findings.first().copied() == told);
+/// Returns the same of the copy of a disk.
+fn salvaged(alloc: Global, disk: &mut MemDisk) -> Result<Option<Vec<Word>>, SalvageError> {
+    let mut copied = copied_from(alloc, disk)?;
+    first_words(alloc, &mut copied.disk)
 }
 
-/// Expects that in the copy FOO.TXT is found or no file, and this is reported or nothing.
-pub(crate) fn expect_survey(
+/// Checks that these words were found.
+fn expect_text(rt: &impl Abort, found: Option<Vec<Word>>, wanted: [u64; 2]) {
+    let words = found.expect(rt, "words");
+    let wanted = wanted.map(word);
+    assert!(rt; words.as_slice() == wanted.as_slice());
+}
+
+/// Checks that the words of FOO.TXT that the log has, with the gate open, are in the copy.
+#[test]
+fn a_log_is_put(rt: HostRuntime) -> Result<(), Fail> {
+    let mut disk = v1(rt.alloc(), CALLS)?;
+    load(&rt, &mut disk, 3, &filled(OPEN));
+    load(&rt, &mut disk, 4, &beginning(&[0o545747000000, 1, 0o22]));
+    load(&rt, &mut disk, 5, &beginning(&OTHER));
+    let found = salvaged(rt.alloc(), &mut disk).expect(&rt, "a survey");
+    expect_text(&rt, found, OTHER);
+    Ok(())
+}
+
+/// Returns V1 in memory, read by salvage without a fault, or `NoMemory`.
+fn words_of_v1(alloc: Global) -> Result<Option<Vec<Word>>, SalvageError> {
+    let mut disk = v1(alloc, CALLS)?;
+    salvaged(alloc, &mut disk)
+}
+
+/// Runs with each allocation refused in turn: the result is `NoMemory` and nothing else.
+#[test]
+fn each_allocation_refused(rt: HostRuntime) {
+    match words_of_v1(rt.alloc()) {
+        Ok(found) => expect_text(&rt, found, TEXT),
+        Err(error) => assert!(rt; error == SalvageError::NoMemory),
+    }
+}
+
+/// Checks that in a copy FOO.TXT is found or no file, and that this is reported last.
+fn expect_told(
     rt: &impl Abort,
     alloc: Global,
     copied: &mut Copied,
     is_found: bool,
-    told: Option<Finding>,
+    fault: VolumeError,
+    costs: Cost,
 ) {
     let survey = surveyed(alloc, &mut copied.disk).expect(rt, "a survey");
-    expect_found(rt, &survey, is_found, told);
+    assert!(rt; survey.files.len() == usize::from(is_found));
+    assert!(rt; survey.findings.last().copied() == Some(Finding { fault, costs }));
 }
 
-/// Returns the finding that this fault costs this.
-pub(crate) fn told(fault: VolumeError, costs: Cost) -> Finding {
-    Finding { fault, costs }
-}
-
-/// Expects that V1 with this block damaged has this reported, and that FOO.TXT is found or not.
+/// Checks what is found of V1 with these blocks damaged, and what is reported last.
 fn expect_damaged(
     rt: &impl Abort,
     alloc: Global,
-    n: u32,
+    blocks: &[u32],
     is_found: bool,
-    told: Finding,
+    fault: VolumeError,
+    costs: Cost,
 ) -> Result<(), NoMemory> {
     let mut disk = v1(alloc, CALLS)?;
-    damage(rt, &mut disk, n);
-    let mut copied = copy_of(rt, alloc, &mut disk, 0, false);
-    expect_survey(rt, alloc, &mut copied, is_found, Some(told));
+    for &n in blocks {
+        damage(rt, &mut disk, n);
+    }
+    let mut copied = copied_from(alloc, &mut disk).expect(rt, "a copy");
+    expect_told(rt, alloc, &mut copied, is_found, fault, costs);
     Ok(())
 }
 
+/// Checks what damaged blocks cost: a file is found by its prime block if its directory or the home copies are lost.
 #[test]
-fn a_damaged_file_is_told(rt: HostRuntime) -> Result<(), Fail> {
-    let data = told(VolumeError::BadData(18), cost_of_foo());
-    expect_damaged(&rt, rt.alloc(), 18, false, data)?;
-    let retrieval = told(VolumeError::BadRetrieval(17), cost_of_foo());
-    expect_damaged(&rt, rt.alloc(), 17, false, retrieval)?;
+fn what_damaged_blocks_cost(rt: HostRuntime) -> Result<(), Fail> {
+    for (blocks, is_found, fault, costs) in [
+        (
+            [18].as_slice(),
+            false,
+            VolumeError::BadData(18),
+            Cost::File(owner(), foo()),
+        ),
+        (
+            &[17],
+            false,
+            VolumeError::BadRetrieval(17),
+            Cost::File(owner(), foo()),
+        ),
+        (
+            &[16],
+            true,
+            VolumeError::BadDirectory(16),
+            Cost::Directory(owner()),
+        ),
+        (
+            &[15],
+            true,
+            VolumeError::BadDirectory(15),
+            Cost::Directories,
+        ),
+        (&[14], true, VolumeError::TableWrong(14), Cost::Nothing),
+        (&[1, 2], true, VolumeError::NotVolume, Cost::Directories),
+        (
+            &[16, 18],
+            false,
+            VolumeError::BadData(18),
+            Cost::Unnamed(owner(), foo()),
+        ),
+    ] {
+        expect_damaged(&rt, rt.alloc(), blocks, is_found, fault, costs)?;
+    }
     Ok(())
 }
 
-/// The file is found by its prime block.
+/// Checks that a block is taken for damaged if the device doesn't read it: block 18 alone, or it and all after it.
 #[test]
-fn a_damaged_directory_costs_its_names(rt: HostRuntime) -> Result<(), Fail> {
-    let directory = told(VolumeError::BadDirectory(16), Cost::Directory(owner()));
-    expect_damaged(&rt, rt.alloc(), 16, true, directory)?;
-    let master = told(VolumeError::BadDirectory(15), Cost::Directories);
-    expect_damaged(&rt, rt.alloc(), 15, true, master)?;
-    Ok(())
-}
-
-#[test]
-fn a_damaged_table_costs_nothing(rt: HostRuntime) -> Result<(), Fail> {
-    let table = told(VolumeError::TableWrong(14), Cost::Nothing);
-    expect_damaged(&rt, rt.alloc(), 14, true, table)?;
-    Ok(())
-}
-
-/// The file is found by its prime block.
-#[test]
-fn damaged_home_copies_cost_all_names(rt: HostRuntime) -> Result<(), Fail> {
-    let mut disk = v1(rt.alloc(), CALLS)?;
-    damage(&rt, &mut disk, 1);
-    damage(&rt, &mut disk, 2);
-    let mut copied = copy_of(&rt, rt.alloc(), &mut disk, 0, false);
-    let no_volume = told(VolumeError::NotVolume, Cost::Directories);
-    expect_survey(&rt, rt.alloc(), &mut copied, true, Some(no_volume));
-    Ok(())
-}
-
-/// Returns what is reported after the first finding of a copy.
-fn second_told(rt: &impl Abort, alloc: Global, copied: &mut Copied) -> Option<Finding> {
-    let survey = surveyed(alloc, &mut copied.disk).expect(rt, "a survey");
-    survey.findings.get(1).copied()
-}
-
-/// With the directory the file has lost its name, and is reported by what its prime block says.
-#[test]
-fn a_damaged_file_without_a_name(rt: HostRuntime) -> Result<(), Fail> {
-    let mut disk = v1(rt.alloc(), CALLS)?;
-    damage(&rt, &mut disk, 16);
-    damage(&rt, &mut disk, 18);
-    let mut copied = copy_of(&rt, rt.alloc(), &mut disk, 0, false);
-    let data = told(VolumeError::BadData(18), Cost::Unnamed(owner(), foo()));
-    assert!(rt; second_told(&rt, rt.alloc(), &mut copied) == Some(data));
+fn a_block_that_is_not_read_is_damaged(rt: HostRuntime) -> Result<(), Fail> {
+    for (fail, unread) in [(Failing::One, 1), (Failing::All, 46)] {
+        let mut disk = FuseDisk::new(v1(rt.alloc(), CALLS)?, 18, fail);
+        let mut copied = copied_from(rt.alloc(), &mut disk).expect(&rt, "a copy");
+        assert!(rt; copied.unread == unread);
+        let file = Cost::File(owner(), foo());
+        let fault = VolumeError::BadData(18);
+        expect_told(&rt, rt.alloc(), &mut copied, false, fault, file);
+    }
     Ok(())
 }

@@ -5,8 +5,6 @@
 #![tactic(auto)]
 
 #[cfg(test)]
-mod begin_tests;
-#[cfg(test)]
 mod charge_tests;
 #[cfg(test)]
 mod disks;
@@ -14,9 +12,5 @@ mod disks;
 mod pin_tests;
 #[cfg(test)]
 mod publish_tests;
-#[cfg(test)]
-mod put_tests;
-#[cfg(test)]
-mod quota_tests;
 #[cfg(test)]
 mod update_tests;

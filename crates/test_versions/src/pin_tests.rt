@@ -1,32 +1,17 @@
-//! Tests of pinned versions.
-ghost use Rattle.std.specs.Prelude.{◌≡◌, ◌<◌, IfOk, IfSome};
+//! Tests of reads of a pinned version from a disk that fails.
+ghost use Rattle.std.specs.Prelude.{◌≡◌, ◌<◌, IfOk};
 ghost use Rattle.volume.specs.Common.{IsReadable};
 ghost use Rattle.volume.specs.declared.handles.VersionHandle.TheVariants.{Pinned};
 
-use crate::disks::{open, opened, spoiled};
+use crate::disks::open;
 use crate::publish_tests::hold;
-use blockdisk::{Disk, Fault, NoMemory};
+use blockdisk::{Disk, Fail as Failing, FuseDisk, NoMemory};
 use std::alloc::Global;
 use std::process::Abort;
 use std::test::Fail;
 use test_support::v1;
 use volume::{CallError, Pin, VersionHandle, Volume};
 use words36::Word;
-
-/// Returns the volume on a disk, with FOO.TXT of [10,20] pinned, or why not.
-pub(crate) fn open_and_pin<D: Disk + Drop>(
-    rt: &impl Abort,
-    alloc: Global,
-    disk: D,
-) -> Option<(Volume<D>, Pin)>
-    ensures { IfSome result (λ pinned. IsReadable pinned.0.map (Pinned pinned.1)) }
-{
-    let Some(mut volume) = open(alloc, disk) else {
-        return None;
-    };
-    let pin = hold(rt, &mut volume);
-    Some((volume, pin))
-}
 
 /// Returns what is read of a pinned version from a block.
 pub(crate) fn read<D: Disk>(
@@ -44,66 +29,32 @@ pub(crate) fn read<D: Disk>(
     volume.get_words(alloc, VersionHandle::Pinned(pin), block, count)
 }
 
-/// Reads a file of two words. Checks that it is read, or that the device fails, and the volume with it. Returns whether
-/// it is read.
-fn is_read<D: Disk>(rt: &impl Abort, alloc: Global, volume: &mut Volume<D>, pin: Pin) -> bool
-    requires live { IsReadable volume.old.map (Pinned pin) }
-{
-    match read(alloc, volume, pin, 1, 2) {
+/// Returns whether FOO.TXT of V1 is read from a disk that fails after `passing` calls; `None` if it isn't opened. If it
+/// isn't read, the device has failed, and the volume with it.
+fn is_read(rt: &impl Abort, alloc: Global, passing: u64) -> Result<Option<bool>, NoMemory> {
+    let disk = FuseDisk::new(v1(alloc, 1)?, passing, Failing::All);
+    let Some(mut volume) = open(alloc, disk) else {
+        return Ok(None);
+    };
+    let pin = hold(rt, &mut volume);
+    match read(alloc, &mut volume, pin, 1, 2) {
         Ok(words) => {
             assert!(rt; words.len() == 2 && !volume.has_failed());
-            true
+            Ok(Some(true))
         }
         Err(error) => {
             assert!(rt; error == CallError::Device && volume.has_failed());
-            false
+            Ok(Some(false))
         }
     }
 }
 
-/// Returns whether the FOO.TXT of V1 is read, on a disk that fails each read after the first `reads`; `None` if it isn't
-/// opened.
-fn is_read_after(rt: &impl Abort, alloc: Global, reads: u32) -> Result<Option<bool>, NoMemory> {
-    let disk = spoiled(v1(alloc, 1)?, reads, Fault::Device);
-    let Some((mut volume, pin)) = open_and_pin(rt, alloc, disk) else {
-        return Ok(None);
-    };
-    Ok(Some(is_read(rt, alloc, &mut volume, pin)))
-}
-
-/// The disk fails at each of its reads in turn: the file's block is read last, and if that fails, the volume has
-/// failed.
+/// The disk fails at each of its calls in turn. Seven reads and a sync open it, and the file's block is read last.
 #[test]
-fn the_read_of_a_word_may_fail(rt: HostRuntime) -> Result<(), Fail> {
-    let mut read_and_failed = (false, false);
-    for reads in 0..16 {
-        match is_read_after(&rt, rt.alloc(), reads)? {
-            Some(true) => read_and_failed.0 = true,
-            Some(false) => read_and_failed.1 = true,
-            None => {}
-        }
+fn each_call_of_a_read_fails(rt: HostRuntime) -> Result<(), Fail> {
+    for passing in 0..10 {
+        let wanted = if passing < 8 { None } else { Some(passing > 8) };
+        assert!(rt; is_read(&rt, rt.alloc(), passing)? == wanted);
     }
-    assert!(rt; read_and_failed.0 && read_and_failed.1);
     Ok(())
-}
-
-/// Reads a version: a read that finds no memory changes nothing, and the next one succeeds.
-fn read_again<D: Disk>(rt: &impl Abort, alloc: Global, volume: &mut Volume<D>, pin: Pin)
-    requires live { IsReadable volume.old.map (Pinned pin) }
-{
-    if read(alloc, volume, pin, 1, 2) == Err(CallError::NoMemory) {
-        assert!(rt; read(alloc, volume, pin, 1, 2).is_ok());
-    }
-}
-
-/// Run with each allocation refused in turn: a read that finds no memory changes nothing, and the next one succeeds.
-#[test]
-fn each_allocation_of_a_read_refused(rt: HostRuntime) {
-    let Ok(disk) = v1(rt.alloc(), 1) else {
-        return;
-    };
-    let Some((mut volume, pin)) = open_and_pin(&rt, rt.alloc(), disk) else {
-        return;
-    };
-    read_again(&rt, rt.alloc(), &mut volume, pin);
 }

@@ -1,4 +1,4 @@
-use Rattle.std.proofs.Common.{◌≡◌, ◌<◌, ℕ, Some, rules, ap, ◌∙◌}
+use Rattle.std.proofs.Common.{◌≡◌, Some, rules, ap, ◌∙◌}
 use Rattle.volume.specs.Common.{begun, slot, pending_at}
 use Rattle.retrieval.specs.Common.{VersionState}
 use Rattle.test_versions.proofs.Placed.{written}

@@ -1,4 +1,4 @@
-use Rattle.test_versions.proofs.publish_tests.publish.Goals as goal
+use Rattle.test_versions.proofs.publish_tests.expect_published.Goals as goal
 
 pub returns : goal.returns
 returns g c = record {

@@ -1,5 +1,5 @@
 //! A test of the first second of 1970.
-use crate::moment_of;
+use collection::moment_of;
 
 #[test]
 fn first_second_of_1970(rt: HostRuntime) {

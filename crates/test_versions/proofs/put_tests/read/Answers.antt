@@ -1,7 +1,0 @@
-use Rattle.volume.specs.Common.{pending_at}
-use Rattle.spec_image.proofs.Common.{some_is}
-use Rattle.test_versions.proofs.put_tests.read.Goals as goal
-
-pub get_words-requires-clause-live : goal.get_words-requires-clause-live
-get_words-requires-clause-live g c = some_is (pending_at c.args.volume.now.map.pending c.args.pending.key)
-    c.requires.live
