@@ -1,6 +1,6 @@
 -- Plans that are run, event by event: each is done, or the line is refused and the files stay.
-use Rattle.std.proofs.Common.{◌≡◌, ◌≢◌, ◌⊎◌, inl, inr, ⊎_elim, ℕ, false, if◌then◌else◌, IsTrue, List, [], ◌∷◌, ◌++◌}
-use Rattle.std.proofs.Common.{refl, sym, ap, subst, ◌∙◌}
+use Rattle.std.proofs.Common.{◌≡◌, ◌≢◌, ◌⊎◌, inl, inr, ⊎_elim, false, IsTrue, List, [], ◌∷◌, ◌++◌, refl, sym, ap, subst}
+use Rattle.std.proofs.Common.{◌∙◌}
 use Rattle.std.specs.List.{AllByRecursion}
 use Rattle.words36.specs.declared.moment.Moment.{Moment}
 use Rattle.spec_image.specs.Common.{Files, SpecVersion, Pack}
@@ -23,9 +23,6 @@ went_broken pack (Asks event reply ∷ acts) new (Broken, does, rest) = went_bro
 went_broken pack (Asks event reply ∷ acts) new (Serving t, does, rest) = absurd does
 went_broken pack (Looks owner answer ∷ acts) new (mid, does, rest) = went_broken pack acts new
     (subst (λ m. Went pack m acts new) does.1 rest)
-
-broken_has : (files : Files SpecVersion) (new : Service) → new ≡ Broken → HasFiles files new
-broken_has files new e = subst (HasFiles files) (sym e) tt
 
 -- The next event of a plan, its reply, and what comes next.
 pub asked : (pack : Pack) (old : Service) (event : Event) (next : Reply → Plan) (said : Spoken) (new : Service)

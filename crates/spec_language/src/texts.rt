@@ -31,8 +31,8 @@ pub fn served_acts_are_acts()
 pub fn texts_are_functions()
     ensures session { (pack : Pack) (moment : Moment) (lines : List Line) (user : Option ℕ) (s t u : State)
         (acts others : List Act) (one other : Spoken) (x y : Option ℕ)
-        → IsTranscript moment user lines acts one x → Served pack s acts t → IsTranscript moment user lines others other y
-        → Served pack s others u → one ≡ other }
+        → IsTranscript moment user lines acts one x → Served pack s acts t
+        → IsTranscript moment user lines others other y → Served pack s others u → one ≡ other }
     ensures script { (pack : Pack) (moment : Moment) (lines : List Line) (s t u : State) (acts others : List Act)
         (one other : Spoken)
         → Scripts moment lines acts one → Served pack s acts t → Scripts moment lines others other

@@ -1,5 +1,5 @@
 -- Files that are put and got, computed: what is asked, played on the machine.
-use Rattle.std.proofs.Common.{◌≡◌, ℕ, List, [], ◌∷◌, ◌++◌, replicate, Some, None, refl}
+use Rattle.std.proofs.Common.{◌≡◌, ℕ, List, [], ◌∷◌, ◌++◌, replicate, Some, refl}
 use Rattle.std.specs.Prelude.{codes}
 use Rattle.words36.specs.Common.{packed, octets_packed}
 use Rattle.spec_image.specs.Common.{get, insert, remove, empty, entries, size}
@@ -9,12 +9,8 @@ use Rattle.spec_language.specs.Plans.{each, fetches, type_runs_plan}
 use Rattle.spec_language.specs.Errands.{put_plan, get_plan, fill_parts_plan}
 use Rattle.spec_language.specs.declared.encoding.Encoding.{Encoding}
 use Rattle.spec_language.specs.declared.encoding.Encoding.TheVariants.{Characters, Words, Octets}
-use Rattle.spec_language.specs.declared.command.Spec.{Spec}
-use Rattle.spec_machine.proofs.Common.{small, ten_twenty, fresh, foo, foo_of, at_start}
-use Rattle.spec_language.proofs.Rows.TextRows.{conduct}
-
-abbrev foo_spec : Spec
-foo_spec = record { name = record { name = foo; ext = 0o647064 }; owner = None }
+use Rattle.spec_machine.proofs.Common.{small, ten_twenty, fresh, foo_of, at_start}
+use Rattle.spec_language.proofs.Rows.PlayedLines.{conduct, foo_spec}
 
 -- what is printed when words are put, and the text of what is got after that
 abbrev back : State → Encoding → List ℕ → Spoken × Spoken
