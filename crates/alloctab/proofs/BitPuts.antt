@@ -1,12 +1,12 @@
 -- A bit of a word, and words of a table block, that are put.
-use Rattle.std.proofs.Common.{◌≡◌, ⊎_elim, ℕ, ◌+◌, ◌*◌, ◌-◌, ◌/◌, ◌%◌, ◌^◌, ◌<◌, ◌≤◌, Bool, List, length, get_or, set}
-use Rattle.std.proofs.Common.{bit_or, sym, ◌∙◌, ap, rules, arith}
+use Rattle.std.proofs.Common.{◌≡◌, ⊎_elim, ℕ, ◌+◌, ◌*◌, ◌-◌, ◌/◌, ◌%◌, ◌^◌, ◌<◌, ◌≤◌, List, length, get_or, bit_or, sym}
+use Rattle.std.proofs.Common.{◌∙◌, ap, rules, arith}
 use Rattle.std.specs.Int.{bit_at}
-use Rattle.std.proofs.lemmas.Bool.{cases_eq, cases_lt}
-use Rattle.std.proofs.lemmas.List.{get_or-set_same, get_or-set_other, length-set, get_or_read, places}
+use Rattle.std.proofs.lemmas.Bool.{cases_lt}
+use Rattle.std.proofs.lemmas.List.{places}
 use Rattle.std.proofs.lemmas.Nat.{or_lt, one_shl, pow_below}
 use borrow.Rule.Slice.PartMut.{put_mid}
-use Rattle.alloctab.specs.Common.{digit, PutsBit, CopiesWords}
+use Rattle.alloctab.specs.Common.{CopiesWords}
 
 -- the word in which a bit is set has 36 bits
 pub with_mask_fits : (word place : ℕ) → word < 2 ^ 36 → place < 36 → bit_or word (1 * 2 ^ (35 - place) % 2 ^ 64)
@@ -15,25 +15,6 @@ with_mask_fits word place fits inside =
     let mask = one_shl (35 - place) 64 (omega arith) in
     let few = pow_below (35 - place) 36 (omega arith) in
     or_lt 36 word (1 * 2 ^ (35 - place) % 2 ^ 64) fits (omega arith)
-
-pub puts_bit : (words : List ℕ) (n : ℕ) (bit : Bool) (old new : ℕ) → n / 36 < length words
-    → old ≡ get_or words (n / 36) old → bit_at new (35 - n % 36) ≡ digit bit
-    → ((p : ℕ) → p < 36 → (p ≡ n % 36 → ⊥) → bit_at new (35 - p) ≡ bit_at old (35 - p))
-    → PutsBit n bit words (set words (n / 36) new)
-puts_bit words n bit old new inside read same others =
-    let here = get_or-set_same words (n / 36) new 0 inside in
-    record {
-      long = length-set words (n / 36) new;
-      same = ap (λ (w : ℕ). bit_at w (35 - n % 36)) here ∙ same;
-      others = λ m apart. ⊎_elim
-          (λ one. ap (λ (k : ℕ). bit_at (get_or (set words (n / 36) new) k 0) (35 - m % 36)) one
-          ∙ ap (λ (w : ℕ). bit_at w (35 - m % 36)) here
-          ∙ others (m % 36) (omega arith) (λ e. apart (omega arith))
-          ∙ ap (λ (w : ℕ). bit_at w (35 - m % 36)) (get_or_read words (n / 36) old inside read 0)
-          ∙ ap (λ (k : ℕ). bit_at (get_or words k 0) (35 - m % 36)) (sym one))
-          (λ other. ap (λ (w : ℕ). bit_at w (35 - m % 36)) (get_or-set_other words (n / 36) (m / 36) new 0 other))
-          (cases_eq (m / 36) (n / 36));
-    }
 
 module _ (a k : ℕ) (xs ys : List ℕ) (room : a + k ≤ length xs) (long : length ys ≡ k) where
   pub length-placed : length (put_mid a k xs ys) ≡ length xs

@@ -45,9 +45,6 @@ module _ (size : ℕ) (words held counts : List ℕ) (changed : List Bool) (hint
   pub bits_are : (booked : ℕ) → word_bit words ≡ bit (table_of size words counts booked changed)
   bits_are booked = λ i n. sym (bit_is size words kept.past n) i
 
-  pub word_inside : (n : ℕ) → n < size → (n / 36 < length words) × (n / 36 < length held)
-  word_inside n inside = let a = kept.set_long in let b = kept.held_long in (omega arith, omega arith)
-
   -- free blocks
 
   pub is_free : (booked n : ℕ) → n < size → word_bit words n + word_bit held n ≡ 0

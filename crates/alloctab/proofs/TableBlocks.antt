@@ -1,14 +1,12 @@
 -- The bits of a table, read block after block.
-use Rattle.std.proofs.Common.{◌≡◌, ◌⊎◌, ⊎_elim, ℕ, ◌+◌, ◌*◌, ◌/◌, ◌<◌, ◌≤◌, Bool, false, List, length, Option, Some}
-use Rattle.std.proofs.Common.{IsSome, sym, ◌∙◌, ap, subst, arith}
+use Rattle.std.proofs.Common.{◌≡◌, ⊎_elim, ℕ, ◌+◌, ◌*◌, ◌/◌, ◌<◌, ◌≤◌, Bool, false, List, length, Option, Some, IsSome}
+use Rattle.std.proofs.Common.{sym, ◌∙◌, ap, subst, arith}
 use Rattle.std.proofs.lemmas.Bool.{cases_eq}
 use Rattle.std.proofs.lemmas.Bool.Decides.{nat_tests}
 use Rattle.std.proofs.lemmas.List.{get_or_past}
 use Rattle.blockdisk.specs.Common.{Contents}
 use Rattle.spec_image.specs.Common.{table_blocks, table_start, table_bit, bit_in, bit_of}
-use Rattle.alloctab.specs.Common.{digit, digit_at, word_bit, IsClearFrom, IsTableOf, IsBadTableBlock, CopiesWords}
-use Rattle.alloctab.specs.Common.{ReadsBits}
-use Rattle.spec_image.proofs.Common.{below_or_not}
+use Rattle.alloctab.specs.Common.{digit, digit_at, word_bit, IsClearFrom, IsBadTableBlock, ReadsBits}
 
 pub table_bit_in : (size : ℕ) (c : Contents) (n : ℕ) → n / 4608 < table_blocks size
     → table_bit size c n ≡ bit_in (c (table_start size + n / 4608)) n
@@ -33,12 +31,6 @@ pub record IsTableBelow (count size : ℕ) (contents : Contents) (bits : ℕ →
   pub bits_are : (n : ℕ) → n / 4608 < count → bits n ≡ table_bit size contents n
   pub undamaged : (i : ℕ) → i < count → IsSome (contents (table_start size + i))
 
-pub read_none : (size : ℕ) (c : Contents) (bits : ℕ → ℕ) → IsTableBelow 0 size c bits
-read_none size c bits = record {
-  bits_are = λ n below. absurd (omega arith);
-  undamaged = λ i below. absurd (omega arith);
-}
-
 pub read_more : (size : ℕ) (c : Contents) (i : ℕ) (old new : List ℕ) → ReadsBits size c i old new
     → IsTableBelow i size c (word_bit old) → IsTableBelow (i + 1) size c (word_bit new)
 read_more size c i old new reads so_far = record {
@@ -47,21 +39,6 @@ read_more size c i old new reads so_far = record {
   undamaged = λ j below. ⊎_elim (λ same. subst (λ (k : ℕ). IsSome (c (table_start size + k)))
       (sym same) reads.undamaged) (λ other. so_far.undamaged j (omega arith)) (cases_eq j i);
 }
-
-pub read_all : (size : ℕ) (c : Contents) (i : ℕ) (words : List ℕ) → IsClearFrom size words → table_blocks size ≤ i
-    → i ≤ table_blocks size → IsTableBelow i size c (word_bit words) → IsTableOf size c (word_bit words)
-read_all size c i words none enough few so_far = record {
-  bits_are = λ n. ⊎_elim (λ below. so_far.bits_are n (omega arith)) (λ past. none n (omega arith)
-      ∙ sym (table_bit_past size c n past)) (below_or_not (n / 4608) (table_blocks size));
-  undamaged = λ j below. so_far.undamaged j (omega arith);
-}
-
--- the bits past the end of the disk stay clear
-pub still_past : (size i : ℕ) (words old new : List ℕ) → CopiesWords words i old new
-    → ((k : ℕ) → k / 4608 ≡ i → size ≤ k → bit_of words k ≡ 0) → IsClearFrom size old → IsClearFrom size new
-still_past size i words old new copies none clear n past = ⊎_elim
-    (λ here. copies.copied n here ∙ none n here past) (λ other. copies.others n other ∙ clear n past)
-    (cases_eq (n / 4608) i)
 
 -- the same for a disk that holds the same
 

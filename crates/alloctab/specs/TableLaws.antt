@@ -149,12 +149,6 @@ used_in_space-with_held t n count from inside =
     used_in_space_but_one (with_held t n count) t n refl from inside
     (λ m other. used_same (with_held t n count) t m refl (holds-with_held_other t n m count other))
 
-pub used_in_space-with_bit : (t : TableState) (n : ℕ) (set : Bool) → space_start t.size ≤ n → n < t.size
-    → used_in_space (with_bit t n set) + used t n ≡ used_in_space t + used (with_bit t n set) n
-used_in_space-with_bit t n set from inside =
-    used_in_space_but_one (with_bit t n set) t n refl from inside
-    (λ m other. used_same (with_bit t n set) t m (bit-with_bit_other t n m set other) refl)
-
 pub used-free : (t : TableState) (n : ℕ) → IsFree t n → used t n ≡ 0
 used-free t n free = let clear = free.clear in let unheld = free.unheld in grind (arith, nat_tests)
 

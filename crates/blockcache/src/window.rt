@@ -1,6 +1,6 @@
 //! A window: neighbouring blocks, cached as they were read.
-ghost use Rattle.std.specs.Prelude.{◌≡◌, ◌+◌, ◌<◌, ◌≤◌, ℕ, [], Some, None, Ok, Err, IfOk, IfErr, IfSome, IfNone};
-ghost use Rattle.std.specs.Prelude.{length, option_copied};
+ghost use Rattle.std.specs.Prelude.{◌≡◌, ◌+◌, ◌<◌, ◌≤◌, Some, None, Ok, Err, IfOk, IfErr, IfSome, IfNone, length};
+ghost use Rattle.std.specs.Prelude.{option_copied};
 ghost use Rattle.blockcache.specs.Window.{AreRead, apart, asked_count, asked_end, asked_first, cleared, first_of};
 ghost use Rattle.blockcache.specs.Window.{words_at};
 

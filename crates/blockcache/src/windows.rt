@@ -1,6 +1,6 @@
 //! The last two windows of neighbouring blocks that were read ahead.
-ghost use Rattle.std.specs.Prelude.{◌≡◌, ◌+◌, ◌<◌, ◌≤◌, ℕ, Some, None, Ok, IfOk, IfSome, IsSome, IsErrOf, length};
-ghost use Rattle.blockdisk.specs.Common.{IsRead, AreVerified, Contents, HoldRun};
+ghost use Rattle.std.specs.Prelude.{◌≡◌, ◌<◌, ◌≤◌, ℕ, Some, None, Ok, IfSome, IsSome, IsErrOf, length};
+ghost use Rattle.blockdisk.specs.Common.{IsRead, AreVerified, Contents};
 ghost use Rattle.blockdisk.specs.declared.fault.Fault.TheVariants.{Device};
 ghost use Rattle.blockcache.specs.Window.{AreSeen, IsAhead, IsNext, MovesOn, apart, cleared, words_near};
 

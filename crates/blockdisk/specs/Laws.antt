@@ -99,9 +99,6 @@ syncs_still s s' syncs = record {
     crash : (c : Contents) → MayLeave s' c → MayLeave s c
     crash c left n closed = left n (syncs.closed n) ∙ syncs.contents n
 
-pub keeps_none_open : (s s' : DiskState) → NoneOpen s → Keeps s s' → NoneOpen s'
-keeps_none_open s s' none keeps n = keeps.is_open n ∙ none n
-
 -- Only these blocks written
 
 pub near_self : (In : ℕ → Type 0) (s : DiskState) (c : Contents) → MayLeave s c → Near In s c

@@ -3,8 +3,8 @@ use Rattle.std.specs.Prelude.{◌≡◌, ◌+◌, ◌<◌, ◌≤◌, ℕ, List,
 use Rattle.std.proofs.Common.{⊎_elim, refl, ap, ◌∙◌, arith, subst}
 use Rattle.std.proofs.lemmas.Bool.{cases_lt}
 use Rattle.blockdisk.specs.Calls.{IsRead, IsVerify}
-use Rattle.blockdisk.specs.Disk.{Contents, DiskState, MayLeave, IsWholeBlock, one_more}
-use Rattle.blockdisk.specs.Laws.{same_contents, keeps_on, passes_start, same_disk_start, same_disk_on}
+use Rattle.blockdisk.specs.Disk.{Contents, DiskState, IsWholeBlock, one_more}
+use Rattle.blockdisk.specs.Laws.{same_contents, keeps_on, same_disk_on}
 use Rattle.blockdisk.specs.declared.fault.Fault.{Fault}
 use Rattle.blockdisk.specs.declared.fault.Fault.TheVariants.{Device, Damaged}
 
@@ -13,21 +13,6 @@ no_fault value fault is = cc
 
 not_ok : (fault : Fault) → IsOk {T = Option ℕ} (Err fault) → ⊥
 not_ok fault ok = cc
-
--- no block is checked
-pub verify_start : (first : ℕ) (s : DiskState) → IsVerify first first s s (Ok None)
-verify_start first s = record {
-  within = tt;
-  verified = λ h n low high. absurd (none n low high);
-  keeps = λ h. record { contents = λ m. refl; is_open = λ m. refl; time = passes_start s (MayLeave s) };
-  same = same_disk_start s;
-  device = no_fault None Damaged;
-  failed = λ is. absurd (no_fault None Device is);
-  served = λ ok. refl;
-}
-  where
-    none : (n : ℕ) → first ≤ n → n < first → ⊥
-    none n low high = omega arith
 
 -- a check of fewer blocks
 pub verify_fewer : (first end next : ℕ) (s s' : DiskState) → end ≤ next → IsVerify first next s s' (Ok None)

@@ -1,5 +1,5 @@
 //! Writes that wait until their blocks are on the disk: of one block, and of two copies of it.
-ghost use Rattle.std.specs.Prelude.{◌≡◌, ◌≢◌, ◌<◌, ◌⊎◌, Some, OnOk, IsErrOf};
+ghost use Rattle.std.specs.Prelude.{◌≡◌, ◌≢◌, ◌<◌, Some, OnOk, IsErrOf};
 ghost use Rattle.blockdisk.specs.Common.{OneIsWhole, BothAreNew, NoneOpen, SameDisk, Near, Modifies, LeavesOnly};
 ghost use Rattle.blockdisk.specs.Common.{one_more};
 ghost use Rattle.blockdisk.specs.declared.fault.Fault.TheVariants.{Device, Damaged};

@@ -49,12 +49,6 @@ times_take n zero puts = omega arith
 times_take n (suc i) [] = omega arith
 times_take n (suc i) (put ∷ puts) = omega (arith, times_take n i puts)
 
-pub target_at : (puts : List Put) (i : ℕ) (put : Put) → i < length puts → put ≡ get_or puts i put
-    → slice_get (targets puts) i ≡ Some put.block
-target_at [] i put below is = absurd (omega arith)
-target_at (first ∷ puts) zero put below is = ap (λ (p : Put). Some p.block) (sym is)
-target_at (first ∷ puts) (suc i) put below is = target_at puts i put (omega arith) is
-
 pub set_there : (puts : List Put) (i : ℕ) (new : Put) → slice_get (targets puts) i ≡ Some new.block
     → times new.block (targets (take i puts)) ≡ 0 → slice_set puts i new ≡ replaced new puts
 set_there [] i new there first = cc

@@ -8,7 +8,7 @@ use Rattle.blockdisk.specs.Common.{Contents}
 use Rattle.spec_image.specs.declared.put.Put.{Put}
 use Rattle.spec_image.specs.Common.{times, targets, with_puts}
 use Rattle.spec_image.proofs.Common.{times-append}
-use Rattle.changeset.specs.Puts.{IsPutIn, AreDistinct, replaced}
+use Rattle.changeset.specs.Puts.{AreDistinct, replaced}
 
 pub replaced_here : (new put : Put) (puts : List Put) → put.block ≡ new.block → replaced new (put ∷ puts) ≡ new ∷ puts
 replaced_here new put puts is = grind (arith, nat_tests)
@@ -127,20 +127,6 @@ distinct_replaced new puts distinct = ⊎_elim
     (λ there n. subst (λ (l : List ℕ). times n l ≤ 1) (sym (targets-replaced new puts there)) (distinct n))
     (λ none. subst AreDistinct (sym (replaced-new new puts none)) (distinct_behind puts new distinct none))
     (some_or_none (times new.block (targets puts)))
-
--- what is put with one more
-pub put_in_replaced : (new : Put) (puts : List Put) (n : ℕ) → IsPutIn (replaced new puts) n
-    → (n ≡ new.block) ⊎ IsPutIn puts n
-put_in_replaced new puts n there = ⊎_elim (λ is. inl is)
-    (λ other. inr (⊎_elim (λ is. subst (λ (l : List ℕ). 0 < times n l) (targets-replaced new puts is) there)
-    (λ none. last other none) (some_or_none (times new.block (targets puts))))) (cases_eq n new.block)
-  where
-    last : (n ≡ new.block → ⊥) → times new.block (targets puts) ≡ 0 → IsPutIn puts n
-    last other none =
-        let whole : times n (targets (replaced new puts)) ≡ times n (targets puts ++ new.block ∷ []) = ap
-        (times n) (ap targets (replaced-new new puts none) ∙ targets-behind puts new) in
-        let tail = times_tail n new.block [] other in
-        omega (arith, times-append n (targets puts) (new.block ∷ []), whole, there)
 
 -- and their greatest number
 pub length-replaced : (new : Put) (puts : List Put) → length (replaced new puts) ≤ length puts + 1

@@ -1,6 +1,6 @@
 //! A change set: puts for distinct blocks.
-ghost use Rattle.std.specs.Prelude.{ℕ, ◌≡◌, ◌<◌, ◌≤◌, [], length, take, slice_get, Some, IsSome, IfSome, IfNone};
-ghost use Rattle.std.specs.Prelude.{OnOk, OnErr, IfErr};
+ghost use Rattle.std.specs.Prelude.{◌≡◌, ◌<◌, ◌≤◌, [], length, take, slice_get, Some, IsSome, IfSome, IfNone, OnOk};
+ghost use Rattle.std.specs.Prelude.{OnErr, IfErr};
 ghost use Rattle.changeset.specs.Common.{most_puts, IsPutIn, AreDistinct, replaced};
 ghost use Rattle.changeset.specs.declared.error.LogError.TheVariants.{TooMany};
 ghost use Rattle.spec_image.specs.Common.{targets, times};

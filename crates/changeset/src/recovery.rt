@@ -1,6 +1,5 @@
 //! Recovery: it finishes a commit that a crash interrupted after its gate was open.
-ghost use Rattle.std.specs.Prelude.{ℕ, List, [], Ok, true, false, ◌≡◌, ◌⊎◌, ◌<◌, ◌≤◌, IfOk, OnOk, IsErrOf, Some};
-ghost use Rattle.std.specs.Prelude.{None, IfSome, IfNone};
+ghost use Rattle.std.specs.Prelude.{List, [], Ok, true, false, ◌≡◌, ◌<◌, OnOk, IsErrOf};
 ghost use Rattle.std.specs.List.{AllByRecursion};
 ghost use Rattle.blockdisk.specs.Common.{MayLeave, Still, NoneOpen, SameDisk, LeavesOnly, one_more};
 ghost use Rattle.changeset.specs.Common.{SettlesLike, SettlesLikeBefore, IsLost, ArePending, IsRecovered, SyncsFirst};

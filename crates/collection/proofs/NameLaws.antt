@@ -22,9 +22,6 @@ pub plain_left : (room b : ℕ) (bytes : List ℕ) → is_letter (upper b) ≡ f
 plain_left zero b bytes other = refl
 plain_left (suc room) b bytes other = rw other refl
 
-pub plain_full : (bytes : List ℕ) → plain 0 bytes ≡ []
-plain_full bytes = refl
-
 pub plain_none : (room : ℕ) → plain room [] ≡ []
 plain_none zero = refl
 plain_none (suc room) = refl

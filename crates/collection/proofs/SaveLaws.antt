@@ -1,5 +1,5 @@
 -- Files of a disk that was surveyed, one after the other.
-use Rattle.std.proofs.Common.{◌≡◌, ◌<◌, ap, arith, sym, subst, ℕ, List, [], ◌∷◌, Option, Result, inl, inr}
+use Rattle.std.proofs.Common.{◌≡◌, ap, sym, subst, ℕ, List, Option, Result, inl, inr}
 use Rattle.std.specs.List.{AllByRecursion}
 use Rattle.blockdisk.specs.Common.{DiskState}
 use Rattle.salvage.specs.Common.{FitsDisk}

@@ -303,8 +303,9 @@ pub fn export_files<H: HostFiles, W: Write, E: Write, D: Disk>(
     errors: &mut E,
 ) -> Result<Tally, SessionError>
     requires { MayExport (H.files host.now) task.now }
-    ensures done { IsExportRun (H.files host.now) (λ (m : MonitorState D). machine_of (D.state m.disk) m.map m.failed m.jobs)
-        task.now (W.contents writer.old) (W.contents writer.new) monitor.old monitor.new result }
+    ensures done { IsExportRun (H.files host.now)
+        (λ (m : MonitorState D). machine_of (D.state m.disk) m.map m.failed m.jobs) task.now
+        (W.contents writer.old) (W.contents writer.new) monitor.old monitor.new result }
     ensures goes { Goes (λ (m : MonitorState D). machine_of (D.state m.disk) m.map m.failed m.jobs) monitor.old
         monitor.new }
 {

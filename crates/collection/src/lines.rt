@@ -1,5 +1,5 @@
 //! The line of each file, and its tally.
-ghost use Rattle.std.specs.Prelude.{◌≡◌, ◌++◌, ◌∷◌, [], OnOk, IfOk};
+ghost use Rattle.std.specs.Prelude.{◌≡◌, ◌++◌, OnOk, IfOk};
 ghost use Rattle.spec_language.specs.Common.{line as line_of};
 ghost use Rattle.collection.specs.Common.{added as added_to, none_counted, shown_byte, IsLineWritten, IsCounted};
 ghost use Rattle.collection.specs.Common.{IsRefusedLine, label_of, refused_tally};

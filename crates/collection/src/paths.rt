@@ -1,7 +1,7 @@
 //! The paths of files of the host that are made.
 ghost use Rattle.std.specs.Prelude.{◌≡◌, ◌++◌, ◌∷◌, ◌<◌, [], All, IfOk, OnOk, flat_map, string_bytes};
 ghost use Rattle.spec_language.specs.Common.{owner_text};
-ghost use Rattle.collection.specs.Common.{dotted, escaped, folder_of as folder_text, hexadecimal, host_name};
+ghost use Rattle.collection.specs.Common.{escaped, folder_of as folder_text, hexadecimal, host_name};
 ghost use Rattle.collection.specs.HostNames.{path_of as path_text};
 
 use crate::host_names::is_plain;

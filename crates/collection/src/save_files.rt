@@ -297,8 +297,8 @@ fn report_findings<W: Write>(
     findings: &[Finding],
     writer: &mut W,
 ) -> Result<Tally, SessionError>
-    ensures { EachDone (IsFindingDone task.now) findings.now none_counted (W.contents writer.old) (W.contents writer.new) tt
-        tt result }
+    ensures { EachDone (IsFindingDone task.now) findings.now none_counted (W.contents writer.old)
+        (W.contents writer.new) tt tt result }
 {
     let mut tally = Tally::none();
     for finding in findings {

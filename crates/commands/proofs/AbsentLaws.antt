@@ -1,16 +1,11 @@
 -- Files that must not exist, and the events before a file is entered.
-use Rattle.std.proofs.Common.{◌≡◌, ℕ, zero, suc, Bool, false, nat_eq, if◌then◌else◌, List, Some, None, Result, refl}
-use Rattle.std.proofs.Common.{sym, ap, subst, arith}
-use Rattle.std.proofs.lemmas.Bool.Decides.{nat_tests}
+use Rattle.std.proofs.Common.{◌≡◌, ℕ, List, Some, None, Result, refl, sym, subst}
 use Rattle.words36.specs.declared.moment.Moment.{Moment}
 use Rattle.spec_language.specs.Common.{create_events, login_events, unfit, Plan, Ask, Say, call_event, each, ends}
-use Rattle.spec_language.specs.Common.{fails, file_words}
-use Rattle.spec_language.specs.Common.{ok, complains}
+use Rattle.spec_language.specs.Common.{file_words, ok, complains}
 use Rattle.spec_machine.specs.declared.call.Call.TheVariants.{Lookup}
 use Rattle.spec_machine.specs.declared.call.Event.{Event}
 use Rattle.spec_machine.specs.declared.call.Reply.{Reply}
-use Rattle.spec_machine.specs.declared.call.Reply.TheVariants.{Done, Value, Refused, Stopped, NoChannel, AddressCheck}
-use Rattle.spec_machine.specs.declared.call.Reply.TheVariants.{NoJob, NoMemory, Device, Failed, DateRange}
 use Rattle.spec_language.specs.declared.command.Spec.{Spec}
 use Rattle.spec_language.specs.declared.encoding.Encoding.{Encoding}
 use Rattle.commands.specs.Common.{FollowsPlan, followed, absent, if_absent, put_plan_as, looks_for, makes_way}
@@ -20,24 +15,6 @@ use Rattle.commands.specs.declared.existing.Existing.{Existing}
 use Rattle.commands.specs.declared.existing.Existing.TheVariants.{Replace, Refuse}
 use Rattle.commands.proofs.LedLaws.{led_asked, led_on}
 use Rattle.commands.proofs.PutLaws.{filled_then}
-
--- a reply other than that the file exists, or that there is no such file
-pub if_unsure : (moment : Moment) (next : Plan) (reply : Reply) → (reply ≡ Done → ⊥) → (reply ≡ Refused 0 → ⊥)
-    → if_absent moment next reply ≡ fails moment reply
-if_unsure moment next Done there none = absurd (there refl)
-if_unsure moment next (Value word) there none = refl
-if_unsure moment next (Refused zero) there none = absurd (none refl)
-if_unsure moment next (Refused (suc code)) there none =
-    let other : nat_eq (suc code) 0 ≡ false = grind (arith, nat_tests) in
-    ap (λ (b : Bool). if b then next else fails moment (Refused (suc code))) other
-if_unsure moment next (Stopped status) there none = refl
-if_unsure moment next NoChannel there none = refl
-if_unsure moment next AddressCheck there none = refl
-if_unsure moment next NoJob there none = refl
-if_unsure moment next NoMemory there none = refl
-if_unsure moment next Device there none = refl
-if_unsure moment next Failed there none = refl
-if_unsure moment next DateRange there none = refl
 
 module _ {S : Type 0} (machine : S → Machine) (stands : AlwaysStands machine) (a b c : S) (moment : Moment)
     (spec : Spec) where

@@ -1,7 +1,7 @@
 -- The parts of the text of a day.
-use Rattle.std.proofs.Common.{◌≡◌, ℕ, ◌+◌, ◌-◌, ◌<◌, ◌≤◌, ◌==◌, true, List, ◌∷◌, length, get_or, refl, sym, ◌∙◌, ap}
-use Rattle.std.proofs.Common.{subst, arith, map, inl, inr, zero, suc, if◌then◌else◌, Option, Some, None, IfNone}
-use Rattle.std.proofs.Common.{Result, Ok, Err, IsOk, is_some, is_ok, false}
+use Rattle.std.proofs.Common.{◌≡◌, ℕ, ◌+◌, ◌-◌, ◌<◌, ◌==◌, true, List, ◌∷◌, length, get_or, refl, sym, ◌∙◌, ap, subst}
+use Rattle.std.proofs.Common.{arith, map, inl, inr, zero, suc, if◌then◌else◌, Option, Some, None, IfNone, Result, Ok}
+use Rattle.std.proofs.Common.{Err, IsOk, is_some, is_ok, false}
 use Rattle.std.specs.Char.{to_ascii_lowercase}
 use Rattle.words36.specs.Common.{IsDate}
 use Rattle.spec_language.specs.Common.{month_text}
@@ -50,9 +50,6 @@ month_value text m n a b =
 abbrev pub IsNoMonth : List ℕ → ℕ → Type 0
 IsNoMonth text i = (m : ℕ) → m < i
     → map to_ascii_lowercase text ≡ map to_ascii_lowercase (month_text m) → ⊥
-
-pub no_month : (text : List ℕ) (i month : ℕ) → 12 ≤ i → IsNoMonth text i → IsMonthName text month → ⊥
-no_month text i month all none a = none (month - 1) (omega (arith, a.first, a.last)) a.named
 
 -- Hyphens.
 

@@ -1,10 +1,10 @@
 -- The value of decimal digits.
 use Rattle.std.proofs.Common.{◌≡◌, ℕ, ◌+◌, ◌*◌, ◌-◌, ◌^◌, ◌<◌, ◌≤◌, true, List, [], ◌∷◌, ◌++◌, length, take, get_or}
-use Rattle.std.proofs.Common.{refl, sym, ◌∙◌, ap, subst, arith}
+use Rattle.std.proofs.Common.{refl, sym, ◌∙◌, ap, arith}
 use Rattle.std.proofs.Math.Nat.{pow-succ', mul-le-mul_right, mul_assoc, pow-le-pow_right}
-use Rattle.std.proofs.lemmas.List.{take_more, take_all, length-take}
+use Rattle.std.proofs.lemmas.List.{take_more, length-take}
 use Rattle.std.proofs.lemmas.Bool.Decides.{nat_tests}
-use Rattle.spec_language.specs.Common.{Are, is_digit, decimal_after, IsBlockCount}
+use Rattle.spec_language.specs.Common.{Are, is_digit, decimal_after}
 use Rattle.commands.specs.Common.{IsDecimal}
 use Rattle.commands.proofs.FieldLaws.{are_more, are_at}
 
@@ -52,15 +52,6 @@ decimal_small n text i most h few bound r =
     let p : 10 ^ length (take i text) ≤ 10 ^ 5 = pow-le-pow_right (omega arith) l in
     omega (arith, below_power 0 (take i text) r.digits, p, r.value)
 
-pub decimal_is : (n least most : ℕ) (text : List ℕ) (i : ℕ) → length text ≤ i → least ≤ length text
-    → length text ≤ most → ReadsDecimal n (take i text) → IsDecimal least most text n
-decimal_is n least most text i h enough few r = record {
-  enough = enough;
-  few = few;
-  digits = subst (Are is_digit) (take_all i text h) r.digits;
-  value = r.value ∙ ap (decimal_after 0) (take_all i text h);
-}
-
 pub no_decimal : (least most n : ℕ) (text : List ℕ) (i : ℕ) → IsDecimal least most text n → i < length text
     → (48 ≤ get_or text i 0) × (get_or text i 0 ≤ 57)
 no_decimal least most n text i s h = digit_is (get_or text i 0) (are_at is_digit text i h s.digits)
@@ -68,20 +59,3 @@ no_decimal least most n text i s h = digit_is (get_or text i 0) (are_at is_digit
 pub decimal_value : (least most few many n m : ℕ) (text : List ℕ) → IsDecimal least most text n
     → IsDecimal few many text m → n ≡ m
 decimal_value least most few many n m text a b = a.value ∙ sym b.value
-
--- Numbers of blocks.
-
-pub count_is : (n : ℕ) (text : List ℕ) → IsDecimal 1 6 text n → n < 2 ^ 18 → IsBlockCount text n
-count_is n text d small = record {
-  some = d.enough;
-  few = d.few;
-  digits = d.digits;
-  value = d.value;
-  small = small;
-}
-
-pub is_decimal : (n : ℕ) (text : List ℕ) → IsBlockCount text n → IsDecimal 1 6 text n
-is_decimal n text b = record { enough = b.some; few = b.few; digits = b.digits; value = b.value }
-
-pub too_many : (n m : ℕ) (text : List ℕ) → IsDecimal 1 6 text n → 2 ^ 18 ≤ n → IsBlockCount text m → ⊥
-too_many n m text d many b = omega (arith, decimal_value 1 6 1 6 n m text d (is_decimal m text b), many, b.small)

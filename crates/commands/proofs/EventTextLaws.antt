@@ -6,15 +6,15 @@ use Rattle.std.specs.Cmp.Lexicographic.{pointwise}
 use Rattle.std.proofs.lemmas.Bool.{eqb-true, and_parts}
 use Rattle.std.proofs.Math.Nat.{pow-le-pow_right}
 use Rattle.words36.specs.declared.moment.Moment.{Moment}
-use Rattle.spec_language.specs.Common.{AreFields, IsNumber, IsPair, same_text, calls_of_one, calls_of_two, IsPlace}
-use Rattle.spec_language.specs.Common.{IsCallText, IsEventText, IsEvent, SaysEvent}
+use Rattle.spec_language.specs.Common.{AreFields, IsNumber, IsPair, same_text, calls_of_two, IsPlace, IsCallText}
+use Rattle.spec_language.specs.Common.{IsEventText, IsEvent, SaysEvent}
 use Rattle.spec_machine.specs.declared.call.Call.{Call}
 use Rattle.spec_machine.specs.declared.call.Call.TheVariants.{Reset}
 use Rattle.spec_machine.specs.declared.call.Event.{Event}
 use Rattle.spec_machine.specs.declared.call.Event.TheVariants.{Login, Deposit, Examine, Call as Calls}
 use Rattle.spec_language.proofs.Common.{same_fields, none_all, no_login as no_login_call}
 use Rattle.spec_image.proofs.Common.{same_head, same_tail}
-use Rattle.commands.specs.Common.{Begins, FieldsSay, with_one, with_two}
+use Rattle.commands.specs.Common.{Begins, FieldsSay, with_two}
 use Rattle.commands.proofs.FieldLaws.{no_text, no_bytes}
 use Rattle.commands.proofs.NumberLaws.{below_power}
 
@@ -232,20 +232,6 @@ reset_said f w moment n p e = (f, w ∷ [], refl, p, (e, refl), refl)
 pub examine_said : (f w x : List ℕ) (moment : Moment) (n m : ℕ) → IsPlace f n → IsPlace x m → w ≡ codes "EXA"
     → IsEventText (f ∷ w ∷ x ∷ []) moment (Examine n m)
 examine_said f w x moment n m p q e = (f, x, (λ i. f ∷ e i ∷ x ∷ []), p, q)
-
-found_one : (o : Option (ℕ → Call)) (n : ℕ) (call : Call) → Some call ≡ with_one o n
-    → (k : ℕ → Call) × (o ≡ Some k) × (call ≡ k n)
-found_one None n call e = cc
-found_one (Some k) n call e = (k, refl, same_some e)
-  where
-    same_some : {x y : Call} → Some x ≡ Some y → x ≡ y
-    same_some {x} e = ap (λ o. elim o as (λ p. Call) [ None ↦ x | Some z ↦ z ]) e
-
-pub call_with_one_said : (f w x : List ℕ) (moment : Moment) (n m : ℕ) (call : Call) → IsPlace f n → IsPlace x m
-    → Some call ≡ with_one (calls_of_one w) m → IsEventText (f ∷ w ∷ x ∷ []) moment (Calls n call moment)
-call_with_one_said f w x moment n m call p q e =
-    let k = found_one (calls_of_one w) m call e in
-    (f, w ∷ x ∷ [], refl, p, (k.0, k.1, m, q, k.2), refl)
 
 -- A word with two.
 

@@ -33,19 +33,6 @@ use Rattle.commands.proofs.WordBytes.{one_reading}
 -- The first encoding of three, the last of which is that of words.
 module _ (words : List ℕ) (order : List Encoding) (first second : Encoding) (is : order ≡ first ∷ second ∷ Words ∷ [])
     (bytes : List ℕ) where
-  pub first_exact : All IsOctet bytes × AreWords first bytes (Some words)
-      → IsFirstFor words order first × AreWords first bytes (Some words)
-  first_exact p =
-      (subst (λ (l : List Encoding). IsFirstFor words l first) (sym is) (inl ((bytes, p.0, p.1), refl)), p.1)
-
-  pub second_exact : (HasBytes first words → ⊥) → All IsOctet bytes × AreWords second bytes (Some words)
-      → IsFirstFor words order second × AreWords second bytes (Some words)
-  second_exact none p = (
-    subst (λ (l : List Encoding). IsFirstFor words l second) (sym is)
-        (inr (none, inl ((bytes, p.0, p.1), refl))),
-    p.1,
-  )
-
   pub last_exact : (HasBytes first words → ⊥) → (HasBytes second words → ⊥)
       → All IsOctet bytes × AreWords Words bytes (Some words)
       → IsFirstFor words order Words × AreWords Words bytes (Some words)
@@ -138,18 +125,6 @@ module _ {V E F S : Type 0} (machine : S → Machine) (items : V → List ℕ) (
           never (Some e) i = i
       by (Ok NotBytes) is acts leads = (items v, fit, leads, is)
       by (Err error) is acts leads = (items v, leads)
-
-  pub no_memory : (error : F) (wanted : E) → HasWordsRead {V = V} items (Ok (Err wanted)) machine a b plan
-      → HasExported machine a b asked mode plan (Err error)
-  no_memory error wanted p =
-      let led = subst (λ (said : Spoken). FollowsPlan machine a b plan (Say said)) p.says.1 p.led in
-      record { acts = led.acts; goes = led.goes; exports = (p.says.0, led.leads) }
-
-  pub not_exported : (reply : Reply) → HasWordsRead {V = V} {E = E} items (Err reply) machine a b plan
-      → HasExported {E = F} machine a b asked mode plan (Ok (Refused reply))
-  not_exported reply p =
-      let led = subst (λ (said : Spoken). FollowsPlan machine a b plan (Say said)) p.says p.led in
-      record { acts = led.acts; goes = led.goes; exports = led.leads }
 
 -- all channels are closed by one act
 one_reset : (moment : Moment) (said : Spoken) (acts : List Act) → Leads (ends moment said) acts (Say said)

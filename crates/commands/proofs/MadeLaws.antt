@@ -23,12 +23,6 @@ number_small text n a = record { number = a; small = omega (arith, number_fits t
 
 -- <PROT>
 
-pub protection_none : (text : List ℕ) → text ≡ [] → IsProtection text 0
-protection_none text e = subst (λ l. IsProtection l 0) (sym e) refl
-
-pub angled_is : (text inner : List ℕ) (n : ℕ) → text ≡ 60 ∷ (inner ++ 62 ∷ []) → IsSmall 3 inner n → IsAngled text n
-angled_is text inner n e a = record { digits = inner; number = a.number; spelled = e }
-
 no_number : (text inner : List ℕ) (n : ℕ) → text ≡ 60 ∷ (inner ++ 62 ∷ []) → ((m : ℕ) → IsSmall 3 inner m → ⊥)
     → IsAngled text n → ⊥
 no_number text inner n e none b =
@@ -41,10 +35,6 @@ none_in_angles (Some m) text inner e none = tt
 none_in_angles None text inner e none = λ n. no_number text inner n e none
 
 -- an empty text, or <PROT>
-
-pub protection_angled : (text : List ℕ) (n : ℕ) → IsAngled text n → IsProtection text n
-protection_angled [] n a = cc a.spelled
-protection_angled (c ∷ cs) n a = a
 
 angled : (text : List ℕ) (n : ℕ) → 0 < length text → IsProtection text n → IsAngled text n
 angled [] n some a = absurd (omega (arith, some))

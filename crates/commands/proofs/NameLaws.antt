@@ -63,12 +63,6 @@ named_fits text name ext is =
     let long : length (map upper text) ≡ length text = length-map text upper in
     fits text (omega arith) (omega arith)
 
--- if there is no line, or one that is too long, no file is named
-pub no_name : (text : List ℕ) → [] ≡ fitting text text → (name ext : ℕ) → IsFileName (map upper text) name ext → ⊥
-no_name text e name ext is =
-    let q = named_fits text name ext is in
-    let counts : length {A = Line} [] ≡ 1 = ap (λ (x : List Line). length x) (e ∙ q.1) in omega arith
-
 pub no_long_name : (text : List ℕ) → TooLong ∷ [] ≡ fitting text text → (name ext : ℕ)
     → IsFileName (map upper text) name ext → ⊥
 unfolding is_long

@@ -2,7 +2,7 @@
 use Rattle.std.proofs.Common.{◌≡◌, ℕ, ◌+◌, ◌*◌, ◌-◌, ◌^◌, ◌<◌, ◌≤◌, true, List, [], ◌∷◌, ◌++◌, length, take, get_or}
 use Rattle.std.proofs.Common.{refl, sym, Option, Some, None, IfSome, IfNone, IsSome, ◌∙◌, ap, subst, arith}
 use Rattle.std.proofs.Math.Nat.{pow-succ', mul-le-mul_right, mul_assoc, pow-le-pow_right}
-use Rattle.std.proofs.lemmas.List.{take_more, take_all, length-take}
+use Rattle.std.proofs.lemmas.List.{take_more, length-take}
 use Rattle.std.proofs.lemmas.Bool.Decides.{nat_tests}
 use Rattle.words36.specs.Common.{join}
 use Rattle.spec_language.specs.Common.{is_octal, Are, octal_after, octal, IsNumber, IsSmall, IsPair, IsBracketed}
@@ -52,15 +52,6 @@ reads_small n text i most h few bound r =
     let l : length (take i text) ≤ 12 = omega (arith, length-take i text) in
     let p : 8 ^ length (take i text) ≤ 8 ^ 12 = pow-le-pow_right (omega arith) l in
     omega (arith, below_power 0 (take i text) r.digits, p, r.value)
-
-pub number_is : (n most : ℕ) (text : List ℕ) (i : ℕ) → length text ≤ i → 0 < length text → length text ≤ most
-    → Reads n (take i text) → IsNumber most text n
-number_is n most text i h some few r = record {
-  some = some;
-  few = few;
-  digits = subst (Are is_octal) (take_all i text h) r.digits;
-  value = r.value ∙ ap octal (take_all i text h);
-}
 
 pub no_digit : (most n : ℕ) (text : List ℕ) (i : ℕ) → IsNumber most text n → i < length text
     → (48 ≤ get_or text i 0) × (get_or text i 0 ≤ 55)
@@ -123,10 +114,6 @@ pair_is text left right most m n p e a b some_m some_n v = record {
 }
 
 -- [p,n]
-
-pub bracketed_is : (text inner : List ℕ) (p : ℕ) → text ≡ 91 ∷ (inner ++ 93 ∷ []) → IsPair 6 inner p
-    → IsBracketed text p
-bracketed_is text inner p e s = record { pair = inner; named = s; spelled = e }
 
 pub bracketed_inner : (text inner : List ℕ) (p : ℕ) → text ≡ 91 ∷ (inner ++ 93 ∷ []) → IsBracketed text p
     → IsPair 6 inner p

@@ -1,6 +1,6 @@
 -- The command of a text.
-use Rattle.std.proofs.Common.{◌≡◌, ◌≢◌, ◌<◌, ◌^◌, ℕ, nat_eq, ◌==◌, Bool, true, false, ◌&&◌, List, [], ◌∷◌, Option}
-use Rattle.std.proofs.Common.{Some, None, refl, sym, ◌∙◌, ap, subst}
+use Rattle.std.proofs.Common.{◌≡◌, ◌≢◌, ℕ, nat_eq, ◌==◌, Bool, true, false, ◌&&◌, List, [], ◌∷◌, Option, Some, None}
+use Rattle.std.proofs.Common.{refl, sym, ◌∙◌, ap, subst}
 use Rattle.std.specs.Prelude.{codes}
 use Rattle.std.specs.Cmp.Lexicographic.{pointwise}
 use Rattle.std.proofs.lemmas.Bool.{eq-eqb, eqb-true, both_ways, and_parts}
@@ -249,40 +249,6 @@ says_no_word text word argument said none f login directory makdir copy typed re
       protect = λ e. absurd (protect e);
     })
 
--- The command of a word with its argument.
-
-pub says_login : (text word argument : List ℕ) (p : ℕ) → AreFields (word ∷ argument ∷ []) text
-    → word ≡ codes "LOGIN" → IsBracketed argument p → Says text (Some (Login p))
-says_login text word argument p f is s = (argument, subst (λ w. AreFields (w ∷ argument ∷ []) text) is f, s)
-
-pub says_directory : (text word argument : List ℕ) (p : ℕ) → AreFields (word ∷ argument ∷ []) text
-    → word ≡ codes "DIRECTORY" → IsBracketed argument p → Says text (Some (Directory (Some p)))
-says_directory text word argument p f is s = (argument, subst (λ w. AreFields (w ∷ argument ∷ []) text) is f, s)
-
-pub says_makdir : (text word argument : List ℕ) (p n : ℕ) → AreFields (word ∷ argument ∷ []) text
-    → word ≡ codes "MAKDIR" → IsNewDirectory argument p n → Says text (Some (MakeDir p n))
-says_makdir text word argument p n f is s = (argument, subst (λ w. AreFields (w ∷ argument ∷ []) text) is f, s)
-
-pub says_copy : (text word argument : List ℕ) (x y : Spec) → AreFields (word ∷ argument ∷ []) text
-    → word ≡ codes "COPY" → AreSpecs argument x y → Says text (Some (Copy x y))
-says_copy text word argument x y f is s = (argument, subst (λ w. AreFields (w ∷ argument ∷ []) text) is f, s)
-
-pub says_type : (text word argument : List ℕ) (x : Spec) → AreFields (word ∷ argument ∷ []) text
-    → word ≡ codes "TYPE" → IsSpec argument x → Says text (Some (TypeOut x))
-says_type text word argument x f is s = (argument, subst (λ w. AreFields (w ∷ argument ∷ []) text) is f, s)
-
-pub says_rename : (text word argument : List ℕ) (x y : Spec) → AreFields (word ∷ argument ∷ []) text
-    → word ≡ codes "RENAME" → AreSpecs argument x y → Says text (Some (Rename x y))
-says_rename text word argument x y f is s = (argument, subst (λ w. AreFields (w ∷ argument ∷ []) text) is f, s)
-
-pub says_delete : (text word argument : List ℕ) (x : Spec) → AreFields (word ∷ argument ∷ []) text
-    → word ≡ codes "DELETE" → IsSpec argument x → Says text (Some (Delete x))
-says_delete text word argument x f is s = (argument, subst (λ w. AreFields (w ∷ argument ∷ []) text) is f, s)
-
-pub says_protect : (text word argument : List ℕ) (x : Spec) (n : ℕ) → AreFields (word ∷ argument ∷ []) text
-    → word ≡ codes "PROTECT" → IsProtected argument x n → Says text (Some (Protect x n))
-says_protect text word argument x n f is s = (argument, subst (λ w. AreFields (w ∷ argument ∷ []) text) is f, s)
-
 -- The numbers of a parsed line are within their limits.
 
 says_fits : (text : List ℕ) (said : Option Command) → Says text said → Fits said
@@ -310,15 +276,3 @@ parsed_fits language moment (line ∷ lines) (EventLine order) h = tt
 
 pub said_fits : (parsed : ParsedLine) (meant : Option Command) → parsed ≡ CommandLine meant → FitsIn parsed → Fits meant
 said_fits parsed meant e fits = subst FitsIn e fits
-
-pub protection_of_fits : (meant : Option Command) (command : Command) (p n : ℕ) → meant ≡ Some command
-    → command ≡ MakeDir p n → Fits meant → n < 512
-protection_of_fits meant command p n e f fits = subst Fits (e ∙ ap Some f) fits
-
-pub protected_fits : (meant : Option Command) (command : Command) (x : Spec) (n : ℕ) → meant ≡ Some command
-    → command ≡ Protect x n → Fits meant → n < 512
-protected_fits meant command x n e f fits = subst Fits (e ∙ ap Some f) fits
-
-pub blocks_of_fits : (meant : Option Command) (command : Command) (p n : ℕ) → meant ≡ Some command
-    → command ≡ Quota p n → Fits meant → n < 2 ^ 18
-blocks_of_fits meant command p n e f fits = subst Fits (e ∙ ap Some f) fits

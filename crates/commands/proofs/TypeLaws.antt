@@ -9,11 +9,10 @@ use Rattle.std.specs.Prelude.{flat_map}
 use Rattle.std.specs.Simd.{first_chunks}
 use Rattle.words36.specs.declared.moment.Moment.{Moment}
 use Rattle.spec_language.specs.Common.{Plan, Say, each, examines, fetches, sizes, lookup_events, list_events, in_event}
-use Rattle.spec_language.specs.Common.{useti_event, ends}
-use Rattle.spec_language.specs.Common.{fails, file_words, block_address, blocks_said, type_blocks_plan, type_last_plan}
-use Rattle.spec_language.specs.Common.{type_body_plan, until_end, read_plan, blocks_at_once, type_runs_plan, Spoken}
-use Rattle.spec_language.specs.Common.{typed}
-use Rattle.spec_language.specs.Common.{file_said, refuses, refusal, is_broken, line}
+use Rattle.spec_language.specs.Common.{useti_event, ends, fails, file_words, block_address, blocks_said}
+use Rattle.spec_language.specs.Common.{type_blocks_plan, type_last_plan, type_body_plan, until_end, read_plan}
+use Rattle.spec_language.specs.Common.{blocks_at_once, type_runs_plan, Spoken, file_said, refuses, refusal, is_broken}
+use Rattle.spec_language.specs.Common.{line}
 use Rattle.words36.specs.Common.{word_bytes, block_bytes}
 use Rattle.spec_language.specs.declared.encoding.Encoding.{Encoding}
 use Rattle.spec_machine.specs.declared.call.Event.{Event}
@@ -28,20 +27,6 @@ use Rattle.commands.specs.declared.type_line.Typed.{Typed}
 use Rattle.commands.proofs.AnswerLaws.{or-true}
 use Rattle.commands.proofs.LedLaws.{led_on, led_still, each_append}
 use Rattle.commands.proofs.BodyLaws.{fetches_next, fetches_shown}
-use Rattle.commands.proofs.WordBytes.{typed-append}
-
--- Bytes of words that follow one another.
-
--- if they were appended to those before
-pub characters_kept : (before after seen words : List ℕ) → after ≡ before ++ typed words → before ≡ typed seen
-    → after ≡ typed (seen ++ words)
-characters_kept before after seen words put was =
-    put ∙ ap (λ l. l ++ typed words) was ∙ sym (typed-append seen words)
-
-pub words_kept : (before after seen words : List ℕ) → after ≡ before ++ flat_map word_bytes words
-    → before ≡ flat_map word_bytes seen → after ≡ flat_map word_bytes (seen ++ words)
-words_kept before after seen words put was =
-    put ∙ ap (λ l. l ++ flat_map word_bytes words) was ∙ sym (flat_map-append word_bytes seen words)
 
 -- The words of whole blocks, and those after them.
 

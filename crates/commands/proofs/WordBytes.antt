@@ -1,15 +1,15 @@
 -- The words of a file as bytes: characters, bytes of eight bits, eight bytes for each.
-use Rattle.std.proofs.Common.{◌≡◌, ℕ, ◌*◌, ◌/◌, ◌%◌, ◌^◌, ◌<◌, ◌≤◌, true, false, Bool, List, [], ◌∷◌, ◌++◌, length}
-use Rattle.std.proofs.Common.{All, refl, sym, ◌∙◌, ap, subst, arith, zero, suc, nat_eq, nat_le, if◌then◌else◌, take}
-use Rattle.std.proofs.Common.{drop, append_assoc, append-nil, Option, Some, None, IfNone, min}
+use Rattle.std.proofs.Common.{◌≡◌, ℕ, ◌*◌, ◌/◌, ◌%◌, ◌^◌, ◌<◌, ◌≤◌, true, false, Bool, List, [], ◌∷◌, ◌++◌, length, All}
+use Rattle.std.proofs.Common.{refl, sym, ◌∙◌, ap, subst, arith, zero, suc, nat_eq, nat_le, if◌then◌else◌, take, drop}
+use Rattle.std.proofs.Common.{append-nil, Option, Some, None, IfNone, min}
 use Rattle.std.proofs.lemmas.List.{append_cancel_left, take-append-drop, take_at, drop_all, length-take-le}
 use Rattle.std.proofs.lemmas.List.{ext_get_or, length-append}
 use Rattle.std.proofs.lemmas.List.Elements.{All-nil, All-cons, All-append, All-from_recursion}
 use Rattle.std.proofs.lemmas.Bool.Decides.{nat_tests}
 use Rattle.std.proofs.lemmas.Grind.{flat_map-append}
 use Rattle.std.specs.Prelude.{flat_map}
-use Rattle.words36.specs.Common.{ascii_word_of, five_characters, packed, unpacked, number_at, word_bytes, AreOctets}
-use Rattle.words36.specs.Common.{IsOctet, IsWord}
+use Rattle.words36.specs.Common.{ascii_word_of, five_characters, packed, unpacked, number_at, word_bytes, IsOctet}
+use Rattle.words36.specs.Common.{IsWord}
 use Rattle.words36.proofs.BlockLaws.{number_at-block_bytes}
 use Rattle.spec_language.specs.Common.{is_character, AreWords, Are, not_null, typed}
 use Rattle.spec_language.specs.declared.encoding.Encoding.{Encoding}
@@ -18,10 +18,6 @@ use Rattle.spec_language.proofs.Common.{are_append}
 use Rattle.commands.specs.Common.{HasBytes}
 use Rattle.commands.proofs.WordLaws.{length-words}
 use Rattle.words36.proofs.AsciiLaws.{five-ascii}
-
-pub typed-append : (xs ys : List ℕ) → typed (xs ++ ys) ≡ typed xs ++ typed ys
-typed-append xs ys = ap (flat_map not_null) (flat_map-append five_characters xs ys)
-    ∙ flat_map-append not_null (unpacked xs) (unpacked ys)
 
 -- Characters of a file.
 
@@ -132,9 +128,6 @@ packed_pieces text piece after count n is is_piece is_after =
 abbrev pub AreLeft : List ℕ → List ℕ → List ℕ → List ℕ → Type 0
 AreLeft text words rest left = (packed rest ≡ left → packed text ≡ words) × (packed text ≡ words → packed rest ≡ left)
 
-pub none_left_yet : (text words : List ℕ) → AreLeft text words text words
-none_left_yet text words = ((λ e. e), (λ e. e))
-
 module _ (text words rest left piece after : List ℕ) (count n : ℕ) (p : AreLeft text words rest left)
     (is : n ≡ min (length rest) (5 * count)) (is_piece : piece ≡ take n rest) (is_after : after ≡ drop n rest)
     (front back : List ℕ) (m : ℕ) (some : m ≡ min (length left) (length (packed piece)))
@@ -161,14 +154,6 @@ module _ (text words rest left piece after : List ℕ) (count n : ℕ) (p : AreL
       by : (xs ys zs : List ℕ) → zs ≡ xs ++ ys → min (length zs) (length xs) ≡ length xs
       by xs ys zs e = grind (arith, nat_tests, ap length e, length-append xs ys)
 
-pub left_empty : (text words rest left : List ℕ) → AreLeft text words rest left → rest ≡ [] → left ≡ []
-    → packed text ≡ words
-left_empty text words rest left p none empty = p.0 (ap packed none ∙ sym empty)
-
-pub not_empty : (text words rest left : List ℕ) → AreLeft text words rest left → rest ≡ [] → packed text ≡ words
-    → left ≡ []
-not_empty text words rest left p none e = sym (p.1 e) ∙ ap packed none
-
 -- The words of a file as its characters.
 module _ (words text : List ℕ) (is : text ≡ typed words) where
   pub characters_exact : packed text ≡ words → All IsOctet text × AreWords Characters text (Some words)
@@ -185,10 +170,6 @@ module _ (words text : List ℕ) (is : text ≡ typed words) where
 pub none_of : {X P : Type 0} (found : Option X) → ((x : X) → found ≡ Some x → ⊥) → IfNone found P → P
 none_of None other p = p
 none_of (Some x) other p = absurd (other x refl)
-
--- As bytes of eight bits.
-pub octets_none : (words : List ℕ) → ((bytes : List ℕ) → AreOctets words bytes → ⊥) → HasBytes Octets words → ⊥
-octets_none words none (bytes, fit, are) = none bytes (record { fit = fit; packed = are })
 
 -- As words.
 word_fits : (w : ℕ) → All IsOctet (word_bytes w)
@@ -211,15 +192,6 @@ pub words_exact : (words bytes : List ℕ) → All IsWord words → bytes ≡ fl
     → All IsOctet bytes × AreWords Words bytes (Some words)
 words_exact words bytes all is =
     (subst (λ (l : List ℕ). All IsOctet l) (sym is) (words_fit words), (all, sym is))
-
--- Pieces of words that are printed one after the other.
-pub typed_pieces : (before after words rest piece behind : List ℕ) (n : ℕ) → after ≡ before ++ typed piece
-    → piece ≡ take n rest → behind ≡ drop n rest → before ++ typed rest ≡ typed words
-    → after ++ typed behind ≡ typed words
-typed_pieces before after words rest piece behind n put is_piece is_behind was =
-    let whole : piece ++ behind ≡ rest = (λ i. is_piece i ++ is_behind i) ∙ take-append-drop n rest in
-    ap (λ (l : List ℕ). l ++ typed behind) put ∙ append_assoc before (typed piece) (typed behind)
-    ∙ ap (λ (l : List ℕ). before ++ l) (sym (typed-append piece behind) ∙ ap typed whole) ∙ was
 
 -- In each encoding, bytes have at most one list of words.
 

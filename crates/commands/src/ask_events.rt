@@ -1,6 +1,6 @@
 //! Events that must all be done, the words of the core, and the RESET at the end of a line.
-ghost use Rattle.std.specs.Prelude.{◌≡◌, ℕ, map};
-ghost use Rattle.spec_language.specs.Common.{Plan, Say, each, examines, ends, until_end, Spoken};
+ghost use Rattle.std.specs.Prelude.{ℕ};
+ghost use Rattle.spec_language.specs.Common.{Plan, Say, each, examines, ends, Spoken};
 ghost use Rattle.commands.specs.Common.{FollowsPlan, followed};
 ghost use Rattle.words36.specs.declared.moment.Moment as moments;
 

@@ -38,8 +38,8 @@ pub fn remove<S: FileService>(
     moment: Moment,
     spec: Spec,
 ) -> Result<(), Reply>
-    ensures { (next : Plan) → FollowsPlan S.machine service.old service.new (each moment (delete_events moment spec) next)
-        (followed moment result (λ unit. next)) }
+    ensures { (next : Plan) → FollowsPlan S.machine service.old service.new
+        (each moment (delete_events moment spec) next) (followed moment result (λ unit. next)) }
 {
     change(alloc, service, moment, spec, &delete_events(moment))
 }

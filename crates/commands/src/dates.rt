@@ -1,7 +1,7 @@
 //! The days that texts name.
-ghost use Rattle.std.specs.Prelude.{◌≤◌, IfSome, IfNone, ℕ, List};
-ghost use Rattle.commands.specs.Common.{AreDayFirst, AreDayParts, AreYearFirst, IsDayText, IsDecimal, IsHyphened};
-ghost use Rattle.commands.specs.Common.{IsAtHyphen, IsMonthName};
+ghost use Rattle.std.specs.Prelude.{IfSome, IfNone, ℕ, List};
+ghost use Rattle.commands.specs.Common.{AreDayFirst, AreDayParts, AreYearFirst, IsDayText, IsHyphened, IsAtHyphen};
+ghost use Rattle.commands.specs.Common.{IsMonthName};
 
 use crate::fields::{decimal_number, length_before};
 use crate::text::month_text;

@@ -1,5 +1,4 @@
 //! The monitor as a service of files, and its use by a program: session, script, and the errands of job 1.
-ghost use Rattle.commands.specs.Machines.{Machine};
 ghost use Rattle.commands.specs.Monitors.{machine_of};
 ghost use Rattle.commands.specs.Sessions.{Session, Script};
 ghost use Rattle.commands.specs.Transfers.{Checked, Delivery, Errand, Survey, delete_plan, put_plan_as};
@@ -280,8 +279,9 @@ pub fn make_directory<D: Disk>(
     moment: Moment,
     owner: Ppn,
 ) -> Result<(), Reply>
-    ensures { (next : Plan) → FollowsPlan (λ (m : MonitorState D). machine_of (D.state m.disk) m.map m.failed m.jobs) monitor.old
-        monitor.new (each moment (login_events owner) (each moment (make_dir_events moment owner 0) next))
+    ensures { (next : Plan) → FollowsPlan
+        (λ (m : MonitorState D). machine_of (D.state m.disk) m.map m.failed m.jobs) monitor.old monitor.new
+        (each moment (login_events owner) (each moment (make_dir_events moment owner 0) next))
         (followed moment result (λ unit. next)) }
 {
     make_own(alloc, monitor, moment, owner)

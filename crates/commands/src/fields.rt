@@ -1,6 +1,5 @@
 //! Fields, numbers and pairs in the text of a line.
-ghost use Rattle.std.specs.Prelude.{◌≡◌, ◌≢◌, ◌<◌, ◌≤◌, ◌++◌, ◌∷◌, [], length, slice_index, take, IfSome, IfNone, ℕ};
-ghost use Rattle.std.specs.Prelude.{List};
+ghost use Rattle.std.specs.Prelude.{◌≡◌, ◌≢◌, ◌<◌, ◌≤◌, ◌++◌, ◌∷◌, length, slice_index, take, IfSome, IfNone, ℕ, List};
 ghost use Rattle.spec_language.specs.Common.{is_space, is_visible, Are, AreFields, IsNumber, IsSmall, IsPair};
 ghost use Rattle.spec_language.specs.Common.{IsBlockCount};
 ghost use Rattle.commands.specs.Common.{is_other_than, IsDecimal, Begins, IsBehind};

@@ -1,5 +1,5 @@
 //! The grammar of the command language: the command of a line.
-ghost use Rattle.std.specs.Prelude.{◌≡◌, ◌++◌, ◌∷◌, [], length, IfSome, IfNone, ℕ, List};
+ghost use Rattle.std.specs.Prelude.{◌≡◌, ◌++◌, ◌∷◌, [], IfSome, IfNone, ℕ, List};
 ghost use Rattle.spec_language.specs.Common.{AreFields, IsBracketed, IsAngled, IsProtection, IsProtected};
 ghost use Rattle.spec_language.specs.Common.{IsNewDirectory, IsLimit, IsCommand, Says, Means};
 ghost use Rattle.spec_language.specs.declared.command.Command.TheVariants.{Quota as QuotaLine};

@@ -11,10 +11,10 @@
 //!    what they print: at Ok the writer got the text of all that the reader had, the service went by these calls and
 //!    a RESET of job 1 that prints nothing, and the tally is that of the lines, with the numbers of those that were
 //!    refused. (`ends`, `goes`, `served`, `IsNumberedTranscript`) COPY and TYPE move a whole body by INs and OUTs until
-//!    an IN reports its end, and a refused line leaves nothing of it. (`Plan`, `FollowsPlan`) At the moment before the first
-//!    call and after each, all that a crash may leave stands for the files after the calls so far; from one moment to
-//!    the next a crash leaves these, or those after one call more. (`ActsBy`) On every disk the failure count rises by
-//!    one for each call that is answered Device, and for nothing else. (`CountsFailures`)
+//!    an IN reports its end, and a refused line leaves nothing of it. (`Plan`, `FollowsPlan`) At the moment before the
+//!    first call and after each, all that a crash may leave stands for the files after the calls so far; from one
+//!    moment to the next a crash leaves these, or those after one call more. (`ActsBy`) On every disk the failure count
+//!    rises by one for each call that is answered Device, and for nothing else. (`CountsFailures`)
 //! 5. The text is a function of the lines, the state and the moment, if no call met a lack of memory or a fault of the
 //!    disk. (`served_texts_are_functions`)
 //! 6. The texts of all lines that end in one read are written before the next read, by one call if they are short. If
@@ -39,12 +39,12 @@
 //!    has, and how many are left. (`Checked`) If the input of `put` can't be a file, the tally has the first byte or
 //!    word that doesn't fit, or how much a file holds. (`IsMisfit`) Reading stops early only at bytes with which no
 //!    file begins, or at more than one holds. (`BeginsNoFile`, `IsTooLong`, `long_inputs_fit_no_file`)
-//! 12. A `put` that doesn't replace looks the name up first, and continues only if there is no such file. (`put_plan_new`)
-//!    `import` does this for bytes in memory, and writes its answer after a label. (`Imported`) `entries` returns the
-//!    files of a directory as they are listed for job 1. (`HasEntries`) `export` returns the bytes of a file. If no
-//!    encoding is given, it takes the first of the file's mode in which any bytes spell its words, and a file that is
-//!    made of these bytes has the very words. (`HasExported`, `exports_come_back`) They are those of the file that was
-//!    found. (`errands_reach_files`)
+//! 12. A `put` that doesn't replace looks the name up first, and continues only if there is no such file.
+//!    (`put_plan_new`) `import` does this for bytes in memory, and writes its answer after a label. (`Imported`)
+//!    `entries` returns the files of a directory as they are listed for job 1. (`HasEntries`) `export` returns the
+//!    bytes of a file. If no encoding is given, it takes the first of the file's mode in which any bytes spell its
+//!    words, and a file that is made of these bytes has the very words. (`HasExported`, `exports_come_back`) They are
+//!    those of the file that was found. (`errands_reach_files`)
 #![tactic(auto)]
 
 mod answer;

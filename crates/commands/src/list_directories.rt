@@ -67,8 +67,8 @@ pub fn survey<S: FileService>(
     owners: &[Ppn],
 ) -> Result<Vec<u8>, AllocError>
     requires { tally.old ≡ fresh }
-    ensures { Carries (λ bytes. bytes.items) result S.machine service.old service.new (list_plan moment style owners.now)
-        tally.new }
+    ensures { Carries (λ bytes. bytes.items) result S.machine service.old service.new
+        (list_plan moment style owners.now) tally.new }
 {
     match enter(alloc, service, operator()) {
         Ok(()) => show_all(alloc, service, tally, style, owners),

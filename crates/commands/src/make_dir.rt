@@ -1,5 +1,5 @@
 //! The command MAKDIR, and the making of a directory without a line.
-ghost use Rattle.std.specs.Prelude.{◌≡◌, ◌<◌, Some};
+ghost use Rattle.std.specs.Prelude.{◌<◌, Some};
 ghost use Rattle.spec_language.specs.Common.{login_events, Plan, make_dir_events, each};
 ghost use Rattle.spec_language.specs.declared.command.Command.TheVariants.{MakeDir as MakeLine};
 ghost use Rattle.commands.specs.Common.{FollowsPlan, followed, CommandDone};
@@ -41,7 +41,8 @@ pub fn make_own<S: FileService>(
     owner: Ppn,
 ) -> Result<(), Reply>
     ensures { (next : Plan) → FollowsPlan S.machine service.old service.new
-        (each moment (login_events owner) (each moment (make_dir_events moment owner 0) next)) (followed moment result (λ unit. next)) }
+        (each moment (login_events owner) (each moment (make_dir_events moment owner 0) next))
+        (followed moment result (λ unit. next)) }
 {
     enter(alloc, service, owner)?;
     ask_all(alloc, service, &make_dir_events(moment, owner, 0))

@@ -1,9 +1,8 @@
 //! The storing of a file from words in memory, by calls of job 1.
-ghost use Rattle.std.specs.Prelude.{◌≡◌, ◌≤◌, ◌+◌, ◌^◌, ◌++◌, ◌∷◌, [], length, Some};
+ghost use Rattle.std.specs.Prelude.{◌≡◌, ◌≤◌, ◌+◌, ◌^◌, ◌∷◌, [], length, Some};
 ghost use Rattle.spec_language.specs.Common.{Plan, each, deposit_events, call_event, size_events, create_events};
-ghost use Rattle.spec_language.specs.Common.{login_events, fill_events};
-ghost use Rattle.spec_language.specs.Common.{fill_all_plan as filled_all, own_file, part_address as address_of};
-ghost use Rattle.spec_language.specs.Common.{part_words as words_of};
+ghost use Rattle.spec_language.specs.Common.{login_events, fill_events, fill_all_plan as filled_all, own_file};
+ghost use Rattle.spec_language.specs.Common.{part_address as address_of, part_words as words_of};
 ghost use Rattle.spec_machine.specs.declared.call.Call.TheVariants.{Close};
 ghost use Rattle.commands.specs.Common.{FinishesPlan, FollowsPlan, followed, absent, if_absent, put_plan_as, makes_way};
 ghost use Rattle.words36.specs.declared.moment.Moment as moments;

@@ -1,10 +1,8 @@
 //! The end of a file that is read: how many words its last block has, and an IN that reports the end.
-ghost use Rattle.std.specs.Prelude.{◌≡◌, ◌<◌, ◌≤◌, ◌-◌, ◌^◌, ℕ, List, if◌then◌else◌, IfOk, Some, None, length, take};
-ghost use Rattle.std.specs.Prelude.{replicate};
+ghost use Rattle.std.specs.Prelude.{◌≡◌, ◌<◌, ◌≤◌, ◌-◌, ◌^◌, ℕ, List, if◌then◌else◌, IfOk, Some, None, take, replicate};
 ghost use Rattle.words36.specs.Common.{left};
 ghost use Rattle.spec_language.specs.Common.{Plan, each, fetches, deposit_events, takes_over, sizes, until_end};
-ghost use Rattle.spec_language.specs.Common.{says_words};
-ghost use Rattle.spec_language.specs.Common.{block_address};
+ghost use Rattle.spec_language.specs.Common.{says_words, block_address};
 ghost use Rattle.commands.specs.Common.{FollowsPlan, followed};
 ghost use Rattle.words36.specs.declared.moment.Moment as moments;
 ghost use Rattle.spec_language.specs.Plans as plans;

@@ -1,5 +1,5 @@
 //! The events that serve a file in dump mode or a directory, and the places in the core for their words.
-ghost use Rattle.std.specs.Prelude.{◌≡◌, ◌<◌, ◌≤◌, ◌+◌, ◌-◌, ◌*◌, ◌%◌, ◌^◌, ◌++◌, ◌∷◌, [], map, unwrap_or};
+ghost use Rattle.std.specs.Prelude.{◌≡◌, ◌<◌, ◌≤◌, ◌+◌, ◌-◌, ◌*◌, ◌%◌, ◌^◌, ◌++◌, ◌∷◌, [], unwrap_or};
 ghost use Rattle.words36.specs.Common.{join};
 ghost use Rattle.spec_language.specs.Common.{block_address, file_words};
 ghost use Rattle.spec_machine.specs.declared.call.Call.TheVariants.{Close, Rename};

@@ -1,8 +1,7 @@
 //! The service of an input until its end: a session or a call script, with its lines and their texts.
-ghost use Rattle.std.specs.Prelude.{◌≡◌, ◌∷◌, [], ℕ, OnOk, IfOk, IfErr, MatchResult};
+ghost use Rattle.std.specs.Prelude.{◌≡◌, ◌∷◌, [], OnOk, IfOk, IfErr};
 ghost use Rattle.commands.specs.Common.{line_list, IsParsedLine, FitsIn, WritesText, ReplyWritten, Closed, StepsOn};
-ghost use Rattle.commands.specs.Common.{BreaksOff};
-ghost use Rattle.commands.specs.Common.{EndsWell, LinesServed, Session, Script};
+ghost use Rattle.commands.specs.Common.{BreaksOff, EndsWell, LinesServed, Session, Script};
 
 use crate::SessionError;
 use crate::answer::{SESSION_JOB, Tally, answer};
@@ -85,8 +84,8 @@ fn execute<S: FileService, W: Write>(
     ensures held { session.new.held ≡ session.old.held }
     ensures line { session.new.line ≡ session.old.line }
     ensures told { ReplyWritten result S.machine service.old service.new (W.contents writer.old) (W.contents writer.new)
-        moment session.old.user session.new.user session.old.tally session.new.tally number parsed session.old.waiting.items
-        session.new.waiting.items }
+        moment session.old.user session.new.user session.old.tally session.new.tally number parsed
+        session.old.waiting.items session.new.waiting.items }
 {
     match parsed {
         ParsedLine::NoLine => Ok(()),

@@ -1,5 +1,5 @@
 //! The command QUOTA.
-ghost use Rattle.std.specs.Prelude.{◌≡◌, ◌<◌, ◌^◌, Some};
+ghost use Rattle.std.specs.Prelude.{◌<◌, ◌^◌, Some};
 ghost use Rattle.spec_language.specs.declared.command.Command.TheVariants.{Quota as QuotaLine};
 ghost use Rattle.commands.specs.Common.{CommandDone};
 

@@ -1,5 +1,5 @@
 //! The errands of job 1 for a command of a person: a file put, got or deleted, and lists.
-ghost use Rattle.std.specs.Prelude.{◌≡◌, ℕ, List};
+ghost use Rattle.std.specs.Prelude.{ℕ, List};
 ghost use Rattle.spec_language.specs.Common.{get_plan, own_file, list_plan, Say, refuses};
 ghost use Rattle.commands.specs.Common.{FinishesPlan, Delivery, Errand, delete_plan, put_plan_as, no_room, HasWords};
 ghost use Rattle.commands.specs.Common.{IsInputReason, words_said};

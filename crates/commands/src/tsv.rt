@@ -1,5 +1,5 @@
 //! The list of a directory as a table: a line for each file, with tabs between its fields.
-ghost use Rattle.std.specs.Prelude.{◌≡◌, ◌++◌, ◌∷◌, ◌≤◌, [], All, IfOk, OnOk, string_bytes};
+ghost use Rattle.std.specs.Prelude.{◌≡◌, ◌++◌, ◌≤◌, All, IfOk, OnOk, string_bytes};
 ghost use Rattle.spec_language.specs.Common.{trimmed, two_octal, two_digits, place_fields, right_fields, day_field};
 ghost use Rattle.spec_language.specs.Common.{minute_field, owner_text, size_fields, row_text, table};
 

@@ -1,56 +1,16 @@
 -- Entries as they are added one after the other to those before.
-use Rattle.std.proofs.Common.{◌≡◌, ℕ, zero, suc, ◌+◌, ◌*◌, ◌==◌, ◌<◌, Bool, true, false, cond, ⊎_elim, List, [], ◌∷◌}
-use Rattle.std.proofs.Common.{◌++◌, map, length, get_or, take, drop, Option, Some, None, refl, sym, ap, subst, ◌∙◌}
-use Rattle.std.proofs.Common.{arith, append_assoc, append-nil, Ordering}
+use Rattle.std.proofs.Common.{◌≡◌, ℕ, ◌+◌, ◌*◌, ◌==◌, ◌<◌, Bool, true, false, ⊎_elim, List, [], ◌∷◌, ◌++◌, map, length}
+use Rattle.std.proofs.Common.{take, drop, None, refl, sym, ap, subst, ◌∙◌, arith, append_assoc, append-nil, Ordering}
 use Rattle.std.specs.List.{AllByRecursion}
-use Rattle.std.specs.Ordering.{eq_by_cmp}
-use Rattle.std.specs.Cmp.{IsTotalOrder, eq_by_cmp_equiv}
+use Rattle.std.specs.Cmp.{IsTotalOrder}
 use Rattle.std.specs.FinMap.Entries.{find}
 use Rattle.std.proofs.lemmas.Bool.{cases_eq}
 use Rattle.std.proofs.lemmas.Bool.Decides.{nat_tests}
 use Rattle.std.proofs.lemmas.List.{map-append, length-map}
 use Rattle.spec_image.specs.Common.{EachOnce, InSpace}
-use Rattle.spec_image.proofs.Common.{TellsApart, some_none, EachOnce-push, EachOnce-without, all_append, once_front}
-use Rattle.spec_image.proofs.Common.{all_right}
+use Rattle.spec_image.proofs.Common.{TellsApart, EachOnce-push, EachOnce-without, all_append, once_front, all_right}
 use Rattle.directory.specs.Common.{SpellsBlock, AreGood, IsBadWords, Adds}
 use Rattle.directory.proofs.BlockEntries.{IsEntryAt, spelled_at, behind_two}
-
--- Searching for a key.
-
-module _ {E K V : Type 0} {R : K → K → Ordering} (o : IsTotalOrder R) (view : E → K × V) (k : K) where
-  missing : (b : Bool) (x : V) (r : Option V) → cond b (Some x) r ≡ None → b ≡ false
-  missing true x r n = absurd (some_none n)
-  missing false x r n = refl
-
-  -- not among the first i, and not the next
-  pub none_more : (es : List E) (i : ℕ) (e : E) → i < length es → e ≡ get_or es i e → eq_by_cmp R (view e).0 k ≡ false
-      → find R k (map view (take i es)) ≡ None → find R k (map view (take (i + 1) es)) ≡ None
-  none_more [] i e below is other none = absurd (omega arith)
-  none_more (x ∷ es) zero e below is other none =
-      let one : zero + 1 ≡ suc zero = omega arith in
-      ap (λ n. find R k (map view (take n (x ∷ es)))) one
-      ∙ ap (λ b. cond b (Some (view x).1) None) ((eq_by_cmp_equiv o).symm k (view x).0
-      ∙ ap (λ f. eq_by_cmp R (view f).0 k) (sym is) ∙ other)
-  none_more (x ∷ es) (suc i) e below is other none =
-      let more : suc i + 1 ≡ suc (i + 1) = omega arith in
-      let b = missing (eq_by_cmp R k (view x).0) (view x).1 (find R k (map view (take i es))) none in
-      ap (λ n. find R k (map view (take n (x ∷ es)))) more
-      ∙ ap (λ c. cond c (Some (view x).1) (find R k (map view (take (i + 1) es)))) b
-      ∙ none_more es i e (omega arith) is other
-      (sym (ap (λ c. cond c (Some (view x).1) (find R k (map view (take i es)))) b) ∙ none)
-
-  -- one of them has it
-  pub one_has : (es : List E) (i : ℕ) (e : E) → i < length es → e ≡ get_or es i e → eq_by_cmp R (view e).0 k ≡ true
-      → find R k (map view es) ≡ None → ⊥
-  one_has [] i e below is same none = omega arith
-  one_has (x ∷ es) zero e below is same none =
-      let b = missing (eq_by_cmp R k (view x).0) (view x).1 (find R k (map view es)) none in
-      let t : eq_by_cmp R k (view x).0 ≡ true = (eq_by_cmp_equiv o).symm k (view x).0
-      ∙ ap (λ f. eq_by_cmp R (view f).0 k) (sym is) ∙ same in
-      cc
-  one_has (x ∷ es) (suc i) e below is same none =
-      let b = missing (eq_by_cmp R k (view x).0) (view x).1 (find R k (map view es)) none in
-      one_has es i e (omega arith) is same (sym (ap (λ c. cond c (Some (view x).1) (find R k (map view es))) b) ∙ none)
 
 -- Adding one.
 

@@ -17,8 +17,8 @@ use Rattle.spec_image.specs.Common.{IsBadBlock, walked}
 use Rattle.spec_image.proofs.Common.{some_same, some_none, times-append, TellsApart, all_append, walk_le}
 use Rattle.spec_image.proofs.Common.{no_bad_block, head-numbers}
 use Rattle.alloctab.specs.Common.{digit, digit_at, flag_at}
-use Rattle.directory.specs.Common.{nodes_of, IsChain, IsOn, numbers_of, items_of, AreGood, IsBadWords, IsBadAt}
-use Rattle.directory.specs.Common.{ReadsOn, IsBadChain, IsTwiceInChain, IsWholeChain}
+use Rattle.directory.specs.Common.{nodes_of, IsOn, numbers_of, items_of, AreGood, IsBadWords, IsBadAt, ReadsOn}
+use Rattle.directory.specs.Common.{IsBadChain, IsTwiceInChain, IsWholeChain}
 use Rattle.alloctab.proofs.SpaceLaws.{in_space_some}
 
 -- The disk is read and not written.
@@ -70,13 +70,6 @@ marked_more old marks blocks n free inside marked m = ⊎_elim here other (cases
         let b = both in
         omega arith
 
-digit_le : (marks : List Bool) (n : ℕ) → digit_at marks n ≤ 1
-digit_le marks n = bounded (flag_at marks n)
-  where
-    bounded : (b : Bool) → digit b ≤ 1
-    bounded true = omega arith
-    bounded false = omega arith
-
 -- Walks.
 
 leads_more : {E : Type 0} (words : E → List ℕ) (c : Contents) (first : ℕ) (nodes : List (Node E)) (n : ℕ)
@@ -120,13 +113,6 @@ head_more : (blocks : List ℕ) (n next : ℕ) → head_or_zero ((blocks ++ n �
     ≡ head_or_zero (blocks ++ n ∷ [])
 head_more [] n next = refl
 head_more (b ∷ blocks) n next = refl
-
-head_there : (blocks : List ℕ) (n : ℕ) → 0 < length blocks → head_or_zero (blocks ++ n ∷ []) ≡ head_or_zero blocks
-head_there [] n some = absurd (omega arith)
-head_there (b ∷ blocks) n some = refl
-
-counted_some : (k n : ℕ) → k ≡ directory_cost n → 0 < k
-counted_some k n e = omega arith
 
 -- What was read so far; the block `next` follows, or it is 0.
 pub record IsLoading {K V : Type 0} (R : K → K → Ordering) (words : K × V → List ℕ) (IsEntry : K × V
@@ -305,18 +291,6 @@ module _ {K V : Type 0} (R : K → K → Ordering) (words : K × V → List ℕ)
   module _ (marks : List Bool) (blocks : List ℕ) (entries : List (K × V)) (next : ℕ)
       (l : IsLoading R words IsEntry target size honest contents old marks first blocks entries next) (end : next
       ≡ 0) where
-    pub loaded_chain : IsChain R IsEntry (record { blocks = blocks; entries = entries })
-    loaded_chain = record {
-      counted = l.counted end;
-      are_entries = l.good.are_entries;
-      each_once = l.good.each_once;
-      blocks_once = λ n. let e = l.marked n in let d = digit_le marks n in omega arith;
-    }
-
-    pub loaded_first : head_or_zero blocks ≡ first
-    loaded_first = sym (head_there blocks next (counted_some (length blocks) (length entries) (l.counted end)))
-        ∙ l.begins
-
     pub loaded_walk : honest → LeadsAlong words contents first (nodes_of blocks entries) 0
     loaded_walk h = subst (LeadsAlong words contents first (nodes_of blocks entries)) end (l.walk h)
 

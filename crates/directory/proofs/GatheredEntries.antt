@@ -18,7 +18,7 @@ use Rattle.std.proofs.lemmas.Option.{slice_get_within}
 use Rattle.spec_image.proofs.Common.{some_none, some_same}
 use Rattle.directory.specs.Common.{HasKeyAt, Compares, IsGap, AreGathered}
 use Rattle.directory.proofs.Orders.{get-push, get-push_last}
-use Rattle.directory.proofs.KeyPlaces.{index_pushed, index_nil, none_found, nowhere_found}
+use Rattle.directory.proofs.KeyPlaces.{index_pushed, none_found, nowhere_found}
 
 module _ {K V : Type 0} {R : K → K → Ordering} (o : IsTotalOrder R) (exact : IsAntisymmetric R) {cmp : K → K → Ordering}
     (keyed : (a b : K) → cmp a b ≡ R a b) (items : List (K × V)) where
@@ -132,12 +132,6 @@ none_of (Some x) e = cc
 
 module _ {K V : Type 0} {R : K → K → Ordering} (o : IsTotalOrder R) (exact : IsAntisymmetric R) {cmp : K → K → Ordering}
     (keyed : (a b : K) → cmp a b ≡ R a b) where
-  pub gathered_nil : (fs : List (K × ℕ)) → fs ≡ [] → AreGathered {V = V} R [] fs
-  gathered_nil fs none = subst (AreGathered {V = V} R []) (sym none) (record {
-    index = index_nil o exact [] refl;
-    led = tt;
-  })
-
   -- a key that the tree lacks is no entry's
   pub gathered_none : (items : List (K × V)) (fs : List (K × ℕ)) → AreGathered R items fs
       → IsStrictlySortedBy cmp (keys_of fs) → (k : K) → lookup (is_at (cmp k)) fs ≡ None → find R k items ≡ None

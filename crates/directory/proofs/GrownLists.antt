@@ -5,20 +5,6 @@ use native.Mathlib.Nat.{pow-suc}
 use Rattle.spec_image.proofs.Common.{below_or_not}
 use Rattle.directory.specs.Common.{IsFull, HasPlaces}
 
--- fewer elements have places enough
-pub fewer_places : (m n c : ℕ) → m ≤ n → HasPlaces n c → HasPlaces m c
-fewer_places m n c less h = record {
-  within = let w = h.within in omega arith;
-  doubled = λ k below. h.doubled k (omega arith);
-}
-
--- and more places are enough
-pub more_places : (n c d : ℕ) → c ≤ d → HasPlaces n c → HasPlaces n d
-more_places n c d less h = record {
-  within = let w = h.within in omega arith;
-  doubled = λ k below. let e = h.doubled k below in omega arith;
-}
-
 -- a power of two that isn't above n is not above the greatest one
 pow_least : (n k j : ℕ) → n < 2 * 2 ^ k → 2 ^ j ≤ n → 2 ^ j ≤ 2 ^ k
 pow_least n k j above low = step (below_or_not k j)
@@ -47,13 +33,6 @@ pub grown_within : (n k c : ℕ) → 2 ^ k < n → n < 2 * 2 ^ k → HasPlaces n
 grown_within n k c low high h = record {
   within = let e = h.doubled k low in omega arith;
   doubled = λ j below. let e = h.doubled k low in let p = pow_least n k j high (omega arith) in omega arith;
-}
-
--- and so has one with twice its places
-pub grown_twice : (n c : ℕ) → n < c → 2 * n ≤ c → HasPlaces (suc n) c
-grown_twice n c more twice = record {
-  within = omega arith;
-  doubled = λ j below. omega arith;
 }
 
 -- a list with no elements needs none

@@ -342,14 +342,6 @@ past : (p n : ℕ) → n - 1 ≤ p → (p ≡ n - 1 → ⊥) → n ≤ p
 past p n low other = let h = strict (n - 1) p low (λ e. other (sym e)) in omega arith
 
 module _ {K V : Type 0} {R : K → K → Ordering} (o : IsTotalOrder R) (exact : IsAntisymmetric R) where
-  pub index_nil : (order : List ℕ) → order ≡ [] → IsIndex {V = V} R [] order
-  index_nil order none = record {
-    rising = subst (AreRising {V = V} R []) (sym none) tt;
-    inside = λ p h. absurd (omega arith);
-    outside = λ p h. ap (times p) none;
-    counted = ap length none;
-  }
-
   -- an entry is added after the others
   pub index_pushed : (items : List (K × V)) (e : K × V) (order new : List ℕ) → IsIndex R items order
       → IsInserted R items e.0 (length items) order new → IsIndex R (items ++ e ∷ []) new

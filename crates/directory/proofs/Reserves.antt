@@ -20,23 +20,8 @@ module _ {E K V : Type 0} {R : K → K → Ordering} (view : E → K × V) (old 
         blocks = λ takes. blocks (sym many ∙ takes.1);
       }
 
-  -- nothing is enough if the key is there
-  pub no_reserve : (spare : Places) → (find R k (map view old.entries) ≡ None → ⊥)
-      → IsReserve R (viewed view old) k spare
-  no_reserve spare there = record {
-    entries = λ none. absurd (there none);
-    order = λ none. absurd (there none);
-    blocks = λ takes. absurd (there takes.0);
-  }
-
   module _ (spare : Places) (is_reserve : IsReserve R (viewed view old) k spare)
       (none : find R k (map view old.entries) ≡ None) where
-    pub spare_entries : IsSpareFor (length old.entries) spare.entries
-    spare_entries = subst (λ n. IsSpareFor n spare.entries) (length-map old.entries view) (is_reserve.entries none)
-
-    pub spare_order : IsSpareFor (length old.entries) spare.order
-    spare_order = subst (λ n. IsSpareFor n spare.order) (length-map old.entries view) (is_reserve.order none)
-
     -- for the block, if it is taken
     pub room_block : (block : Option ℕ) → MatchOption block (length old.entries ≡ 42 * length old.blocks
         → ⊥) (λ n. (length old.entries ≡ 42 * length old.blocks) × (times n old.blocks ≡ 0))

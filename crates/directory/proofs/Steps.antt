@@ -2,8 +2,8 @@
 -- `inside` is a chain as it is stored, and `old` the same one as clauses see it.
 use Rattle.std.proofs.Common.{◌≡◌, ◌⊎◌, inl, inr, ℕ, suc, ◌-◌, ◌*◌, ◌/◌, ◌<◌, ◌≤◌, Bool, List, [], ◌∷◌, ◌++◌, map}
 use Rattle.std.proofs.Common.{length, take, drop, get_or, swap_remove, slice_set, Option, Some, None, is_some}
-use Rattle.std.proofs.Common.{MatchOption, option_to_list, IsTrue, IsFalse, Result, Ok, Err, OnOk, append-nil, refl}
-use Rattle.std.proofs.Common.{sym, ap, subst, ◌∙◌, Ordering, arith, length-append}
+use Rattle.std.proofs.Common.{MatchOption, option_to_list, IsTrue, IsFalse, append-nil, refl, sym, ap, subst, ◌∙◌}
+use Rattle.std.proofs.Common.{Ordering, arith, length-append}
 use Rattle.std.proofs.lemmas.List.{length-map, map-append, map-set, take-map, drop-map, length-set, length-take-le}
 use Rattle.std.proofs.lemmas.Option.{slice_get-get_or}
 use Rattle.std.specs.Cmp.{IsTotalOrder}
@@ -164,11 +164,6 @@ module _ {E K V : Type 0} {R : K → K → Ordering} (o : IsTotalOrder R) (IsEnt
             (replaced (block_put words (made (Some n)) (sym before_last j)) before))
             (put_grown words inside.blocks (map view inside.entries) n (view e) before counted grown.blocks_once (many
             ∙ room.0))))
-
--- What follows if a call returns Ok.
-pub on_ok : {T F : Type 0} (r : Result T F) {P Q : Type 0} → OnOk r P → (P → Q) → OnOk r Q
-on_ok (Ok x) h f = f h
-on_ok (Err e) h f = tt
 
 module _ {E K V : Type 0} {R : K → K → Ordering} (o : IsTotalOrder R) (IsEntry : K × V → Type 0) (view : E
     → K × V) where

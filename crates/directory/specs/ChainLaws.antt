@@ -3,13 +3,12 @@ use Rattle.std.specs.Prelude.{◌≡◌, ℕ, ◌+◌, ◌*◌, ◌<◌, ◌≤�
 use Rattle.std.specs.List.{AllByRecursion}
 use Rattle.std.specs.declared.cmp.Ordering.{Ordering}
 use Rattle.std.specs.Ordering.{nat_cmp}
-use Rattle.std.proofs.Common.{refl, sym, ap, subst, ◌∙◌, arith, append-nil, length-append}
-use Rattle.std.proofs.lemmas.List.{length-map, length-drop, length-take, length-take-le, take-append-drop, take_all}
-use Rattle.std.proofs.Math.Seq.{take-append_seam, drop-append_seam}
+use Rattle.std.proofs.Common.{refl, sym, ap, subst, ◌∙◌, arith}
+use Rattle.std.proofs.lemmas.List.{length-drop, length-take, length-take-le, take-append-drop}
 use Rattle.blockdisk.specs.Common.{Contents}
-use Rattle.spec_image.specs.Common.{AgreeOn, directory_cost, Node, numbers, items, directory_block, IsSpelled}
-use Rattle.spec_image.specs.Common.{IsFilled, IsDirectory, SpecMasterEntry, IsMasterEntry, IsMasterEntryOf, EachOnce}
-use Rattle.spec_image.specs.Common.{from_entries, times, IsChainRead}
+use Rattle.spec_image.specs.Common.{AgreeOn, directory_cost, Node, numbers, items, IsSpelled, IsFilled, IsDirectory}
+use Rattle.spec_image.specs.Common.{SpecMasterEntry, IsMasterEntry, IsMasterEntryOf, EachOnce, from_entries}
+use Rattle.spec_image.specs.Common.{IsChainRead}
 use Rattle.spec_image.proofs.Common.{times_here, times_later}
 use Rattle.directory.specs.Chains.{ChainState, nodes_of, IsChain, IsOn}
 
@@ -40,45 +39,6 @@ module _ {E : Type 0} where
   filled_of [] es counted = absurd (omega arith)
   filled_of (n ∷ []) es counted = let first = length-take 42 es in omega arith
   filled_of (n ∷ m ∷ ns) es counted = (filled_more n (m ∷ ns) es (omega arith) (omega arith)).1
-
--- From blocks with entries to a list of entries.
-
-module _ {E : Type 0} where
-  -- blocks that are filled as required are those of their entries
-  pub flat : (nodes : List (Node E)) → IsFilled nodes → nodes ≡ nodes_of (numbers nodes) (items nodes)
-  flat [] f = absurd f
-  flat (a ∷ []) f =
-      let all : take 42 (a.1 ++ []) ≡ a.1 = ap (take 42) (append-nil a.1) ∙ take_all 42 a.1 f in
-      λ i. (a.0, sym all i) ∷ []
-  flat (a ∷ b ∷ nodes) f =
-      let rest = items (b ∷ nodes) in
-      let full : length a.1 ≡ 42 = f.0 in
-      let first : take 42 (a.1 ++ rest) ≡ a.1 = ap (λ k. take k (a.1 ++ rest)) (sym full) ∙ take-append_seam a.1 rest in
-      let left : drop 42 (a.1 ++ rest) ≡ rest = ap (λ k. drop k (a.1 ++ rest)) (sym full) ∙ drop-append_seam a.1 rest in
-      ap (λ xs. a ∷ xs) (flat (b ∷ nodes) f.2) ∙ (λ i. (a.0, sym first i) ∷ nodes_of (numbers (b ∷ nodes)) (sym left i))
-
-  filled_bounds : (a : Node E) (xs : List (Node E)) → 0 < length a.1 → IsFilled (a ∷ xs)
-      → (42 * length xs < length (items (a ∷ xs))) × (length (items (a ∷ xs)) ≤ 42 * length xs + 42)
-  filled_bounds a [] some f = let e = length-append a.1 [] in (omega arith, omega arith)
-  filled_bounds a (b ∷ xs) some f =
-      let r = filled_bounds b xs f.1 f.2 in
-      let e = length-append a.1 (items (b ∷ xs)) in
-      let full : length a.1 ≡ 42 = f.0 in
-      (omega arith, omega arith)
-
-  nodes_cost : (nodes : List (Node E)) → IsFilled nodes → length nodes ≡ directory_cost (length (items nodes))
-  nodes_cost [] f = absurd f
-  nodes_cost (a ∷ []) f = let e = length-append a.1 [] in omega arith
-  nodes_cost (a ∷ b ∷ xs) f =
-      let r = filled_bounds a (b ∷ xs) (omega arith) f in
-      let low = r.0 in
-      let high = r.1 in
-      omega arith
-
-  -- there are as many of them as the entries cost
-  pub filled_cost : (nodes : List (Node E)) → IsFilled nodes
-      → length (numbers nodes) ≡ directory_cost (length (items nodes))
-  filled_cost nodes f = length-map nodes (λ node. node.0) ∙ nodes_cost nodes f
 
 -- What holds for each entry.
 
@@ -137,22 +97,6 @@ module _ {K V : Type 0} {R : K → K → Ordering} (words : K × V → List ℕ)
         map_is = ap from_entries (chain_items chain c);
       }
 
-  -- what was read, with no block twice, is a chain
-  pub read_chain : (contents : Contents) (nodes : List (Node (K × V))) → IsChainRead R words IsEntry contents nodes
-      → ((n : ℕ) → times n (numbers nodes) ≤ 1)
-      → IsChain R IsEntry (record { blocks = numbers nodes; entries = items nodes })
-  read_chain contents nodes read once = record {
-    counted = filled_cost nodes read.filled;
-    are_entries = read.are_entries;
-    each_once = read.each_once;
-    blocks_once = once;
-  }
-
-  -- and the contents spell it
-  pub read_on : (contents : Contents) (nodes : List (Node (K × V))) → IsChainRead R words IsEntry contents nodes
-      → IsOn words contents (record { blocks = numbers nodes; entries = items nodes })
-  read_on contents nodes read = subst (IsSpelled words contents) (flat nodes read.filled) read.spelled
-
 module _ {K V : Type 0} (words : K × V → List ℕ) where
   spelled_kept : (old new : Contents) (nodes : List (Node (K × V))) → IsSpelled words old nodes
       → AgreeOn (numbers nodes) old new → IsSpelled words new nodes
@@ -167,10 +111,6 @@ module _ {K V : Type 0} (words : K × V → List ℕ) where
       → IsOn words new chain
   on_kept old new chain on agree = spelled_kept old new (nodes_of chain.blocks chain.entries) on
       (subst (λ ns. AgreeOn ns old new) (sym (numbers_of chain.blocks chain.entries)) agree)
-
-  -- a block of zeros is a chain of no entries
-  pub bare_words : directory_block words 0 [] ≡ replicate 128 0
-  bare_words = refl
 
   pub bare_on : (contents : Contents) (n : ℕ) → contents n ≡ Some (replicate 128 0)
       → IsOn words contents (record { blocks = n ∷ []; entries = [] })

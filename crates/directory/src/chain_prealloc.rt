@@ -1,6 +1,6 @@
 //! Insertion in memory that is allocated before.
-ghost use Rattle.std.specs.Prelude.{◌≡◌, ◌+◌, ◌*◌, ◌-◌, ◌<◌, ◌≤◌, ◌++◌, ◌∷◌, [], ℕ, length, map, slice_set};
-ghost use Rattle.std.specs.Prelude.{option_to_list, MatchOption, Some, None, IfSome, IsSome, IfOk, IsOk, IfErr};
+ghost use Rattle.std.specs.Prelude.{◌≡◌, ◌+◌, ◌*◌, ◌-◌, ◌<◌, ◌≤◌, ◌++◌, ◌∷◌, [], ℕ, length, map, option_to_list};
+ghost use Rattle.std.specs.Prelude.{MatchOption, Some, None, IfSome, IsSome, IfOk, IsOk, IfErr};
 ghost use Rattle.std.specs.FinMap.Entries.{find};
 ghost use Rattle.changeset.specs.Common.{most_puts};
 ghost use Rattle.spec_image.specs.Common.{times, from_entries, insert};

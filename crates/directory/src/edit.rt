@@ -1,13 +1,13 @@
 //! Edits of a directory: insertion, renaming and removal.
 ghost use Rattle.std.specs.Prelude.{◌≡◌, ◌+◌, ◌*◌, ◌/◌, ◌-◌, ◌<◌, ◌≤◌, ◌⊎◌, ◌++◌, ◌∷◌, [], ℕ, suc, length, map, take};
-ghost use Rattle.std.specs.Prelude.{drop, get_or, slice_set, option_to_list, MatchOption, Some, None, IsTrue};
-ghost use Rattle.std.specs.Prelude.{IsFalse, IsOk, IsSome, IfErr, OnOk, OnErr};
+ghost use Rattle.std.specs.Prelude.{drop, get_or, slice_set, option_to_list, Some, None, IsTrue, IsFalse, IsOk, IsSome};
+ghost use Rattle.std.specs.Prelude.{IfErr, OnOk, OnErr};
 ghost use Rattle.std.specs.FinMap.Entries.{find};
 ghost use Rattle.changeset.specs.Common.{most_puts, replaced};
 ghost use Rattle.spec_image.specs.Common.{directory_cost, times, from_entries, insert, remove};
 ghost use Rattle.std.specs.Vec.{vec_len, vec_capacity};
-ghost use Rattle.directory.specs.Common.{IsChain, viewed, HasPlaces, TakesBlock, PutsChain, inserted, renamed};
-ghost use Rattle.directory.specs.Common.{removed, last_first, block_put};
+ghost use Rattle.directory.specs.Common.{IsChain, viewed, HasPlaces, TakesBlock, PutsChain, inserted, renamed, removed};
+ghost use Rattle.directory.specs.Common.{last_first, block_put};
 ghost use Rattle.directory.specs.declared.error.DirectoryError.TheVariants.{NoMemory};
 
 use crate::image::block_image;

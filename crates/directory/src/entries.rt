@@ -1,6 +1,6 @@
 //! The entries of a directory in memory.
-ghost use Rattle.std.specs.Prelude.{◌≡◌, ◌<◌, ◌++◌, ◌∷◌, [], IfOk, IfSome, IfNone, None, Some, suc, length, map};
-ghost use Rattle.std.specs.Prelude.{get_or, swap_remove, slice_get, slice_set, take, drop};
+ghost use Rattle.std.specs.Prelude.{◌≡◌, ◌<◌, ◌++◌, ◌∷◌, [], IfOk, IfSome, IfNone, None, suc, length, map, get_or};
+ghost use Rattle.std.specs.Prelude.{swap_remove, slice_set, take, drop};
 ghost use Rattle.std.specs.FinMap.Entries.{find};
 ghost use Rattle.directory.specs.Common.{StandsAt, IsIndex, HasPlaces, IsSpareFor};
 ghost use Rattle.std.specs.Vec.{vec_len, vec_capacity};
@@ -24,8 +24,7 @@ impl<E: ChainEntry> Model for Entries<E> {
     ghost use Rattle.std.specs.Prelude.{List, map};
     ghost use Rattle.std.specs.Coded.{coded_list};
     ghost use Rattle.std.specs.Vec.{vec_len, vec_capacity};
-    ghost use Rattle.directory.specs.Common.{IsIndex};
-    ghost use Rattle.directory.specs.Common.{HasPlaces};
+    ghost use Rattle.directory.specs.Common.{IsIndex, HasPlaces};
 
     ghost Value = { List E };
 

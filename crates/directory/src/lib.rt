@@ -19,8 +19,8 @@
 //! 8. A chain grows by the block that is passed to `insert`, if the last block is full when a new key comes, and
 //!    gives back the one that `remove` returns. (`grown`, `kept`, `blocks`)
 //! 9. `list_sorted` returns the entries in ascending key order.
-//! 10. Of the calls on a chain `bare`, `load`, `insert`, `preallocate_for` and `list_sorted` alone take memory; if `insert`
-//!    is refused it, chain and change set are unchanged. (`same`, `unput`)
+//! 10. Of the calls on a chain `bare`, `load`, `insert`, `preallocate_for` and `list_sorted` alone take memory; if
+//!    `insert` is refused it, chain and change set are unchanged. (`same`, `unput`)
 //! 11. `insert_into` makes the edit of `insert` in memory that `preallocate_for` allocated before, and can't fail.
 //!
 //! A key is found by the places of the entries in the order of their keys, which are stored with the entries, and a

@@ -1,6 +1,6 @@
 //! A chain, read from the disk.
-ghost use Rattle.std.specs.Prelude.{◌≡◌, ◌<◌, ◌≤◌, ◌↔◌, ◌⊎◌, ◌++◌, ◌∷◌, [], ℕ, List, IsTrue, true, false, Some, None};
-ghost use Rattle.std.specs.Prelude.{IfOk, OnOk, IsErrOf, length, map, slice_set};
+ghost use Rattle.std.specs.Prelude.{◌≡◌, ◌<◌, ◌≤◌, ◌⊎◌, ◌++◌, ◌∷◌, [], ℕ, List, true, false, Some, None, IfOk, OnOk};
+ghost use Rattle.std.specs.Prelude.{IsErrOf, length, map, slice_set};
 ghost use Rattle.std.specs.List.{AllByRecursion};
 ghost use Rattle.std.specs.FinMap.Entries.{find};
 ghost use Rattle.blockdisk.specs.Common.{SameDisk, one_more};
@@ -9,8 +9,7 @@ ghost use Rattle.changeset.specs.Common.{OnlyReads};
 ghost use Rattle.alloctab.specs.Common.{flag_at};
 ghost use Rattle.std.specs.Vec.{vec_len, vec_capacity};
 ghost use Rattle.directory.specs.Common.{HasPlaces, SpellsBlock, AreGood, IsBadWords, IsBadAt, Adds, ReadsOn};
-ghost use Rattle.directory.specs.declared.error.DirectoryError.TheVariants.{BadDirectory, BlockTwice, Device};
-ghost use Rattle.directory.specs.declared.error.DirectoryError.TheVariants.{NoMemory};
+ghost use Rattle.directory.specs.declared.error.DirectoryError.TheVariants.{BadDirectory, BlockTwice, Device, NoMemory};
 ghost use Rattle.directory.specs.declared.load.AddError.TheVariants.{Outside, Again};
 
 use crate::gathered::{GatherError, Gathered};
@@ -196,13 +195,9 @@ fn read_on<E: ChainEntry, D: Disk>(
 impl<E: ChainEntry> Chain<E> {
     ghost use Rattle.std.specs.Prelude.{◌+◌};
     ghost use Rattle.blockdisk.specs.Common.{SameDisk};
-    ghost use Rattle.spec_image.specs.Common.{head_or_zero};
-    ghost use Rattle.spec_image.specs.Common.{times};
-    ghost use Rattle.spec_image.specs.Common.{Node};
-    ghost use Rattle.spec_image.specs.Common.{LeadsAlong};
+    ghost use Rattle.spec_image.specs.Common.{head_or_zero, times, Node, LeadsAlong};
     ghost use Rattle.alloctab.specs.Common.{digit_at};
-    ghost use Rattle.directory.specs.Common.{IsChain, IsOn, viewed, nodes_of};
-    ghost use Rattle.directory.specs.Common.{IsBadChain, IsTwiceInChain, IsWholeChain};
+    ghost use Rattle.directory.specs.Common.{IsChain, IsOn, viewed, nodes_of, IsBadChain, IsTwiceInChain, IsWholeChain};
 
     /// Reads the chain that begins in block `first`, and marks its blocks. A block that is marked already,
     /// by this call or before it, ends the walk before it is read: a loop ends it this way.

@@ -1,6 +1,6 @@
 //! The places of entries in ascending key order.
-ghost use Rattle.std.specs.Prelude.{◌≡◌, ◌<◌, ◌≤◌, ◌++◌, ◌∷◌, [], ℕ, suc, IfOk, IfErr, length, map, slice_get, take};
-ghost use Rattle.std.specs.Prelude.{drop, swap_remove, slice_set, Some, None, IfSome, IfNone};
+ghost use Rattle.std.specs.Prelude.{◌≡◌, ◌<◌, ◌++◌, ℕ, suc, IfOk, IfErr, length, map, slice_get, take, drop};
+ghost use Rattle.std.specs.Prelude.{swap_remove, slice_set, Some, None, IfSome, IfNone};
 ghost use Rattle.std.specs.Vec.{vec_len, vec_capacity};
 ghost use Rattle.std.specs.FinMap.Entries.{find};
 ghost use Rattle.spec_image.specs.Common.{times};

@@ -1,5 +1,5 @@
 //! The test for the words of a directory block.
-ghost use Rattle.std.specs.Prelude.{◌≡◌, ◌+◌, ◌*◌, ◌<◌, ◌≤◌, ◌↔◌, ℕ, List, IsTrue, length, take, drop};
+ghost use Rattle.std.specs.Prelude.{◌≡◌, ◌+◌, ◌*◌, ◌<◌, ◌≤◌, ℕ, List, IsTrue, length, take, drop};
 ghost use Rattle.directory.specs.Common.{SpellsBlock, SpellsEntries};
 
 use crate::{ChainEntry, EntryFault};

@@ -1,7 +1,7 @@
 -- Bytes of orders that follow one another, and the answers that wait.
 use Rattle.std.proofs.Common.{◌≡◌, ◌+◌, ◌*◌, ◌<◌, ◌≤◌, ℕ, List, [], ◌∷◌, ◌++◌, length, take, drop, refl, sym, ap, ◌∙◌}
-use Rattle.std.proofs.Common.{◌⊎◌, ◌-◌, ◌/◌, ◌%◌, ◌^◌, subst, append-nil, append_assoc, inl, inr, arith, Option}
-use Rattle.std.proofs.Common.{Result, Ok, Err, IfErr, Bor}
+use Rattle.std.proofs.Common.{◌⊎◌, ◌/◌, ◌%◌, ◌^◌, subst, append-nil, append_assoc, inl, inr, arith, Option, Result, Ok}
+use Rattle.std.proofs.Common.{Err, IfErr, Bor}
 use Rattle.std.specs.Io.KnownBytes.{Appends}
 use Rattle.std.proofs.KnownBytes.{Appends-nil, Appends-trans}
 use Rattle.std.proofs.lemmas.Grind.{flat_map-append}
@@ -83,21 +83,6 @@ module _ {S : Type 0} (machine : S → Machine) where
         ∙ chain before (answers_of p.turns) (answers_of q.turns) p.written mid q.written q.unwritten p.answers
         q.answers;
     cause = cause_on error q.unwritten q.rest rest q.cause;
-  }
-
-  -- the waiting answers are written
-  pub steps_written : (a b : S) (sink full over : Option (List ℕ)) (before mid after : List ℕ) (first then : Tally)
-      (bytes : List ℕ) → StepsOn machine a b sink full before mid first then bytes
-      → (written : List ℕ) → Appends full over written → mid ≡ written ++ after
-      → StepsOn machine a b sink over before after first then bytes
-  steps_written a b sink full over before mid after first then bytes p written more is = record {
-    turns = p.turns;
-    takes = p.takes;
-    orders = p.orders;
-    written = p.written ++ written;
-    appended = Appends-trans sink full over p.written written p.appended more;
-    answers = p.answers ∙ ap (λ l. p.written ++ l) is ∙ sym (append_assoc p.written written after);
-    counts = p.counts;
   }
 
   -- the writer failed in it
@@ -215,13 +200,6 @@ module _ {S : Type 0} (machine : S → Machine) where
       subst (λ bytes. BreaksOff machine a b sink over before error bytes) (take-append-drop place held)
       (steps_unwritten machine a b sink full over before mid first then error (take place held) (drop place held) p
       q.0 q.1 q.2 q.3 q.4 q.5)
-
-  pub whole_written : (a b : S) (sink full over : Option (List ℕ)) (before mid after : List ℕ) (first then : Tally)
-      (bytes : List ℕ) → StepsOn machine a b sink full before mid first then bytes
-      → IsFlushed full over mid after (Ok _) → after ≡ [] → StepsOn machine a b sink over before [] first then bytes
-  whole_written a b sink full over before mid after first then bytes p q none =
-      subst (λ waits. StepsOn machine a b sink over before waits first then bytes) none
-      (steps_written machine a b sink full over before mid after first then bytes p q.0 q.1 q.2)
 
 -- Bytes that begin with a whole record don't announce too much.
 

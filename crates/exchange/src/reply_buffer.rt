@@ -1,5 +1,5 @@
 //! The whole records of an input, and the answers that wait to be written.
-ghost use Rattle.std.specs.Prelude.{◌≡◌, ◌≤◌, ◌++◌, [], take, drop, length, OnOk, IfOk, IfErr};
+ghost use Rattle.std.specs.Prelude.{◌≡◌, ◌≤◌, [], take, drop, length, OnOk, IfOk, IfErr};
 ghost use Rattle.wire.specs.Frames.{IsFrame, frame_bytes};
 ghost use Rattle.exchange.specs.Exchanges.{StepsOn, BreaksOff, IsNotWhole, IsFlushed, IsGivenUp};
 

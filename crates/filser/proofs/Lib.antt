@@ -9,6 +9,5 @@ mod NamedStreams
 mod NamedFiles
 mod LedImages
 mod ExitCodes
-mod OutputFaults
 mod CollectionLaws
 mod SalvageLaws

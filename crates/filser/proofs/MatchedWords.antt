@@ -13,10 +13,8 @@ use Rattle.clap.specs.declared.error.kind.ErrorKind.TheVariants.{OutOfMemory, Va
 use Rattle.clap.proofs.OnLiterals.{clap_on_literals}
 use Rattle.clap.proofs.WalkLemmas.{first_value-rows, one_text-rows, raw_values-rows}
 use Rattle.words36.specs.declared.moment.Moment.{Moment}
-use Rattle.imagefile.specs.declared.form.Form.{Form}
 use Rattle.spec_language.specs.Common.{upper}
 use Rattle.spec_language.specs.declared.encoding.Encoding.{Encoding}
-use Rattle.spec_language.specs.declared.encoding.Encoding.TheVariants.{Characters, Words, Octets}
 use Rattle.spec_image.specs.declared.layout.Layout.{Layout}
 use Rattle.commands.specs.Common.{IsDayText, IsFileName, IsOwnerName}
 use Rattle.arguments.specs.CommandLine.{command_line, making, serving, filing, looking, init_app, run_app, calls_app}
@@ -24,18 +22,15 @@ use Rattle.arguments.specs.CommandLine.{put_app, get_app, delete_app, list_app, 
 use Rattle.arguments.specs.CommandLine.{dated, filed, formed, laid_out, located, migrate_app, sized, wire_app}
 use Rattle.arguments.specs.CommandLine.{adapted, encoded, export_app, gathered, import_app, moving, salvage_app}
 use Rattle.arguments.specs.CommandLine.{scattered, unloaded}
-use Rattle.filser.specs.Common.{Asks, IsAsked, IsTask, IsAt, IsNamedFile, IsListedPlace, HasForm, HasText, HasNumber}
-use Rattle.filser.specs.Common.{AsksFor, HasLayout, HasOwner, IsEncoding, IsExportTask, IsImportTask, IsOneEncoding}
-use Rattle.filser.specs.Common.{IsWrong, LacksOwned, NamesEncoding, HasDate, IsDateNumber, IsMistaken, IsUsage}
-use Rattle.filser.specs.Common.{NamesNoDate, SaysDate, Spells, task_name}
-use Rattle.collection.specs.declared.task.ExportTask.{ExportTask}
+use Rattle.filser.specs.Common.{Asks, IsAsked, IsTask, IsAt, IsNamedFile, IsListedPlace, HasText, HasNumber, AsksFor}
+use Rattle.filser.specs.Common.{HasLayout, HasOwner, IsEncoding, IsImportTask, IsOneEncoding, LacksOwned, NamesEncoding}
+use Rattle.filser.specs.Common.{HasDate, IsDateNumber, IsMistaken, IsUsage, NamesNoDate, SaysDate, Spells, task_name}
 use Rattle.collection.specs.declared.task.ImportTask.{ImportTask}
 use Rattle.filser.specs.declared.task.NamedFile.{NamedFile}
 use Rattle.filser.specs.declared.task.Task.{Task}
 use Rattle.filser.specs.declared.task.Task.TheVariants.{Run, Calls, Wire, Put, Get, Delete, List as ListAll, Check}
 use Rattle.filser.specs.declared.error.RequestError.{RequestError}
 use Rattle.filser.specs.declared.error.WrongArgument.{WrongArgument}
-use Rattle.filser.specs.declared.error.WrongArgument.TheVariants.{Encodings}
 use Rattle.filser.specs.declared.error.RequestError.TheVariants.{Usage}
 use Rattle.filser.specs.declared.request.Request.{Request}
 use Rattle.filser.specs.declared.request.Request.TheVariants.{Fresh, Init, Work, Convert, Migrate, Import, Export}
@@ -150,25 +145,6 @@ pub no_encoding : (rows : List Row) → ((e : Encoding) → IsEncoding rows e �
     → ⊥
 no_encoding rows none f named = none f.encoding named.encoding
 
--- both flags ask for two encodings
-pub both_encodings : (rows : List Row) → AsksFor rows Words × AsksFor rows Octets → (e : Encoding) → IsEncoding rows e
-    → ⊥
-both_encodings rows both e is = let wrong : Words ≡ Octets = sym (is.0.1 both.0) ∙ is.1.1 both.1 in cc
-
--- no two of three flags are given
-pub names_encoding : (rows : List Row) → (AsksFor rows Characters × AsksFor rows Words → ⊥)
-    → (AsksFor rows Characters × AsksFor rows Octets → ⊥) → (AsksFor rows Words × AsksFor rows Octets → ⊥)
-    → NamesEncoding rows
-names_encoding rows first second third Characters Characters a b = refl
-names_encoding rows first second third Characters Words a b = absurd (first (a, b))
-names_encoding rows first second third Characters Octets a b = absurd (second (a, b))
-names_encoding rows first second third Words Characters a b = absurd (first (b, a))
-names_encoding rows first second third Words Words a b = refl
-names_encoding rows first second third Words Octets a b = absurd (third (a, b))
-names_encoding rows first second third Octets Characters a b = absurd (second (b, a))
-names_encoding rows first second third Octets Words a b = absurd (third (b, a))
-names_encoding rows first second third Octets Octets a b = refl
-
 -- the first encoding whose flag is given is the only one, if no two are
 pub one_asked : (rows : List Row) (found : Option Encoding) → IfSome found (AsksFor rows)
     → IfNone found ((e : Encoding) → AsksFor rows e → ⊥) → NamesEncoding rows → IsOneEncoding rows found
@@ -178,12 +154,6 @@ one_asked rows (Some e) some none names other = (
 )
 one_asked rows None some none names other =
     (λ same. absurd (none_some other (sym same)), λ asks. absurd (none other asks))
-
--- if two flags are given, none of them is the only one
-pub two_asked : (rows : List Row) (one other : Encoding) → IsWrong rows (Encodings one other)
-    → (asked : Option Encoding) → IsOneEncoding rows asked → ⊥
-two_asked rows one other wrong asked is =
-    wrong.0 (some_same one other (sym ((is one).1 wrong.1) ∙ (is other).1 wrong.2))
 
 -- the task of `import` wants files, and what else names them
 pub no_files : (rows : List Row) → all_of (codes "FILE") rows ≡ None → (t : ImportTask) → IsImportTask rows t → ⊥
@@ -199,19 +169,6 @@ no_one_encoding rows none t is = none t.encoding is.encoding
 
 pub no_moment : (rows : List Row) → ((at : Moment) → IsAt rows at → ⊥) → (t : ImportTask) → IsImportTask rows t → ⊥
 no_moment rows none t is = none t.moment is.moment
-
--- the tasks of `export` and `salvage` need a folder
-pub no_folder : (rows : List Row) → ((t : Text) → HasText rows (codes "FOLDER") t → ⊥) → (t : ExportTask)
-    → IsExportTask rows t → ⊥
-no_folder rows none t is = none t.folder.now is.folder
-
-pub no_listed : (rows : List Row) → ((p : Option ℕ) → IsListedPlace rows p → ⊥) → (t : ExportTask)
-    → IsExportTask rows t → ⊥
-no_listed rows none t is = none t.owner is.owner
-
-pub no_export_encoding : (rows : List Row) → ((e : Option Encoding) → IsOneEncoding rows e → ⊥) → (t : ExportTask)
-    → IsExportTask rows t → ⊥
-no_export_encoding rows none t is = none t.encoding is.encoding
 
 pub no_place : (rows : List Row) (text : Text) → HasText rows (codes "PPN") text
     → ((owner : ℕ) → IsOwnerName text owner → ⊥) → (place : Option ℕ) → IsListedPlace rows place → ⊥
@@ -316,23 +273,6 @@ no_layout name rows is none (Export image form task) asked =
 no_layout name rows is none (Salvage image form task) asked =
     differ name (codes "init") (codes "salvage") 325 309 refl refl (λ e. omega arith) is asked.0
 
-pub no_convert : (name : Text) (rows : List Row) → name ≡ codes "convert"
-    → ((t : Text) → HasText rows (codes "NEW") t → ⊥) → (r : Request) → IsAsked name rows r → ⊥
-no_convert name rows is none Fresh asked = asked
-no_convert name rows is none (Init image blocks form layout) asked =
-    differ name (codes "convert") (codes "init") 321 325 refl refl (λ e. omega arith) is asked.0
-no_convert name rows is none (Work image form task) asked = no_task name (codes "convert") 321 task refl refl is
-    asked.2.0
-no_convert name rows is none (Convert image new form) asked = none new.now asked.2
-no_convert name rows is none (Migrate image form) asked =
-    differ name (codes "convert") (codes "migrate") 321 319 refl refl (λ e. omega arith) is asked.0
-no_convert name rows is none (Import image form task) asked =
-    differ name (codes "convert") (codes "import") 321 323 refl refl (λ e. omega arith) is asked.0
-no_convert name rows is none (Export image form task) asked =
-    differ name (codes "convert") (codes "export") 321 341 refl refl (λ e. omega arith) is asked.0
-no_convert name rows is none (Salvage image form task) asked =
-    differ name (codes "convert") (codes "salvage") 321 309 refl refl (λ e. omega arith) is asked.0
-
 pub no_import : (name : Text) (rows : List Row) → name ≡ codes "import"
     → ((t : ImportTask) → IsImportTask rows t → ⊥) → (r : Request) → IsAsked name rows r → ⊥
 no_import name rows is none Fresh asked = asked
@@ -349,82 +289,6 @@ no_import name rows is none (Export image form task) asked =
     differ name (codes "import") (codes "export") 323 341 refl refl (λ e. omega arith) is asked.0
 no_import name rows is none (Salvage image form task) asked =
     differ name (codes "import") (codes "salvage") 323 309 refl refl (λ e. omega arith) is asked.0
-
-pub no_export : (name : Text) (rows : List Row) → name ≡ codes "export"
-    → ((t : ExportTask) → IsExportTask rows t → ⊥) → (r : Request) → IsAsked name rows r → ⊥
-no_export name rows is none Fresh asked = asked
-no_export name rows is none (Init image blocks form layout) asked =
-    differ name (codes "export") (codes "init") 341 325 refl refl (λ e. omega arith) is asked.0
-no_export name rows is none (Work image form task) asked = no_task name (codes "export") 341 task refl refl is
-    asked.2.0
-no_export name rows is none (Convert image new form) asked =
-    differ name (codes "export") (codes "convert") 341 321 refl refl (λ e. omega arith) is asked.0
-no_export name rows is none (Migrate image form) asked =
-    differ name (codes "export") (codes "migrate") 341 319 refl refl (λ e. omega arith) is asked.0
-no_export name rows is none (Import image form task) asked =
-    differ name (codes "export") (codes "import") 341 323 refl refl (λ e. omega arith) is asked.0
-no_export name rows is none (Export image form task) asked = none task asked.3
-no_export name rows is none (Salvage image form task) asked =
-    differ name (codes "export") (codes "salvage") 341 309 refl refl (λ e. omega arith) is asked.0
-
-pub no_salvage : (name : Text) (rows : List Row) → name ≡ codes "salvage"
-    → ((t : ExportTask) → IsExportTask rows t → ⊥) → (r : Request) → IsAsked name rows r → ⊥
-no_salvage name rows is none Fresh asked = asked
-no_salvage name rows is none (Init image blocks form layout) asked =
-    differ name (codes "salvage") (codes "init") 309 325 refl refl (λ e. omega arith) is asked.0
-no_salvage name rows is none (Work image form task) asked = no_task name (codes "salvage") 309 task refl refl is
-    asked.2.0
-no_salvage name rows is none (Convert image new form) asked =
-    differ name (codes "salvage") (codes "convert") 309 321 refl refl (λ e. omega arith) is asked.0
-no_salvage name rows is none (Migrate image form) asked =
-    differ name (codes "salvage") (codes "migrate") 309 319 refl refl (λ e. omega arith) is asked.0
-no_salvage name rows is none (Import image form task) asked =
-    differ name (codes "salvage") (codes "import") 309 323 refl refl (λ e. omega arith) is asked.0
-no_salvage name rows is none (Export image form task) asked =
-    differ name (codes "salvage") (codes "export") 309 341 refl refl (λ e. omega arith) is asked.0
-no_salvage name rows is none (Salvage image form task) asked = none task asked.3
-
-pub no_form : (name : Text) (rows : List Row) → ((f : Form) → HasForm rows f → ⊥) → (r : Request)
-    → IsAsked name rows r → ⊥
-no_form name rows none Fresh asked = asked
-no_form name rows none (Init image blocks form layout) asked = none form asked.3
-no_form name rows none (Work image form task) asked = none form asked.1
-no_form name rows none (Convert image new form) asked = none form asked.3
-no_form name rows none (Migrate image form) asked = none form asked.2
-no_form name rows none (Import image form task) asked = none form asked.2
-no_form name rows none (Export image form task) asked = none form asked.2
-no_form name rows none (Salvage image form task) asked = none form asked.2
-
-pub no_image : (name : Text) (rows : List Row) → ((t : Text) → HasText rows (codes "IMAGE") t → ⊥) → (r : Request)
-    → IsAsked name rows r → ⊥
-no_image name rows none Fresh asked = asked
-no_image name rows none (Init image blocks form layout) asked = none image.now asked.1
-no_image name rows none (Work image form task) asked = none image.now asked.0
-no_image name rows none (Convert image new form) asked = none image.now asked.1
-no_image name rows none (Migrate image form) asked = none image.now asked.1
-no_image name rows none (Import image form task) asked = none image.now asked.1
-no_image name rows none (Export image form task) asked = none image.now asked.1
-no_image name rows none (Salvage image form task) asked = none image.now asked.1
-
--- A word that isn't another request's is asked for only by a task.
-pub record IsNoRequestWord (name : Text) : Type 0 where
-  pub init : name ≡ codes "init" → ⊥
-  pub convert : name ≡ codes "convert" → ⊥
-  pub migrate : name ≡ codes "migrate" → ⊥
-  pub import : name ≡ codes "import" → ⊥
-  pub export : name ≡ codes "export" → ⊥
-  pub salvage : name ≡ codes "salvage" → ⊥
-
-pub no_work : (name : Text) (rows : List Row) → IsNoRequestWord name → ((t : Task) → IsTask name rows t → ⊥)
-    → (r : Request) → IsAsked name rows r → ⊥
-no_work name rows other none Fresh asked = asked
-no_work name rows other none (Init image blocks form layout) asked = other.init asked.0
-no_work name rows other none (Work image form task) asked = none task asked.2
-no_work name rows other none (Convert image new form) asked = other.convert asked.0
-no_work name rows other none (Migrate image form) asked = other.migrate asked.0
-no_work name rows other none (Import image form task) asked = other.import asked.0
-no_work name rows other none (Export image form task) asked = other.export asked.0
-no_work name rows other none (Salvage image form task) asked = other.salvage asked.0
 
 -- A task of a word has what belongs to that word.
 

@@ -1,5 +1,5 @@
 //! `migrate`: an image's volume given layout 2.
-ghost use Rattle.std.specs.Prelude.{◌≡◌, ◌≢◌, codes};
+ghost use Rattle.std.specs.Prelude.{◌≢◌, codes};
 ghost use Rattle.blockdisk.specs.Common.{SameDisk};
 ghost use Rattle.imagefile.specs.Common.{assumed_in};
 ghost use Rattle.filser.specs.Common.{IsLine, IsMigrationRun, IsOnMigrated};

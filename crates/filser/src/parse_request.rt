@@ -1,16 +1,15 @@
 //! The command line, read as a request.
-ghost use Rattle.std.specs.Prelude.{◌≡◌, ◌≢◌, ◌≤◌, List, ℕ, [], map, codes, IfOk, MatchOption, option_map, IsErrOf};
-ghost use Rattle.std.specs.Prelude.{Err, ◌↔◌, Some, None, Option, IfSome, IfNone, IsTrue, IsFalse};
-ghost use Rattle.clap.specs.Words.{Row, all_of, found_of, rows_of, first_of, subcommand_of, subcommand_rows_of};
-ghost use Rattle.clap.specs.Words.{fault_of, kind_of};
+ghost use Rattle.std.specs.Prelude.{◌≡◌, ◌≢◌, List, ℕ, [], map, codes, IfOk, MatchOption, IsErrOf, Err, ◌↔◌, Some};
+ghost use Rattle.std.specs.Prelude.{None, Option, IfSome, IfNone, IsTrue};
+ghost use Rattle.clap.specs.Words.{all_of, found_of, rows_of, subcommand_of, subcommand_rows_of, fault_of, kind_of};
 ghost use Rattle.clap.specs.declared.error.Error.{Error as ClapError};
 ghost use Rattle.clap.specs.declared.error.kind.ErrorKind.TheVariants.{OutOfMemory, ValueValidation};
 ghost use Rattle.arguments.specs.CommandLine.{command_line};
 ghost use Rattle.filser.specs.Common.{Asks, IsAsked, IsAt, IsNamedFile, AsksFor, HasOwned, HasOwner, IsExisting};
 ghost use Rattle.filser.specs.Common.{IsExportTask, IsImportTask, IsOneEncoding, LacksOwned, IsListedPlace, IsStyle};
 ghost use Rattle.filser.specs.Common.{IsTask, HasForm, HasLayout, HasText, HasDate, HasNumber, IsFaultIn, IsMistaken};
-ghost use Rattle.filser.specs.Common.{IsUsage, IsWrong, NamesDate, IsEncoding, NamesEncoding, IsDateNumber};
-ghost use Rattle.filser.specs.Common.{LacksDate, NamesFile, NamesNoDate, NamesOwner, SaysDate, InRange};
+ghost use Rattle.filser.specs.Common.{IsUsage, IsWrong, NamesDate, IsEncoding, NamesEncoding, IsDateNumber, LacksDate};
+ghost use Rattle.filser.specs.Common.{NamesFile, NamesNoDate, NamesOwner, SaysDate, InRange};
 ghost use Rattle.words36.specs.declared.moment.Moment.{Moment as Moments};
 ghost use Rattle.imagefile.specs.declared.form.Form.{Form as Forms};
 ghost use Rattle.spec_image.specs.declared.layout.Layout.{Layout as Layouts};

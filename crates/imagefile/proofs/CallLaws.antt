@@ -1,15 +1,14 @@
 -- What one more call makes of a record, and a call at a place.
 use Rattle.std.proofs.Common.{◌≡◌, inl, inr, ⊎_elim, ℕ, zero, suc, ◌+◌, ◌-◌, ◌<◌, ◌≤◌, ◌||◌, true, false, List, ◌∷◌}
-use Rattle.std.proofs.Common.{length, get_or, take, Option, Some, None, Result, Ok, Err, IfOk, OnErr, is_ok, refl}
-use Rattle.std.proofs.Common.{sym, ◌∙◌, ap, subst, arith, length-take, unwrap_or, IsSomeAnd}
+use Rattle.std.proofs.Common.{length, get_or, take, Option, Some, None, Result, Ok, Err, IfOk, refl, sym, ◌∙◌, ap}
+use Rattle.std.proofs.Common.{subst, arith, length-take, unwrap_or}
 use Rattle.std.proofs.lemmas.Bool.{leb-true, le-leb, and_parts, and_from, or_left, cond-true, cond-false}
 use Rattle.std.proofs.lemmas.Bool.{false_from_ne_true}
 use Rattle.std.proofs.lemmas.List.{get_or-take}
-use Rattle.imagefile.specs.Common.{Bytes, MayRemain, Inside, window, FilePasses, FileKeeps, FileWrites, FileSyncs}
-use Rattle.imagefile.specs.Common.{FileFails, Call, SeekStart, SeekEnd, Read, Write, Sync, answer, came, Unseen}
-use Rattle.imagefile.specs.Common.{size_of, left_by, is_inside, bytes_after, moved, after_calls, IsHonestRecord}
+use Rattle.imagefile.specs.Common.{Bytes, MayRemain, Inside, window, FilePasses, FileKeeps, FileWrites, Call, SeekStart}
+use Rattle.imagefile.specs.Common.{Write, answer, Unseen, left_by, is_inside, bytes_after, after_calls, IsHonestRecord}
 use Rattle.imagefile.specs.Common.{BeginsAt, GoesTo, recorded}
-use Rattle.imagefile.proofs.FileLaws.{keeps_on, writes_after}
+use Rattle.imagefile.proofs.FileLaws.{writes_after}
 use Rattle.imagefile.proofs.Record.{window-list}
 
 -- Places
@@ -71,24 +70,6 @@ module _ (u : Unseen) (earlier : List Call) where
       → FileKeeps (recorded u earlier) (recorded u (SeekStart at place ∷ earlier))
   keeps_seek_start at place = record { bytes = λ p. refl; is_open = λ p. refl; time = passes_call (SeekStart at place) }
 
-  pub keeps_seek_end : (place : Option ℕ) → FileKeeps (recorded u earlier) (recorded u (SeekEnd place ∷ earlier))
-  keeps_seek_end place = record { bytes = λ p. refl; is_open = λ p. refl; time = passes_call (SeekEnd place) }
-
-  keeps_read : (asked : ℕ) (bytes : Option (List ℕ))
-      → FileKeeps (recorded u earlier) (recorded u (Read asked bytes ∷ earlier))
-  keeps_read asked bytes = record { bytes = λ p. refl; is_open = λ p. refl; time = passes_call (Read asked bytes) }
-
-  pub fails_sync : FileFails (recorded u earlier) (recorded u (Sync false ∷ earlier))
-  fails_sync = record {
-    bytes = λ p closed. cond-false ((after_calls u earlier).is_open p) (left_by u (length earlier) p)
-        ((after_calls u earlier).bytes p) closed;
-    is_open = λ p. refl;
-    time = passes_call (Sync false);
-  }
-
-  pub syncs_sync : FileSyncs (recorded u earlier) (recorded u (Sync true ∷ earlier))
-  syncs_sync = record { bytes = λ p. refl; closed = λ p. refl; time = passes_call (Sync true) }
-
   writes_write : (at : ℕ) (given : List ℕ) (count : Option ℕ) → unwrap_or (after_calls u earlier).position 0 ≡ at
       → unwrap_or count 0 ≤ length given
       → FileWrites at (length given) (recorded u earlier) (recorded u (Write given count ∷ earlier))
@@ -105,18 +86,6 @@ module _ (u : Unseen) (earlier : List Call) where
         time = passes_call (Write given count);
       }
 
-some_same : {X : Type 0} {x y : X} → Some x ≡ Some y → x ≡ y
-some_same is = cc
-
-no_answer : {n : ℕ} → None ≡ Some n → ⊥
-no_answer is = cc
-
--- a sync, as it answered
-pub failed_said : {E : Type 0} (u : Unseen) (earlier : List Call) (result : Result (Unit {0}) E)
-    → OnErr result (FileFails (recorded u earlier) (recorded u (Sync (is_ok result) ∷ earlier)))
-failed_said u earlier (Ok done) = tt
-failed_said u earlier (Err error) = fails_sync u earlier
-
 -- A call at a place
 
 module _ (u : Unseen) (at : ℕ) (earlier between : List Call) (goes : GoesTo at earlier between) where
@@ -127,13 +96,6 @@ module _ (u : Unseen) (at : ℕ) (earlier between : List Call) (goes : GoesTo at
       step (inl there) = subst (λ calls. BeginsAt u calls at) (sym there.0) (there.1 u)
       step (inr (place, is)) = subst (λ calls. BeginsAt u calls at) (sym is) (λ honest. honest.1)
 
-  same_bytes : (after_calls u between).bytes ≡ (after_calls u earlier).bytes
-  same_bytes = step goes
-    where
-      step : GoesTo at earlier between → (after_calls u between).bytes ≡ (after_calls u earlier).bytes
-      step (inl there) = ap (λ calls. (after_calls u calls).bytes) there.0
-      step (inr (place, is)) = ap (λ calls. (after_calls u calls).bytes) is
-
   -- what holds for the record before the call holds for it after the seek
   onward : (P : List Call → Type 0) → P earlier → ((place : ℕ) → P (SeekStart at (Some place) ∷ earlier)) → P between
   onward P same sought = step goes
@@ -141,25 +103,6 @@ module _ (u : Unseen) (at : ℕ) (earlier between : List Call) (goes : GoesTo at
       step : GoesTo at earlier between → P between
       step (inl there) = subst P (sym there.0) same
       step (inr (place, is)) = subst P (sym is) (sought place)
-
-  pub keeps_read_at : (asked : ℕ) (bytes : Option (List ℕ))
-      → FileKeeps (recorded u earlier) (recorded u (Read asked bytes ∷ between))
-  keeps_read_at asked bytes =
-      onward (λ calls. FileKeeps (recorded u earlier) (recorded u (Read asked bytes ∷ calls)))
-      (keeps_read u earlier asked bytes)
-      (λ place. keeps_on _ _ _ (keeps_seek_start u earlier at (Some place))
-      (keeps_read u (SeekStart at (Some place) ∷ earlier) asked bytes))
-
-  pub read_is : (asked count : ℕ) (buffer : List ℕ) → count ≤ length buffer
-      → IsHonestRecord u (Read asked (Some (take count buffer)) ∷ between)
-      → take count buffer ≡ window (after_calls u earlier).bytes at count
-  read_is asked count buffer few honest =
-      let came_in = take count buffer in
-      let long : length came_in ≡ count = omega (arith, length-take count buffer, few) in
-      let allowed = subst (λ o. IsSomeAnd o (λ p. (p + length came_in ≤ size_of u)
-      × (came_in ≡ window (after_calls u between).bytes p (length came_in)))) (begins_there honest.0) honest.1 in
-      allowed.1 ∙ ap (λ b. window b at (length came_in)) same_bytes
-      ∙ ap (window (after_calls u earlier).bytes at) long
 
   pub writes_at : (given : List ℕ) (count : Option ℕ) → unwrap_or count 0 ≤ length given
       → IsHonestRecord u (Write given count ∷ between)
@@ -182,12 +125,6 @@ module _ (u : Unseen) (at : ℕ) (earlier between : List Call) (goes : GoesTo at
       (sym (ap (λ o. unwrap_or o 0) (begins_there honest.0))) (given_read at given count left b few)
 
 module _ {E : Type 0} (u : Unseen) (at : ℕ) (earlier between : List Call) (goes : GoesTo at earlier between) where
-  pub read_said : (asked : ℕ) (result : Result ℕ E) (buffer : List ℕ) → IfOk result (λ count. count ≤ length buffer)
-      → IsHonestRecord u (Read asked (came result buffer) ∷ between)
-      → IfOk result (λ count. take count buffer ≡ window (after_calls u earlier).bytes at count)
-  read_said asked (Ok count) buffer few honest = read_is u at earlier between goes asked count buffer few honest
-  read_said asked (Err error) buffer few honest = tt
-
   pub write_said : (result : Result ℕ E) (given : List ℕ) → IfOk result (λ count. count ≤ length given)
       → IsHonestRecord u (Write given (answer result) ∷ between)
       → IfOk result (λ count. window (after_calls u (Write given (answer result) ∷ between)).bytes at count
@@ -200,17 +137,3 @@ module _ {E : Type 0} (u : Unseen) (at : ℕ) (earlier between : List Call) (goe
       → FileWrites at (length given) (recorded u earlier) (recorded u (Write given (answer result) ∷ between))
   writes_said (Ok count) given few honest = writes_at u at earlier between goes given (Some count) few honest
   writes_said (Err error) given few honest = writes_at u at earlier between goes given None (omega arith) honest
-
--- The place where a call ends, given where it began.
-module _ {E : Type 0} (u : Unseen) (at n : ℕ) (between : List Call) (begins : BeginsAt u between at) where
-  pub read_ends : (asked : ℕ) (result : Result ℕ E) (buffer : List ℕ) → IfOk result (λ count. count ≤ length buffer)
-      → answer result ≡ Some n → BeginsAt u (Read asked (came result buffer) ∷ between) (at + n)
-  read_ends asked (Ok count) buffer few is honest =
-      let long : length (take count buffer) ≡ count = omega (arith, length-take count buffer, few) in
-      ap (λ o. moved o (Some (length (take count buffer)))) (begins honest.0)
-      ∙ ap (λ k. Some (at + k)) (long ∙ some_same is)
-  read_ends asked (Err error) buffer few is honest = absurd (no_answer is)
-
-  pub write_ends : (result : Result ℕ E) (given : List ℕ) → answer result ≡ Some n
-      → BeginsAt u (Write given (answer result) ∷ between) (at + n)
-  write_ends result given is honest = ap (λ o. moved o (answer result)) (begins honest.0) ∙ ap (moved (Some at)) is

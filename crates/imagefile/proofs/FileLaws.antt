@@ -5,7 +5,7 @@ use Rattle.std.proofs.lemmas.Bool.{cases_lt, false≢true}
 use Rattle.std.proofs.lemmas.List.{take_all}
 use Rattle.std.proofs.Math.Seq.{take-add}
 use Rattle.imagefile.specs.Common.{Bytes, Remains, FileState, MayRemain, Inside, window, FilePasses, SameFile}
-use Rattle.imagefile.specs.Common.{FileKeeps, FileWrites, FileFails, window-same}
+use Rattle.imagefile.specs.Common.{FileKeeps, FileWrites, window-same}
 
 inside_or_not : (at n p : ℕ) → Inside at n p ⊎ (Inside at n p → ⊥)
 inside_or_not at n p = ⊎_elim (λ low. inr (λ inside. before low inside))
@@ -41,18 +41,6 @@ same_on s s' s'' first second = record {
 
 pub same_start : (s : FileState) → SameFile s s
 same_start s = record { size = refl; was_honest = λ h. h }
-
-pub keeps_start : (s : FileState) → FileKeeps s s
-keeps_start s = record {
-  bytes = λ p. refl;
-  is_open = λ p. refl;
-  time = record {
-    later = omega arith;
-    nothing_else = λ t r le left. inl left;
-    new_since = λ t u r le le' left. inl left;
-    keeps = λ t r le left. left;
-  };
-}
 
 pub keeps_on : (s s' s'' : FileState) → FileKeeps s s' → FileKeeps s' s'' → FileKeeps s s''
 keeps_on s s' s'' first second = record {
@@ -90,20 +78,6 @@ writes_after at n s s' s'' first second = record {
       (λ other. may p (sym (second.is_open p other) ∙ closed) ∙ ap Some (sym (second.bytes p other)))
       (inside_or_not at n p));
 }
-
--- A sync that failed after a call that changed nothing, and that call alone
-
-pub fails_after : (s s' s'' : FileState) → FileKeeps s s' → FileFails s' s'' → FileFails s s''
-fails_after s s' s'' first second = record {
-  bytes = λ p closed. second.bytes p (first.is_open p ∙ closed) ∙ first.bytes p;
-  is_open = λ p. second.is_open p ∙ first.is_open p;
-  time = passes_on s s' s'' (MayRemain s') (MayRemain s'') first.time second.time
-      (λ r may p closed. let before = sym (second.is_open p) ∙ closed in
-      may p before ∙ ap Some (sym (second.bytes p before)));
-}
-
-pub keeps_fails : (s s' : FileState) → FileKeeps s s' → FileFails s s'
-keeps_fails s s' keeps = record { bytes = λ p closed. keeps.bytes p; is_open = keeps.is_open; time = keeps.time }
 
 -- Windows
 

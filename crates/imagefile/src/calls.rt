@@ -1,5 +1,5 @@
 //! The trait of a system's calls on an open file, which may do less than requested.
-ghost use Rattle.std.specs.Prelude.{◌≡◌, ◌+◌, ◌<◌, ◌≤◌, ℕ, length, take, is_ok, IfOk, OnOk, OnErr};
+ghost use Rattle.std.specs.Prelude.{◌≡◌, ◌+◌, ◌<◌, ◌≤◌, ℕ, length, take, IfOk, OnOk, OnErr};
 ghost use Rattle.imagefile.specs.File.{Remains, FileState, MayRemain, SameFile, FileKeeps, FileWrites, FileSyncs};
 ghost use Rattle.imagefile.specs.File.{FileFails, window};
 ghost use Rattle.imagefile.specs.Outcomes.{Outcome, size_outcome, move_outcome, sync_outcome};

@@ -1,6 +1,5 @@
 //! A durable file over a system's calls: it makes them until all is done.
-ghost use Rattle.std.specs.Prelude.{◌≡◌, ◌⊎◌, ◌+◌, ◌<◌, ◌≤◌, ℕ, [], length, take, Some, None, IfOk, OnOk, OnErr};
-ghost use Rattle.std.specs.Prelude.{IsErrOf};
+ghost use Rattle.std.specs.Prelude.{◌≡◌, ◌⊎◌, ◌+◌, ◌<◌, ◌≤◌, [], length, take, Some, None, IfOk, OnOk, OnErr, IsErrOf};
 ghost use Rattle.blockdisk.specs.Common.{one_more};
 ghost use Rattle.blockdisk.specs.declared.fault.Fault.TheVariants.{Device, Damaged};
 ghost use Rattle.imagefile.specs.File.{SameFile, FileKeeps, FileWrites, FileSyncs, FileFails, window};
@@ -33,8 +32,7 @@ pub struct HostFile<C: FileCalls = SeekingFile> {
 }
 
 impl HostFile {
-    ghost use Rattle.imagefile.specs.Common.{calls_of, failures_of, failure_of, known_size_of};
-    ghost use Rattle.imagefile.specs.Common.{system_of, unseen_of};
+    ghost use Rattle.imagefile.specs.Common.{calls_of, failures_of, failure_of, known_size_of, system_of, unseen_of};
     ghost use Rattle.imagefile.specs.Common.{file_of, history_of};
 
     /// Returns the file over an open file of the host, before its first call, with what is supposed of it that its

@@ -1,9 +1,7 @@
 //! A disk over an image of either form.
-ghost use Rattle.std.specs.Prelude.{◌≡◌, ◌+◌, ◌*◌, ◌<◌, ◌≤◌, ◌^◌, ◌↔◌, ℕ, Some, None, IfOk, IfErr, OnOk, OnErr};
-ghost use Rattle.std.specs.Prelude.{IsErrOf, IsOk, IsSome, List, All, length};
+ghost use Rattle.std.specs.Prelude.{◌≡◌, ◌*◌, ◌<◌, ◌↔◌, ℕ, Some, None, IfOk, IfErr, IsSome, List, All, length};
 ghost use Rattle.words36.specs.Common.{IsBlock, block_bytes, nine_bytes};
-ghost use Rattle.blockdisk.specs.Common.{DiskState, MayLeave, Keeps, Writes, Syncs, Fails, SameDisk, one_more};
-ghost use Rattle.blockdisk.specs.declared.fault.Fault.TheVariants.{Device, Damaged};
+ghost use Rattle.blockdisk.specs.declared.fault.Fault.TheVariants.{Device};
 ghost use Rattle.imagefile.specs.Began.{BeganAs};
 ghost use Rattle.imagefile.specs.Image.{block_length, image_state, block_content, IsImageSize};
 ghost use Rattle.imagefile.specs.Measured.{IsImageOf, IsNoImage};
@@ -118,8 +116,7 @@ impl<F: Durable> ImageDisk<F> {
 
 impl ImageDisk<HostFile> {
     ghost use Rattle.imagefile.specs.ImageDisk.{file_of};
-    ghost use Rattle.imagefile.specs.Common.{form_of};
-    ghost use Rattle.imagefile.specs.Common.{failures_of, failure_of};
+    ghost use Rattle.imagefile.specs.Common.{form_of, failures_of, failure_of};
 
     /// Makes the disk of an image of this form from an open file that has not been used yet. `supposed` is what no
     /// call shows of the file. Writes nothing.

@@ -1,9 +1,8 @@
 //! A file in memory that records its writes and syncs.
-ghost use Rattle.std.specs.Prelude.{◌≡◌, ◌<◌, ◌≤◌, ◌+◌, ◌*◌, ◌++◌, ◌∷◌, ℕ, Ok, IsOk, IsTrue, ◌↔◌, get_or, [], true};
-ghost use Rattle.std.specs.Prelude.{false, Some, None, IfOk, IfErr, OnOk, OnErr, IsErrOf, length, replicate, vec_len};
-ghost use Rattle.std.specs.Prelude.{vec_capacity};
+ghost use Rattle.std.specs.Prelude.{◌≡◌, ◌<◌, ◌≤◌, ◌+◌, ◌*◌, ◌++◌, ◌∷◌, Ok, IsOk, IsTrue, ◌↔◌, get_or, [], true, false};
+ghost use Rattle.std.specs.Prelude.{IfOk, IfErr, OnOk, OnErr, length, replicate, vec_capacity};
 ghost use Rattle.std.proofs.Common.{inr};
-ghost use Rattle.blockdisk.specs.declared.fault.Fault.TheVariants.{Device, Damaged};
+ghost use Rattle.blockdisk.specs.declared.fault.Fault.TheVariants.{Device};
 ghost use Rattle.imagefile.specs.File.{FileWrites, FileSyncs, window};
 ghost use Rattle.imagefile.specs.Memory.{memory_state, put, begun, bytes_written, write_refused, bytes_synced};
 ghost use Rattle.imagefile.specs.Memory.{sync_refused, HasRoom};

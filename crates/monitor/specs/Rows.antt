@@ -3,9 +3,9 @@ use Rattle.std.specs.Prelude.{◌≡◌, ◌⊎◌, ℕ, ◌+◌, ◌==◌, ◌|
 use Rattle.std.specs.Prelude.{List, Option, None, Some}
 use Rattle.std.specs.List.{AllByRecursion}
 use Rattle.words36.specs.declared.moment.Moment.{Moment}
-use Rattle.spec_machine.specs.Common.{keeps_output, discards, after_writes, State, job_at, with_job, improper_mode}
-use Rattle.spec_machine.specs.Common.{disk, mode_at, device_at, output_header_at, input_header_at, is_mode}
-use Rattle.spec_machine.specs.Common.{header_opened, is_buffered, call_of}
+use Rattle.spec_machine.specs.Common.{keeps_output, discards, after_writes, State, job_at, with_job, disk, mode_at}
+use Rattle.spec_machine.specs.Common.{device_at, output_header_at, input_header_at, is_mode, header_opened, is_buffered}
+use Rattle.spec_machine.specs.Common.{call_of}
 use Rattle.spec_image.specs.Common.{times, Pack}
 use Rattle.spec_machine.specs.declared.call.Call.{Call}
 use Rattle.spec_machine.specs.declared.call.Reply.{Reply}

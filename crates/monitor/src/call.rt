@@ -1,15 +1,14 @@
 //! The table of the calls, and how a call of a job is served.
-ghost use Rattle.std.specs.Prelude.{◌≡◌, ◌⊎◌, ◌<◌, ◌≤◌, ◌↔◌, ℕ, true, false, Some, IsTrue, slice_set};
+ghost use Rattle.std.specs.Prelude.{◌≡◌, ◌⊎◌, ◌<◌, ◌≤◌, ◌↔◌, ℕ, true, false, Some, IsTrue};
 ghost use Rattle.blockdisk.specs.Common.{SameDisk, LeavesOnly, one_more};
-ghost use Rattle.spec_machine.specs.Common.{StandsForEither, State, slot, job_at, SpecJob, Service};
-ghost use Rattle.spec_machine.specs.Common.{Serving, Answers, last_date};
+ghost use Rattle.spec_machine.specs.Common.{StandsForEither, State, slot, job_at, SpecJob, Service, Serving, Answers};
+ghost use Rattle.spec_machine.specs.Common.{last_date};
 ghost use Rattle.spec_image.specs.Common.{layout_number, pack_of};
 ghost use Rattle.spec_machine.specs.declared.call.Call.TheVariants.{In};
 ghost use Rattle.spec_machine.specs.declared.call.Event.TheVariants.{Call as Calls};
 ghost use Rattle.spec_machine.specs.declared.call.Reply.TheVariants.{NoMemory, Failed, Device, DateRange, Refused};
 ghost use Rattle.monitor.specs.Common.{IsLight, KeepsCore, IsIdle, IsDecided, read_of, IsCallReady, IsServing};
 ghost use Rattle.monitor.specs.Common.{ServesJob, IsRefused, IsTimely, Serves, AreKeyed, ArePlaced, AreReading};
-ghost use Rattle.monitor.specs.declared.job.Job.{Job as JobRecord};
 ghost use Rattle.volume.specs.Common.{IsSoundMemory};
 
 use crate::close::serve_close;

@@ -1,11 +1,11 @@
 //! The call ENTER for a new version, and the names, places and attributes in the words of calls.
-ghost use Rattle.std.specs.Prelude.{◌≡◌, ◌==◌, ◌&&◌, ◌+◌, ◌%◌, ◌<◌, ◌≤◌, ℕ, false, Bool, IfOk, MatchResult, Ok, Err};
-ghost use Rattle.std.specs.Prelude.{IfSome, IfNone, IfErr, None, Some, OnErr, IsErrOf, IsTrue, slice_index};
+ghost use Rattle.std.specs.Prelude.{◌≡◌, ◌==◌, ◌&&◌, ◌+◌, ◌%◌, ◌<◌, ◌≤◌, ℕ, false, IfOk, MatchResult, Ok, Err, IfSome};
+ghost use Rattle.std.specs.Prelude.{IfNone, None, Some, OnErr, IsErrOf, IsTrue, slice_index};
 ghost use Rattle.words36.specs.Common.{left, IsPpn};
-ghost use Rattle.spec_machine.specs.Common.{lies_outside, protection_or, enter_answer, output_opened, State, slot};
-ghost use Rattle.spec_machine.specs.Common.{channel_at, high_date, own_if_zero, place_at, with_attributes};
-ghost use Rattle.spec_machine.specs.Common.{directory_digit, file_digit, may_look, may_supersede};
-ghost use Rattle.spec_image.specs.Common.{File, Files, pack_of, get, file_at, attributes, place_of};
+ghost use Rattle.spec_machine.specs.Common.{lies_outside, protection_or, State, slot, channel_at, high_date};
+ghost use Rattle.spec_machine.specs.Common.{own_if_zero, place_at, with_attributes, directory_digit, file_digit};
+ghost use Rattle.spec_machine.specs.Common.{may_look, may_supersede};
+ghost use Rattle.spec_image.specs.Common.{File, Files, pack_of, get, attributes, place_of};
 ghost use Rattle.spec_machine.specs.declared.call.Reply.TheVariants.{Done, NoMemory, Failed, Device, Refused};
 ghost use Rattle.volume.specs.declared.error.CallError.TheVariants.{Failed as VolumeFailed, Device as VolumeDevice};
 ghost use Rattle.volume.specs.Common.{is_update, IsBegun, pending_at, is_creation, IsSoundMemory, RestsAt, claims};
@@ -13,8 +13,8 @@ ghost use Rattle.volume.specs.declared.pending.PendingKind.{PendingKind};
 ghost use Rattle.volume.specs.declared.pending.PendingVersion.{PendingVersion};
 ghost use Rattle.monitor.specs.Common.{IsDecided, found_in, begun_as, allowed, kind_for, protection_for, file_begun};
 ghost use Rattle.monitor.specs.Common.{IsKnown, IsAnswer, IsPrimeAt, begin_answer_at, entered_kind, IsEntering};
-ghost use Rattle.monitor.specs.Common.{IsEnterAnswer, KeepsReading, ArePlaced, IsTimely, UnderKeys, job_of};
-ghost use Rattle.monitor.specs.Common.{reader_of, with_code, IsCallReady, ServesJob};
+ghost use Rattle.monitor.specs.Common.{IsEnterAnswer, KeepsReading, ArePlaced, IsTimely, UnderKeys, job_of, reader_of};
+ghost use Rattle.monitor.specs.Common.{with_code, IsCallReady, ServesJob};
 ghost use Rattle.spec_machine.specs.declared.call.Call.TheVariants.{Enter};
 
 use crate::channel::OpenChannel;

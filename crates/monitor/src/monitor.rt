@@ -1,9 +1,9 @@
 //! The monitor: a volume and the jobs that are logged in, and how a service starts and ends.
-ghost use Rattle.std.specs.Prelude.{◌≡◌, ◌⊎◌, ℕ, false, IfOk, IfErr};
+ghost use Rattle.std.specs.Prelude.{◌≡◌, ◌⊎◌, false, IfOk, IfErr};
 ghost use Rattle.blockdisk.specs.Common.{NoneOpen, SameDisk, Still, one_more};
 ghost use Rattle.changeset.specs.Common.{IsRecovered, SyncsFirst};
-ghost use Rattle.spec_image.specs.Common.{File, Files, StandsOn, layout_number, pack_of, without_serials, Stands};
-ghost use Rattle.spec_machine.specs.Common.{State, room, Service, Serving, IsStart};
+ghost use Rattle.spec_image.specs.Common.{File, Files, StandsOn, layout_number, pack_of, Stands};
+ghost use Rattle.spec_machine.specs.Common.{State, room, Serving, IsStart};
 ghost use Rattle.monitor.specs.Common.{charge_told, HasStarted, Serves, no_jobs};
 ghost use Rattle.volume.specs.Common.{NamesInSpace, Refuses, StandsLike};
 ghost use Rattle.volume.specs.declared.error.VolumeError.TheVariants.{Device};
@@ -27,8 +27,7 @@ pub struct Monitor<D: Disk> {
 
 impl<D: Disk> Model for Monitor<D> {
     ghost use Rattle.std.specs.Prelude.{◌≡◌, false};
-    ghost use Rattle.monitor.specs.Common.{MonitorState};
-    ghost use Rattle.monitor.specs.Common.{AreKeyed, ArePlaced, AreReading};
+    ghost use Rattle.monitor.specs.Common.{MonitorState, AreKeyed, ArePlaced, AreReading};
 
     ghost Value = { MonitorState D };
 

@@ -1,6 +1,6 @@
 //! How an IN moves words into core.
-ghost use Rattle.std.specs.Prelude.{◌≡◌, ◌⊎◌, ◌↔◌, ◌+◌, ◌<◌, ◌≤◌, ℕ, List, [], true, false, IsTrue, length, min};
-ghost use Rattle.std.specs.Prelude.{None, Some, IfOk, IfErr, OnErr};
+ghost use Rattle.std.specs.Prelude.{◌≡◌, ◌↔◌, ◌<◌, ◌≤◌, ℕ, List, [], true, false, length, min, None, Some, IfOk, IfErr};
+ghost use Rattle.std.specs.Prelude.{OnErr};
 ghost use Rattle.spec_machine.specs.Common.{dump_list, word_count, after_writes, dealt, byte_size, in_ready};
 ghost use Rattle.spec_image.specs.Common.{HasBody, words_from};
 ghost use Rattle.spec_machine.specs.declared.area.Area.{Area as Words};

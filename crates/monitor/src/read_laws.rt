@@ -12,7 +12,8 @@ use blockdisk::Disk;
 /// Proves that what readers have pinned is booked: if the files' serials are distinct, each version that is read costs
 /// in the machine what it costs in memory, and is that of a file if it is current.
 pub fn what_is_read_is_booked<D: Disk>(disk: &D)
-    ensures { (c : MemoryMap) (files : Files SpecVersion) (read : ℕ → SpecVersion) → IsWholeMemory (D.state disk.now).size c
+    ensures { (c : MemoryMap) (files : Files SpecVersion) (read : ℕ → SpecVersion)
+        → IsWholeMemory (D.state disk.now).size c
         → HaveDistinctSerials (flat_map (λ d. values d.files) (values files))
         → AreRead (D.state disk.now) c files read
         → AreBooked c.live (flat_map (λ d. values d.files) (values files)) read }

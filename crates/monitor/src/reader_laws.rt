@@ -30,7 +30,8 @@ pub fn readers_keep_what_is_superseded<D: Disk>(old: &D, new: &D)
 pub fn readers_come_and_go<D: Disk>(disk: &D)
     ensures comes { (c c' : MemoryMap) (files : Files SpecVersion) (read : ℕ
         → SpecVersion) (key : ℕ) (place : Place) (x : SpecVersion)
-        → AreRead (D.state disk.now) c files read → IsWholeMemory (D.state disk.now).size c → file_at files place ≡ Some x
+        → AreRead (D.state disk.now) c files read → IsWholeMemory (D.state disk.now).size c
+        → file_at files place ≡ Some x
         → HaveDistinctSerials (flat_map (λ d. values d.files) (values files))
         → ((v : LiveVersion) × (slot c.live key ≡ Some v)
         × (slot c'.live key ≡ Some (record v { readers = v.readers + 1 })))
@@ -45,7 +46,8 @@ pub fn readers_come_and_go<D: Disk>(disk: &D)
     // If it was read before, it was this very version.
     ensures again { (c : MemoryMap) (files : Files SpecVersion) (read : ℕ
         → SpecVersion) (key : ℕ) (v : LiveVersion) (place : Place) (x : SpecVersion)
-        → AreRead (D.state disk.now) c files read → IsWholeMemory (D.state disk.now).size c → file_at files place ≡ Some x
+        → AreRead (D.state disk.now) c files read → IsWholeMemory (D.state disk.now).size c
+        → file_at files place ≡ Some x
         → slot c.live key ≡ Some v → 0 < v.readers → v.is_current ≡ true → prime_at c place.ppn place.name ≡ Some v.at
         → read key ≡ x }
     ensures goes { (c c' : MemoryMap) (files : Files SpecVersion) (read : ℕ → SpecVersion) (key : ℕ) (v : LiveVersion)

@@ -1,8 +1,8 @@
 //! The call RENAME.
-ghost use Rattle.std.specs.Prelude.{◌≡◌, ◌+◌, ◌==◌, ◌<◌, ◌≤◌, ◌^◌, ℕ, false, None, Some, IfOk, MatchResult, List};
-ghost use Rattle.std.specs.Prelude.{Option, Result, OnOk, [], ◌∷◌, slice_index};
-ghost use Rattle.spec_image.specs.Common.{number_of, same_place, place_of};
-ghost use Rattle.spec_machine.specs.Common.{lies_outside, State, SpecJob, slot, protection_at};
+ghost use Rattle.std.specs.Prelude.{◌≡◌, ◌+◌, ◌==◌, ◌<◌, ℕ, false, None, Some, List, Option, Result, OnOk, [], ◌∷◌};
+ghost use Rattle.std.specs.Prelude.{slice_index};
+ghost use Rattle.spec_image.specs.Common.{same_place, place_of};
+ghost use Rattle.spec_machine.specs.Common.{lies_outside, State, SpecJob, slot};
 ghost use Rattle.spec_machine.specs.declared.call.Call.TheVariants.{Rename};
 ghost use Rattle.spec_machine.specs.declared.call.Reply.TheVariants.{Done, NoMemory, Failed, Device, Refused};
 ghost use Rattle.volume.specs.Common.{claims, slot as version_at, IsSoundMemory};
@@ -10,9 +10,8 @@ ghost use Rattle.volume.specs.declared.live.LiveVersion.{LiveVersion};
 ghost use Rattle.volume.specs.declared.pending.PendingVersion.{PendingVersion};
 ghost use Rattle.monitor.specs.Common.{allowed_arrival, arrival_answer, may_become, allowed_change, asked_protection};
 ghost use Rattle.monitor.specs.Common.{change_answer, IsChangeAnswer, with_input_closed, CloseAfter, changed_reply};
-ghost use Rattle.monitor.specs.Common.{changed_job, Closes, IsDecided, found_in, IsKnown, IsCallReady, ServesAlways};
-ghost use Rattle.monitor.specs.Common.{readers_of, with_code, IsRow, KeepsSides, KeepsReading, UnderKeys, job_of};
-ghost use Rattle.monitor.specs.Common.{reader_of};
+ghost use Rattle.monitor.specs.Common.{changed_job, Closes, IsDecided, IsKnown, IsCallReady, ServesAlways, readers_of};
+ghost use Rattle.monitor.specs.Common.{with_code, IsRow, KeepsSides, KeepsReading, reader_of};
 
 use crate::channel::OpenChannel;
 use crate::close_job::release_input;

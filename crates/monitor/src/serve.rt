@@ -1,15 +1,14 @@
 //! How events are served: one, or a list of them.
-ghost use Rattle.std.specs.Prelude.{◌≡◌, ◌⊎◌, ◌↔◌, ◌<◌, ◌≤◌, ℕ, List, Some, length, map, slice_set, true, false};
-ghost use Rattle.std.specs.Prelude.{IsTrue, IfOk, IsErr};
+ghost use Rattle.std.specs.Prelude.{◌≡◌, ◌⊎◌, ◌↔◌, ◌<◌, ◌≤◌, ℕ, List, Some, length, map, true, false, IsTrue, IfOk};
+ghost use Rattle.std.specs.Prelude.{IsErr};
 ghost use Rattle.std.specs.List.{AllByRecursion};
 ghost use Rattle.blockdisk.specs.Common.{SameDisk, LeavesOnly, one_more};
-ghost use Rattle.spec_machine.specs.Common.{StandsForEither, RunsOn, State, slot, job_at, SpecJob, Service};
-ghost use Rattle.spec_machine.specs.Common.{Serving, Answers, job_of, last_date};
+ghost use Rattle.spec_machine.specs.Common.{StandsForEither, RunsOn, State, slot, job_at, SpecJob, Service, Serving};
+ghost use Rattle.spec_machine.specs.Common.{Answers, job_of, last_date};
 ghost use Rattle.spec_image.specs.Common.{layout_number, pack_of};
 ghost use Rattle.spec_machine.specs.declared.call.Reply.TheVariants.{Refused, Device, Failed, DateRange};
 ghost use Rattle.monitor.specs.Common.{RunsBy, HoldsStill, last_of, read_of, TellsFault, FailsOnce, Serves, IsIdle};
 ghost use Rattle.monitor.specs.Common.{IsDecided, OfCall, IsNoCall, IsLightEvent, IsRefused, KeepsCore};
-ghost use Rattle.monitor.specs.declared.job.Job.{Job as JobRecord};
 ghost use Rattle.spec_machine.specs.declared.call.Call.TheVariants.{In};
 ghost use Rattle.spec_machine.specs.declared.call.Reply.TheVariants as replies;
 

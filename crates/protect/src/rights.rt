@@ -1,6 +1,5 @@
 //! The rights that protections give.
 ghost use Rattle.std.specs.Prelude.{◌≡◌, ◌==◌, ℕ};
-ghost use Rattle.words36.specs.Common.{left};
 ghost use Rattle.spec_machine.specs.Common.{system, digit, file_digit, directory_digit, may_execute, may_read};
 ghost use Rattle.spec_machine.specs.Common.{may_append, may_update, may_supersede, may_rename, may_protect};
 ghost use Rattle.protect.specs.AllowedActs.{allows, allows_in};

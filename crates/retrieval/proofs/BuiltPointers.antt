@@ -3,7 +3,7 @@ use Rattle.std.proofs.Common.{◌≡◌, ◌⊎◌, ⊎_elim, ℕ, min, zero, su
 use Rattle.std.proofs.Common.{length, get_or, take, drop, replicate, slice_set, refl, sym, ◌∙◌, ap, subst, arith}
 use Rattle.std.proofs.Common.{append_assoc, length-append}
 use Rattle.std.specs.List.{AllByRecursion}
-use Rattle.std.proofs.lemmas.List.{map_more, take_all, take-append-drop, map-append, length-map, length-take-le}
+use Rattle.std.proofs.lemmas.List.{map_more, take_all, map-append, length-map, length-take-le}
 use Rattle.std.proofs.Math.Seq.{set-append_seam}
 use Rattle.spec_image.specs.Common.{SpecPrime, SpecRun, IsRun, run_blocks, pointer, prime_word, extension_word}
 use Rattle.spec_image.specs.Common.{prime_block}
@@ -88,9 +88,6 @@ runs_fit (run ∷ runs) all few =
       (omega arith, omega arith, all.0),
       runs_fit runs (all_right (λ n. n < 2 ^ 18) here (blocks_of_runs runs) all) (omega arith),
     )
-
-pub put_none : (words : List ℕ) → drop 16 words ≡ replicate 112 0 → words ≡ take 16 words ++ replicate 112 0
-put_none words clear = sym (take-append-drop 16 words) ∙ ap (λ (l : List ℕ). take 16 words ++ l) clear
 
 -- The first words, each as it is written.
 pub front_written : (p : SpecPrime) (count next count' next' words a d e f : ℕ) → a ≡ prime_word → d ≡ extension_word p

@@ -17,9 +17,6 @@ use Rattle.retrieval.proofs.Parts.{all_at, times_at}
 
 -- How often a number is in a list of which one place changes.
 
-times_one : (m n : ℕ) (xs : List ℕ) → times m (n ∷ xs) ≡ times m xs + times m (n ∷ [])
-times_one m n xs = omega arith
-
 pub times_set : (m : ℕ) (xs : List ℕ) (i y : ℕ) → i < length xs
     → times m (slice_set xs i y) + times m (slice_index xs i ∷ []) ≡ times m xs + times m (y ∷ [])
 times_set m [] i y below = absurd (omega arith)

@@ -6,15 +6,6 @@ use Rattle.spec_image.specs.Retrieval.{attributes}
 use Rattle.retrieval.specs.Common.{mode_number, IsPrimeOf, with_length, IsRewritten, SpellsPrime, VersionState}
 use Rattle.retrieval.specs.declared.prime.Prime.{Prime as PrimeValue}
 
--- A prime block has one length and one first extension,
-pub one_length : (layout : ℕ) (words : List ℕ) (p q : PrimeValue) (n m : ℕ) (runs others : List SpecRun)
-    (next after : ℕ) → SpellsPrime layout words (with_length p n) runs next
-    → SpellsPrime layout words (with_length q m) others after → (n ≡ m) × (next ≡ after)
-one_length layout words p q n m runs others next after a b =
-    let same : prime_block (with_length p n) runs next
-    ≡ prime_block (with_length q m) others after = sym a.words_are ∙ b.words_are in
-    (cc, cc)
-
 -- and one date,
 one_date : (a b c d a' b' c' d' x y : ℕ) → x ≤ 32767 → y ≤ 32767
     → d * 2 ^ 18 + x / 4096 * 2 ^ 15 ≡ d' * 2 ^ 18 + y / 4096 * 2 ^ 15

@@ -1,7 +1,6 @@
 -- A body place by place: the block at each place of a version holds 128 words of it.
-use Rattle.std.proofs.Common.{◌≡◌, ◌⊎◌, inl, inr, ℕ, zero, suc, ◌+◌, ◌-◌, ◌*◌, ◌/◌, ◌%◌, ◌<◌, ◌≤◌, List, [], ◌∷◌}
-use Rattle.std.proofs.Common.{◌++◌, Option, Some, None, length, map, min, get_or, take, drop, refl, sym, subst, ap}
-use Rattle.std.proofs.Common.{◌∙◌, arith}
+use Rattle.std.proofs.Common.{◌≡◌, ℕ, zero, suc, ◌+◌, ◌-◌, ◌*◌, ◌/◌, ◌%◌, ◌<◌, ◌≤◌, List, [], ◌∷◌, Option, Some, None}
+use Rattle.std.proofs.Common.{length, map, min, get_or, take, drop, refl, sym, subst, ap, ◌∙◌, arith}
 use Rattle.std.specs.Prelude.{slice_index, flat_map, IfSome}
 use Rattle.std.specs.List.{AllByRecursion, AllZip}
 use Rattle.std.proofs.lemmas.List.{length-append, length-take, length-drop, get_or-take, get_or-drop}
@@ -9,7 +8,7 @@ use Rattle.std.proofs.lemmas.List.{get_or_append_left, get_or-append_right}
 use Rattle.std.proofs.lemmas.Grind.{same_number_lists}
 use Rattle.blockdisk.specs.Common.{Contents}
 use Rattle.spec_image.specs.Common.{times, HasBody}
-use Rattle.spec_image.proofs.Common.{times_here, times_later, below_or_not}
+use Rattle.spec_image.proofs.Common.{times_here, times_later}
 use Rattle.retrieval.specs.Common.{AreWhole}
 
 -- what holds for each of a list holds at each index
@@ -17,11 +16,6 @@ pub all_at : (P : ℕ → Type 0) (xs : List ℕ) (i : ℕ) → AllByRecursion P
 all_at P [] i all below = absurd (omega arith)
 all_at P (x ∷ xs) zero all below = all.0
 all_at P (x ∷ xs) (suc i) all below = all_at P xs i all.1 (omega arith)
-
-pub all_indexed : (P : ℕ → Type 0) (xs : List ℕ) → ((i : ℕ) → i < length xs → P (slice_index xs i))
-    → AllByRecursion P xs
-all_indexed P [] each = tt
-all_indexed P (x ∷ xs) each = (each 0 (omega arith), all_indexed P xs (λ i below. each (suc i) (omega arith)))
 
 pub times_at : (xs : List ℕ) (i : ℕ) → i < length xs → 0 < times (slice_index xs i) xs
 times_at [] i below = absurd (omega arith)
@@ -179,12 +173,6 @@ module _ (contents : Contents) where
           subst (λ (q : ℕ). slice_index body q ≡ slice_index (take (length body) (joined each)) q) e
           (at_place (p / 128) (p % 128) (omega arith) (omega arith) (omega arith))
 
-  pub whole_of : (blocks body : List ℕ)
-      → ((j : ℕ) → j < length blocks → HoldsPart contents (slice_index blocks j) j body) → AreWhole contents blocks
-  whole_of blocks body parts = all_indexed (λ n. IfSome (contents n) (λ words. length words ≡ 128)) blocks
-      (λ j below. subst (λ (o : Option (List ℕ)). IfSome o (λ words. length words ≡ 128)) (sym (parts j below).is)
-      (parts j below).whole)
-
 -- What reading returns.
 
 -- a block of these that is damaged, after calls that left the contents unchanged
@@ -194,38 +182,6 @@ pub damaged_at : (old now : Contents) (blocks these : List ℕ) (k at : ℕ) →
 damaged_at old now blocks these k at same below is none kept =
     let e : k ≡ slice_index blocks at = is ∙ ap (λ (l : List ℕ). slice_index l at) same in
     (subst (λ (n : ℕ). 0 < times n blocks) (sym e) (times_at blocks at below), sym (kept k) ∙ ap now is ∙ none)
-
--- the first `here` words of the block that was read at place j of a body
-pub read_more : (contents : Contents) (blocks body : List ℕ) → AreWhole contents blocks → HasBody contents blocks body
-    → (start j : ℕ) (done got : List ℕ) (here : ℕ) → here ≤ 128
-    → start + length done ≡ j * 128 → j < length blocks → contents (slice_index blocks j) ≡ Some got → length got ≡ 128
-    → start + length done + here ≤ length body
-    → ((p : ℕ) → p < length done → slice_index done p ≡ slice_index body (start + p))
-    → (p : ℕ) → p < length (done ++ take here got) → slice_index (done ++ take here got) p
-    ≡ slice_index body (start + p)
-read_more contents blocks body whole has start j done got here few from below is all inside read p some = by_case
-    (below_or_not p (length done))
-  where
-    part : HoldsPart contents (slice_index blocks j) j body
-    part = part_of contents blocks body whole has j below
-
-    same : part.words ≡ got
-    same = let e : Some part.words ≡ Some got = sym part.is ∙ is in cc
-
-    here_is : (k : ℕ) → k < here → slice_index got k ≡ slice_index body (j * 128 + k)
-    here_is k less = sym (ap (λ (l : List ℕ). slice_index l k) same) ∙ part.each k (omega arith) (omega arith)
-
-    by_case : (p < length done) ⊎ (length done ≤ p) → slice_index (done ++ take here got) p
-        ≡ slice_index body (start + p)
-    by_case (inl before) = get_or_append_left done (take here got) 0 p before ∙ read p before
-    by_case (inr past) =
-        let a = length-append done (take here got) in
-        let b = length-take here got in
-        let k : ℕ = p - length done in
-        let e : j * 128 + (p - length done) ≡ start + p = omega arith in
-        get_or-append_right done (take here got) (length done) p 0 refl past
-        ∙ get_or-take here got (p - length done) 0 (omega arith) ∙ here_is (p - length done) (omega arith)
-        ∙ ap (slice_index body) e
 
 -- all of them
 pub read_all : (body done : List ℕ) (start count : ℕ) → length done ≡ min count (length body - start)

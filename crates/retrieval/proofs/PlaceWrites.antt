@@ -14,9 +14,6 @@ use Rattle.retrieval.proofs.HeldBlocks.{alone_at}
 
 -- One more place whose block is the version's own.
 
-pub apart_none : (blocks : List ℕ) (first : ℕ) → StandAlone blocks first first
-apart_none blocks first j k from upto inside other same = omega (arith, from, upto)
-
 module _ (blocks : List ℕ) (first i n : ℕ) (below : i < length blocks) where
   here : slice_index (slice_set blocks i n) i ≡ n
   here = get_or-set_same blocks i n 0 below

@@ -8,7 +8,7 @@ use Rattle.std.proofs.lemmas.List.{get_or-set_same, get_or-set_other}
 use Rattle.spec_image.specs.Common.{InSpace, times}
 use Rattle.changeset.specs.Common.{times_tail}
 use Rattle.alloctab.specs.Common.{TableState, IsFree, bit, holds, space}
-use Rattle.retrieval.specs.Common.{IsOwn, AddsClear, AddsFree, KeepsOwn, IsFixed}
+use Rattle.retrieval.specs.Common.{IsOwn, AddsFree, KeepsOwn, IsFixed}
 use Rattle.retrieval.proofs.HeldBlocks.{times_set}
 use Rattle.retrieval.proofs.Parts.{times_at}
 
@@ -89,10 +89,6 @@ adds_set t old xs i n so_far below once own m = ⊎_elim
         (λ (some : 0 < times n old). inl (omega arith))
         (λ none. inr (record { clear = own.clear; unheld = let alone = own.alone in omega arith }, omega arith))
         (cases_lt 0 (times n old))
-
--- a block that was free has its bit clear
-pub adds_clear : (t : TableState) (old new : List ℕ) → AddsFree t old new → AddsClear t old new
-adds_clear t old new adds n there = ⊎_elim (λ fewer. inl (omega arith)) (λ free. inr free.0.clear) (adds n)
 
 -- A block that is held once and is in a list once is still there once, as blocks are replaced by others.
 pub few_more : (xs ys : List ℕ) (i n : ℕ) → i < length ys → times n (slice_set ys i n) ≡ 1

@@ -1,13 +1,13 @@
 -- If each block that changes has its new words, and the others stay, the version has the body with the words put.
-use Rattle.std.proofs.Common.{◌≡◌, ◌⊎◌, ⊎_elim, inl, inr, ℕ, ◌+◌, ◌-◌, ◌*◌, ◌/◌, ◌<◌, ◌≤◌, List, Option, length, min}
-use Rattle.std.proofs.Common.{max, sym, ◌∙◌, ap, subst, arith}
-use Rattle.std.specs.Prelude.{slice_index, IfSome}
+use Rattle.std.proofs.Common.{◌≡◌, ◌⊎◌, ⊎_elim, inl, inr, ℕ, ◌+◌, ◌-◌, ◌*◌, ◌/◌, ◌<◌, ◌≤◌, List, length, min, max, sym}
+use Rattle.std.proofs.Common.{◌∙◌, ap, arith}
+use Rattle.std.specs.Prelude.{slice_index}
 use Rattle.blockdisk.specs.Common.{Contents}
 use Rattle.spec_image.specs.Common.{blocks_of, HasBody, splice, length_after, block_start}
 use Rattle.spec_image.proofs.Common.{length-splice, splice-outside, splice-inside, below_or_not}
 use Rattle.retrieval.specs.Common.{AreWhole, Stays, IsPartlyPlaced}
 use Rattle.retrieval.proofs.GrownLists.{after_some}
-use Rattle.retrieval.proofs.Parts.{HoldsPart, part_of, body_of, all_at, all_indexed}
+use Rattle.retrieval.proofs.Parts.{HoldsPart, part_of, body_of}
 
 -- The contents before, when the words that stay were read, and after; the list of blocks at first, longer, and
 -- at the end.
@@ -18,9 +18,6 @@ module _ (before read after : Contents) (old longer new : List ℕ) (total block
     (long' : length new ≡ length longer)
     (placed : IsPartlyPlaced read after longer new (block - 1) words place kept (min (block - 1) (total / 128))
     (block - 1 + blocks_of (length words))) where
-  at : ℕ
-  at = block - 1
-
   -- a place that is not written has its block from before, with the words from before
   unwritten : (j : ℕ) → j < length new → (j < min (block - 1) (total / 128))
       ⊎ (block - 1 + blocks_of (length words) ≤ j) → j < length old
@@ -42,16 +39,6 @@ module _ (before read after : Contents) (old longer new : List ℕ) (total block
       (λ (d : block - 1 + blocks_of (length words) ≤ j). inl (inr d))
       (below_or_not j (block - 1 + blocks_of (length words))))
       (below_or_not j (min (block - 1) (total / 128)))
-
-  pub whole_put : AreWhole before old → AreWhole after new
-  whole_put whole = all_indexed (λ n. IfSome (after n) (λ w. length w ≡ 128)) new (λ j below. ⊎_elim
-      (λ (out : (j < min (block - 1) (total / 128)) ⊎ (block - 1 + blocks_of (length words) ≤ j)).
-      subst (λ (o : Option (List ℕ)). IfSome o (λ w. length w ≡ 128)) (sym (still_there j below out))
-      (all_at (λ n. IfSome (before n) (λ w. length w ≡ 128)) old j whole (unwritten j below out)))
-      (λ (in_range : (min (block - 1) (total / 128) ≤ j) × (j < block - 1 + blocks_of (length words))).
-      let new' = placed.placed j in_range.0 in_range.1 in
-      subst (λ (o : Option (List ℕ)). IfSome o (λ w. length w ≡ 128)) (sym new'.is) new'.is_new.whole)
-      (which j))
 
   module _ (body : List ℕ) (is : length body ≡ total) (whole : AreWhole before old) (has : HasBody before old body)
       (stays : Stays body (min (block - 1) (total / 128)) (block - 1) (length words) place kept) where

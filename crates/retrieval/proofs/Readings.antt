@@ -4,7 +4,7 @@ use Rattle.std.proofs.Common.{refl, sym, ◌∙◌, ap, subst, arith, append_ass
 use Rattle.std.specs.List.{AllByRecursion}
 use Rattle.std.proofs.lemmas.Bool.Decides.{nat_tests}
 use Rattle.std.proofs.lemmas.List.{map-append}
-use Rattle.blockdisk.specs.Common.{Contents, DiskState, MayLeave, Keeps, passes_start}
+use Rattle.blockdisk.specs.Common.{Contents}
 use Rattle.spec_image.specs.Common.{times, blocks_of, SpecPrime, SpecRun, IsRun, run_blocks, Extension, all_runs}
 use Rattle.spec_image.specs.Common.{extension_numbers, first_extension, extension_block, prime_block, AreExtensions}
 use Rattle.spec_image.specs.Common.{LeadsOn, IsPrimeRead, InSpace, RunsInSpace, IsBadVersion}
@@ -14,11 +14,6 @@ use Rattle.retrieval.specs.Common.{IsBadExtension, Overfills, IsStarted, Extends
 use Rattle.retrieval.specs.Common.{IsStandingVersion}
 use Rattle.retrieval.specs.declared.prime.Prime.{Prime as PrimeValue}
 use Rattle.alloctab.proofs.SpaceLaws.{in_space_some}
-
--- The disk is read and not written.
-
-pub keeps_start : (s : DiskState) → Keeps s s
-keeps_start s = record { contents = λ n. refl; is_open = λ n. refl; time = passes_start s (MayLeave s) }
 
 -- Walks.
 

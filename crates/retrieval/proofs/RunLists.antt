@@ -6,7 +6,7 @@ use Rattle.std.proofs.lemmas.List.{take_more, take-append-drop, map-append}
 use Rattle.std.proofs.lemmas.Grind.{flat_map-append}
 use Rattle.spec_image.specs.Common.{space_start, count_up, run_blocks, InSpace, RunsInSpace}
 use Rattle.retrieval.specs.Common.{run_of, runs_of, VersionState, with_blocks}
-use Rattle.spec_image.proofs.Common.{all_append, all_right, all_left}
+use Rattle.spec_image.proofs.Common.{all_right, all_left}
 
 pub length-count_up : (count first : ℕ) → length (count_up count first) ≡ count
 length-count_up zero first = refl
@@ -24,9 +24,6 @@ count_more (suc count) first =
 
 pub with_more : (v : VersionState) (a b : List ℕ) → with_blocks (with_blocks v a) b ≡ with_blocks v (a ++ b)
 with_more v a b = λ i. record v { blocks = append_assoc v.blocks a b i }
-
-pub with_none : (v : VersionState) → v ≡ with_blocks v []
-with_none v = λ i. record v { blocks = sym (append-nil v.blocks) i }
 
 -- If the first and the last block of a run lie in the free space, all do.
 pub run_inside : (size count first : ℕ) → space_start size ≤ first → first + count ≤ size
@@ -56,12 +53,6 @@ module _ (words : List ℕ) (i word : ℕ) (below : i < length words) (is : word
   blocks_one_more = ap (flat_map run_blocks) runs_one_more
       ∙ flat_map-append run_blocks (runs_of (take i words)) (run_of word ∷ [])
       ∙ ap (λ (l : List ℕ). flat_map run_blocks (runs_of (take i words)) ++ l) (append-nil (run_blocks (run_of word)))
-
-module _ (size : ℕ) (words : List ℕ) (i word : ℕ) (below : i < length words) (is : word ≡ get_or words i word) where
-  pub inside_more : RunsInSpace size (runs_of (take i words)) → AllByRecursion (InSpace size) (run_blocks (run_of word))
-      → RunsInSpace size (runs_of (take (i + 1) words))
-  inside_more a b = subst (AllByRecursion (InSpace size)) (sym (blocks_one_more words i word below is))
-      (all_append (InSpace size) (flat_map run_blocks (runs_of (take i words))) (run_blocks (run_of word)) a b)
 
 -- the blocks of the first pointers, and of this one, are a part of all
 pub blocks_behind : (words : List ℕ) (i : ℕ) → flat_map run_blocks (runs_of words)

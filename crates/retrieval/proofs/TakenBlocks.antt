@@ -1,6 +1,6 @@
 -- Blocks that are taken from a table one after the other.
-use Rattle.std.proofs.Common.{◌≡◌, ◌⊎◌, ⊎_elim, inl, inr, ℕ, zero, suc, ◌+◌, ◌<◌, ◌≤◌, take, List, [], ◌∷◌, ◌++◌}
-use Rattle.std.proofs.Common.{length, refl, sym, ◌∙◌, ap, subst, arith}
+use Rattle.std.proofs.Common.{◌≡◌, ◌⊎◌, ⊎_elim, inl, inr, ℕ, zero, suc, ◌+◌, ◌<◌, ◌≤◌, List, [], ◌∷◌, ◌++◌, length}
+use Rattle.std.proofs.Common.{refl, sym, ◌∙◌, ap, subst, arith}
 use Rattle.std.specs.List.{AllByRecursion}
 use Rattle.std.proofs.lemmas.Bool.{cases_eq}
 use Rattle.spec_image.specs.Common.{times, space_start, InSpace}
@@ -128,27 +128,12 @@ module _ (t t' t'' : TableState) (at : ℕ) (sound : IsTable t) (fixed : IsFixed
   fits_after count fits = let a = ap used_in_space held in let b = used_one_more t at sound fixed inside free in
       let e = ap (λ (u : TableState). u.booked) held in omega arith
 
-  pub takes_all : (ribs blocks : List ℕ) → ribs ≡ blocks → Takes t' blocks t'' → Takes t (at ∷ ribs) t''
-  takes_all ribs blocks is takes = (
-    inside,
-    free,
-    subst (λ (l : List ℕ). Takes (with_held t at (holds t at + 1)) l t'') (sym is)
-        (subst (λ (u : TableState). Takes u blocks t'') held takes),
-  )
-
 -- what was taken may be written
 pub may_be_written : (size : ℕ) (t : TableState) (ns : List ℕ) (t' : TableState) → t.size ≡ size → IsTable t
     → IsFixed t → Takes t ns t' → (n : ℕ) → 0 < times n ns → IsFree t n × InSpace size n
 may_be_written size t ns t' is sound fixed takes n there =
     let each = takes_each t ns t' sound fixed takes n there in
     (each.1, subst (λ (s : ℕ). InSpace s n) is (record { from = free_in_space t n fixed each.1; below = each.0 }))
-
--- a vector that was written through a slice of all of it
-pub all_of : (len : ℕ) (blocks rest : List ℕ) → length blocks ≡ len → take len (blocks ++ rest) ≡ blocks
-all_of zero [] rest is = refl
-all_of zero (n ∷ ns) rest is = absurd (omega arith)
-all_of (suc len) [] rest is = absurd (omega arith)
-all_of (suc len) (n ∷ ns) rest is = ap (λ (l : List ℕ). n ∷ l) (all_of len ns rest (omega arith))
 
 pub later : (n at : ℕ) (ribs : List ℕ) → times n (at ∷ ribs) ≡ 0 → times n ribs ≡ 0
 later n at ribs is = omega arith

@@ -3,8 +3,7 @@ use Rattle.std.proofs.Common.{◌≡◌, ◌⊎◌, ⊎_elim, inl, inr, ℕ, ◌
 use Rattle.std.proofs.Common.{None, length, min, take, drop, replicate, refl, sym, ◌∙◌, ap, subst, arith}
 use Rattle.std.specs.Prelude.{slice_index, Bool, true, false, if◌then◌else◌, ◌==◌}
 use Rattle.std.proofs.lemmas.Bool.{cases_eq}
-use Rattle.std.proofs.lemmas.List.{length-take, get_or-take, get_or-drop, get_or-replicate, get_or_past}
-use Rattle.std.proofs.lemmas.List.{get_or_append_left, get_or-append_right}
+use Rattle.std.proofs.lemmas.List.{length-take, get_or-drop, get_or-replicate, get_or_past, get_or-append_right}
 use Rattle.blockdisk.specs.Common.{Contents}
 use Rattle.spec_image.specs.Common.{blocks_of, HasBody}
 use Rattle.retrieval.specs.Common.{AreWhole, unchanged_word, IsEdge, IsEdgeBlock, Stays}
@@ -83,13 +82,6 @@ module _ (contents : Contents) (blocks body : List ℕ) (whole : AreWhole conten
 -- The first words of a block, with zeros after them.
 module _ (block these front : List ℕ) (count n : ℕ) (is : n ≡ min count 128) (long : length block ≡ 128) (copied : these
     ≡ take n block) (front_is : front ≡ these ++ drop n (replicate 128 0)) where
-  pub front_words : (k : ℕ) → k < 128 → k < count → slice_index front k ≡ slice_index block k
-  front_words k few some =
-      let a = ap length copied ∙ length-take n block in
-      ap (λ (l : List ℕ). slice_index l k) front_is
-      ∙ get_or_append_left these (drop n (replicate 128 0)) 0 k (omega arith)
-      ∙ ap (λ (l : List ℕ). slice_index l k) copied ∙ get_or-take n block k 0 (omega arith)
-
   pub front_zeros : (k : ℕ) → k < 128 → count ≤ k → slice_index front k ≡ 0
   front_zeros k few past =
       let a = ap length copied ∙ length-take n block in

@@ -25,10 +25,6 @@ pub record IsOwn (t : TableState) (blocks : List ℕ) (n : ℕ) : Type 0 where
 abbrev pub AddsFree : TableState → List ℕ → List ℕ → Type 0
 AddsFree t old new = (n : ℕ) → (times n new ≤ times n old) ⊎ (IsFree t n × (times n new ≤ 1))
 
--- Each block of the new list is in the old one, or its bit is clear.
-abbrev pub AddsClear : TableState → List ℕ → List ℕ → Type 0
-AddsClear t old new = (n : ℕ) → 0 < times n new → (0 < times n old) ⊎ (bit t n ≡ 0)
-
 -- The blocks of a list that are held once, for it, are at the same places of another list.
 abbrev pub KeepsOwn : TableState → List ℕ → List ℕ → Type 0
 KeepsOwn t blocks others = (i : ℕ) → i < length blocks → bit t (slice_index blocks i) ≡ 0

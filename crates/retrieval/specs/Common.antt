@@ -10,7 +10,7 @@ pub use Rattle.retrieval.specs.RibWords.{SpellsExtension, SpellsPrime}
 pub use Rattle.retrieval.specs.VersionRead.{Extends, Follows, IsBadExtension, IsBadPrime, IsReadAs, IsReadTo}
 pub use Rattle.retrieval.specs.VersionRead.{IsStandingVersion, IsStarted, IsVersionAt, Overfills}
 pub use Rattle.retrieval.specs.VersionWrite.{AreApart, GrowsBy, IsFixed, Takes, extensions_of, rib_count}
-pub use Rattle.retrieval.specs.Bodies.{AddsClear, AddsFree, AreWhole, IsOwn, KeepsOwn, StandsAt}
+pub use Rattle.retrieval.specs.Bodies.{AddsFree, AreWhole, IsOwn, KeepsOwn, StandsAt}
 pub use Rattle.retrieval.specs.WordPlaces.{AtPlace, HoldsNew, IsEdge, IsEdgeBlock, IsNewBlock, IsPartlyPlaced}
 pub use Rattle.retrieval.specs.WordPlaces.{StandAlone, Stays, unchanged_word}
 pub use Rattle.retrieval.specs.PrimeWords.{IsPrimeOf}

@@ -15,7 +15,3 @@ runs_of words = map run_of words
 pub record ArePointers (words : List ℕ) (count : ℕ) : Type 0 where
   pub runs : AllByRecursion IsRun (runs_of (take count words))
   pub zeros : drop count words ≡ replicate (length words - count) 0
-
--- a run of its own for each block
-abbrev pub one_each : List ℕ → List SpecRun
-one_each blocks = map (λ n. (1, n)) blocks

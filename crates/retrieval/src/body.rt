@@ -1,6 +1,6 @@
 //! The words of a body, read from its data blocks.
-ghost use Rattle.std.specs.Prelude.{◌≡◌, ◌+◌, ◌-◌, ◌*◌, ◌<◌, ◌≤◌, ◌^◌, ℕ, List, [], Some, None, IfOk, OnOk, IsErrOf};
-ghost use Rattle.std.specs.Prelude.{length, min, get_or, slice_index, take, vec_capacity};
+ghost use Rattle.std.specs.Prelude.{◌≡◌, ◌+◌, ◌-◌, ◌*◌, ◌<◌, ◌≤◌, ℕ, List, [], Some, None, IfOk, OnOk, IsErrOf, length};
+ghost use Rattle.std.specs.Prelude.{min, get_or, slice_index, take, vec_capacity};
 ghost use Rattle.std.specs.List.{AllByRecursion};
 ghost use Rattle.blockdisk.specs.Common.{Keeps, SameDisk, one_more};
 ghost use Rattle.spec_image.specs.Common.{blocks_of, InSpace, times, HasBody, block_start, words_from};

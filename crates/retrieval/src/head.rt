@@ -1,6 +1,5 @@
 //! The first words of prime blocks and extensions.
 ghost use Rattle.std.specs.Prelude.{◌≡◌, ◌+◌, ◌*◌, ◌/◌, ◌%◌, ◌<◌, ◌≤◌, ◌^◌, ℕ, IfSome, IfNone};
-ghost use Rattle.words36.specs.Common.{IsPpn};
 ghost use Rattle.spec_image.specs.Common.{layout_number, SpecPrime, extension_word, date_limit};
 ghost use Rattle.spec_image.specs.Retrieval.{attributes};
 ghost use Rattle.retrieval.specs.Common.{mode_number, with_length, IsAttributes, IsPrimeHead, IsExtensionHead};

@@ -1,5 +1,5 @@
 //! What the words of a prime block or an extension say.
-ghost use Rattle.std.specs.Prelude.{◌≡◌, ◌↔◌, ℕ, List, IsTrue, IfSome, IfNone, take, drop};
+ghost use Rattle.std.specs.Prelude.{◌↔◌, ℕ, List, IsTrue, IfSome, IfNone, take, drop};
 ghost use Rattle.spec_image.specs.Common.{layout_number, SpecPrime, SpecRun};
 ghost use Rattle.retrieval.specs.Common.{with_length, runs_of, IsPrimeOf, SpellsPrime, SpellsExtension};
 

@@ -1,5 +1,5 @@
 //! The tests for the pointers of a retrieval block.
-ghost use Rattle.std.specs.Prelude.{◌≡◌, ◌≤◌, ◌↔◌, IsTrue, length};
+ghost use Rattle.std.specs.Prelude.{◌≤◌, ◌↔◌, IsTrue, length};
 ghost use Rattle.std.specs.List.{AllByRecursion};
 ghost use Rattle.spec_image.specs.Common.{IsRun};
 ghost use Rattle.retrieval.specs.Common.{run_of, runs_of, ArePointers};

@@ -1,10 +1,9 @@
 //! A version, read from its prime block and its extensions.
-ghost use Rattle.std.specs.Prelude.{◌≡◌, ◌*◌, ◌<◌, ◌≤◌, ◌^◌, ◌⊎◌, ℕ, List, IsTrue, Some, None, IfSome, IfNone, IfOk};
-ghost use Rattle.std.specs.Prelude.{OnOk, IsErrOf, length};
+ghost use Rattle.std.specs.Prelude.{◌≡◌, ◌*◌, ◌<◌, ◌≤◌, ◌^◌, ◌⊎◌, ℕ, List, Some, None, IfOk, IsErrOf, length};
 ghost use Rattle.std.specs.List.{AllByRecursion};
 ghost use Rattle.blockdisk.specs.Common.{Keeps, SameDisk, one_more};
-ghost use Rattle.spec_image.specs.Common.{blocks_of, layout_number, IsVolumeSize, SpecPrime, IsRetrieved};
-ghost use Rattle.spec_image.specs.Common.{most_blocks, InSpace, IsBadVersion};
+ghost use Rattle.spec_image.specs.Common.{blocks_of, layout_number, IsVolumeSize, SpecPrime, IsRetrieved, most_blocks};
+ghost use Rattle.spec_image.specs.Common.{InSpace, IsBadVersion};
 ghost use Rattle.retrieval.specs.Common.{IsBadPrime, IsBadExtension, Overfills, IsStarted, Extends, IsVersionAt};
 ghost use Rattle.retrieval.specs.Common.{IsReadAs, IsStandingVersion, rib_count};
 ghost use Rattle.retrieval.specs.declared.error.RetrievalError.TheVariants.{BadRetrieval, Device, NoMemory};

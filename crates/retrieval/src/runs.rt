@@ -1,5 +1,5 @@
 //! The blocks that pointers name, added to a version.
-ghost use Rattle.std.specs.Prelude.{◌≡◌, ◌+◌, ◌<◌, ◌≤◌, ◌^◌, ◌++◌, ℕ, OnOk, OnErr, IsErrOf, length, flat_map};
+ghost use Rattle.std.specs.Prelude.{◌≡◌, ◌+◌, ◌<◌, ◌≤◌, ◌^◌, OnOk, IsErrOf, length, flat_map};
 ghost use Rattle.std.specs.List.{AllByRecursion};
 ghost use Rattle.spec_image.specs.Common.{IsVolumeSize, RunsInSpace, InSpace, IsRun, run_blocks, count_up};
 ghost use Rattle.retrieval.specs.Common.{run_of, runs_of, with_blocks};

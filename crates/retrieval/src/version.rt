@@ -1,7 +1,7 @@
 //! A version in memory: its length, its data blocks and its ribs.
 ghost use Rattle.std.specs.Prelude.{◌≡◌, ◌+◌, ◌-◌, ◌<◌, ◌≤◌, ◌++◌, ◌∷◌, ℕ, [], slice_set, slice_get, slice_index};
-ghost use Rattle.std.specs.Prelude.{length, Some, IfOk, OnOk, OnErr};
-ghost use Rattle.retrieval.specs.Common.{BlocksState, blocks_of_runs, pairs_of, longest_runs, VersionState};
+ghost use Rattle.std.specs.Prelude.{length, IfOk, OnOk, OnErr};
+ghost use Rattle.retrieval.specs.Common.{blocks_of_runs, pairs_of, longest_runs, VersionState};
 
 use crate::block_list::BlockList;
 use crate::run::Run;

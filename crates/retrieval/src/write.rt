@@ -1,12 +1,12 @@
 //! The retrieval blocks of a version, taken from the table and written.
-ghost use Rattle.std.specs.Prelude.{◌≡◌, ◌+◌, ◌-◌, ◌/◌, ◌<◌, ◌≤◌, ◌^◌, ◌∷◌, ℕ, map, length, take, drop, Some, OnOk};
-ghost use Rattle.std.specs.Prelude.{◌*◌, IfOk, IsErrOf};
+ghost use Rattle.std.specs.Prelude.{◌≡◌, ◌+◌, ◌-◌, ◌/◌, ◌<◌, ◌≤◌, ◌^◌, ◌∷◌, ℕ, length, take, drop, Some, OnOk, ◌*◌};
+ghost use Rattle.std.specs.Prelude.{IfOk, IsErrOf};
 ghost use Rattle.std.specs.List.{AllByRecursion};
 ghost use Rattle.blockdisk.specs.Common.{SameDisk, Modifies, one_more};
 ghost use Rattle.blockdisk.specs.declared.fault.Fault.TheVariants.{Device as DeviceFault, Damaged};
 ghost use Rattle.spec_image.specs.Common.{head_or_zero, blocks_of, InSpace, times, IsVolumeSize, IsRun, prime_block};
 ghost use Rattle.spec_image.specs.Common.{extension_block, AreExtensions, IsRetrieved, date_limit};
-ghost use Rattle.alloctab.specs.Common.{IsTable, IsFree, holds, space, used_in_space, with_held};
+ghost use Rattle.alloctab.specs.Common.{IsTable, IsFree, space, used_in_space};
 ghost use Rattle.retrieval.specs.Common.{pairs_of, longest_runs, ribs_of, with_length, IsStandingVersion, rib_count};
 ghost use Rattle.retrieval.specs.Common.{Takes, AreApart, IsFixed, extensions_of};
 ghost use Rattle.retrieval.specs.declared.error.RetrievalError.TheVariants.{BadRetrieval, Device, NoMemory};

@@ -1,5 +1,5 @@
 -- A chain that was read whole: each walk from its first block goes over a front of it.
-use Rattle.std.proofs.Common.{◌≡◌, ℕ, List, [], ◌∷◌, ◌++◌, Some, sym, ap, ◌∙◌, arith, nat_cmp, Ordering}
+use Rattle.std.proofs.Common.{◌≡◌, ℕ, List, ◌++◌, Some, sym, ap, ◌∙◌, nat_cmp, Ordering}
 use Rattle.std.specs.Cmp.{nat_cmp_total}
 use Rattle.std.specs.FinMap.Entries.{find}
 use Rattle.std.specs.List.{AllByRecursion}

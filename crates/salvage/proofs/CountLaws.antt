@@ -1,29 +1,15 @@
 -- Blocks that are counted one after the other.
-use Rattle.std.proofs.Common.{◌≡◌, ℕ, zero, suc, ◌+◌, ◌<◌, ◌≤◌, min, List, [], ◌∷◌, ◌++◌, length, get_or, slice_index}
-use Rattle.std.proofs.Common.{slice_set, take, replicate, refl, sym, ap, subst, ◌∙◌, arith, ⊎_elim, Option, None}
-use Rattle.std.proofs.Common.{Some, IfSome, IfNone}
+use Rattle.std.proofs.Common.{◌≡◌, ℕ, zero, suc, ◌+◌, ◌<◌, ◌≤◌, List, [], ◌∷◌, ◌++◌, length, get_or, slice_index, take}
+use Rattle.std.proofs.Common.{replicate, refl, sym, ap, subst, ◌∙◌, arith, ⊎_elim, Option, None, Some, IfSome, IfNone}
 use Rattle.std.specs.List.{AllByRecursion}
 use Rattle.std.proofs.lemmas.Bool.{cases_eq, cases_lt}
-use Rattle.std.proofs.lemmas.List.{take_more, take_all, get_or-set_same, get_or-set_other, get_or-replicate}
-use Rattle.std.proofs.lemmas.List.{get_or_past, length-replicate}
+use Rattle.std.proofs.lemmas.List.{take_more, take_all, get_or-replicate, get_or_past, length-replicate}
 use Rattle.spec_image.specs.Common.{times}
 use Rattle.spec_image.proofs.Common.{times-append, total-append}
-use Rattle.changeset.specs.Common.{times_head, times_tail}
+use Rattle.changeset.specs.Common.{times_tail}
 use Rattle.volume.proofs.common.MarkedBlocks.{times_parts}
 use Rattle.salvage.specs.Common.{CountTo, FitsDisk, blocks_of, claims}
 use Rattle.salvage.specs.declared.saved.SavedFile.{SavedFile}
-
--- a block that is counted once more
-pub counted_once : (counts : List ℕ) (b v : ℕ) (f : ℕ → ℕ) → b < length counts
-    → v ≡ min (min (slice_index counts b + 1) 255) 2 → CountTo counts f
-    → CountTo (slice_set counts b v) (λ m. f m + times m (b ∷ []))
-counted_once counts b v f inside is so_far m = ⊎_elim
-    (λ same. let here : slice_index (slice_set counts b v) m ≡ v = ap (slice_index (slice_set counts b v)) same
-    ∙ get_or-set_same counts b v 0 inside in
-    let was = so_far b in let at = ap f same in let one = times_head m b [] same in omega arith)
-    (λ other. let there : slice_index (slice_set counts b v) m ≡ slice_index counts m
-    = get_or-set_other counts b m v 0 other in
-    let was = so_far m in let none = times_tail m b [] other in omega arith) (cases_eq m b)
 
 -- Counting adds these numbers to whatever was counted.
 abbrev pub Adds : List ℕ → List ℕ → (ℕ → ℕ) → Type 0

@@ -112,17 +112,6 @@ none_at m (x ∷ xs) others =
     let here = times_tail m x.at (map (λ (file : SavedFile). file.at) xs) (λ same. others.0 (sym same)) in
     here ∙ rest
 
-pub found_from : (size layout : ℕ) (contents : Contents) (counts : List ℕ) (start : ℕ)
-    → ((n : ℕ) → InSpace size n → start ≤ n) → AreFound size layout contents counts [] start
-found_from size layout contents counts start from = record {
-  read = tt;
-  apart = λ m. omega arith;
-  earlier = tt;
-  elsewhere = tt;
-  used = tt;
-  all = λ file inside before. absurd (let a = from file.at inside in omega arith);
-}
-
 module _ (size layout : ℕ) (contents : Contents) (counts : List ℕ) (files : List SavedFile) (n : ℕ)
     (found : AreFound size layout contents counts files n) where
   earlier_more : AllByRecursion (λ file. file.at < n + 1) files

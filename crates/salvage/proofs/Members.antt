@@ -34,11 +34,6 @@ pub contains_right : {X : Type 0} (y : X) (xs ys : List X) → Contains ys y →
 contains_right y [] ys there = there
 contains_right y (x ∷ xs) ys there = contains_later x y (xs ++ ys) (contains_right y xs ys there)
 
-pub all_contained : {X : Type 0} (P : X → Type 0) (y : X) (xs : List X) → AllByRecursion P xs → Contains xs y → P y
-all_contained P y [] all there = absurd (contains_none y there)
-all_contained P y (x ∷ xs) all there = ⊎_elim (λ is. subst P is all.0) (λ later. all_contained P y xs all.1 later)
-    (contains_first x y xs there)
-
 -- each element is in its list
 pub each_contained : {X : Type 0} (xs : List X) → AllByRecursion (Contains xs) xs
 each_contained [] = tt

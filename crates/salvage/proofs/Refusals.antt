@@ -3,8 +3,8 @@ use Rattle.std.proofs.Common.{◌≡◌, ◌⊎◌, inl, inr, ⊎_elim, ℕ, Boo
 use Rattle.std.proofs.Common.{ap, subst, ◌∙◌, arith, nat_cmp, zero, suc, false, replicate}
 use Rattle.blockdisk.specs.Common.{Contents}
 use Rattle.spec_image.specs.Common.{master_words, file_words, IsFileEntry, InSpace, IsBadVersion, IsMasterEntryOf}
-use Rattle.spec_image.specs.Common.{IsNotVolume, IsBadHome, name_cmp, SpecHome, IsHome, layout_number, IsVolumeSize}
-use Rattle.spec_image.specs.Common.{place_of, IsDirectoryNamed, IsFileNamed}
+use Rattle.spec_image.specs.Common.{name_cmp, IsHome, layout_number, IsVolumeSize, place_of, IsDirectoryNamed}
+use Rattle.spec_image.specs.Common.{IsFileNamed}
 use Rattle.spec_image.specs.declared.layout.Layout.{Layout}
 use Rattle.words36.specs.declared.names.FileName.{FileName}
 use Rattle.alloctab.specs.Common.{digit_at}
@@ -119,40 +119,6 @@ master_refused size layout contents first result error is volume home only bad t
       twice = twice met.0 (is ∙ ap Err met.1);
     })) some))
     (refusal IsChainRefusal result error is only)
-
--- Home blocks.
-
-pub home_refused : {T : Type 0} (size layout : ℕ) (contents : Contents) (result : Result T VolumeError)
-    (error : VolumeError) → result ≡ Err error
-    → ((e : VolumeError) → result ≡ Err e → (e ≡ NotVolume) ⊎ (e ≡ BadHome) ⊎ (e ≡ Device))
-    → (result ≡ Err NotVolume → IsNotVolume size contents) → (result ≡ Err BadHome → IsBadHome size contents)
-    → MayRefuse size layout contents cost.Directories error
-home_refused size layout contents result error is only not_volume bad = ⊎_elim
-    (λ met. inr (subst (λ (e : VolumeError). IsFaultAt size layout contents e cost.Directories) (sym met)
-    (not_volume (is ∙ ap Err met))))
-    (λ some. ⊎_elim
-    (λ met. inr (subst (λ (e : VolumeError). IsFaultAt size layout contents e cost.Directories) (sym met)
-    (bad (is ∙ ap Err met))))
-    (λ met. inl (inl met)) some) (only error is)
-
--- if it was refused, no copy is valid
-pub no_home : {T : Type 0} (size : ℕ) (contents : Contents) (result : Result T VolumeError) (error : VolumeError)
-    → result ≡ Err error → (IsNoFault error → ⊥) → IsVolumeSize size
-    → ((e : VolumeError) → result ≡ Err e → (e ≡ NotVolume) ⊎ (e ≡ BadHome) ⊎ (e ≡ Device))
-    → (result ≡ Err NotVolume → IsNotVolume size contents) → (result ≡ Err BadHome → IsBadHome size contents)
-    → (home : SpecHome) → IsHome size contents home → ⊥
-no_home size contents result error is fault volume only not_volume bad home copy = ⊎_elim
-    (λ met. unnamed (not_volume (is ∙ ap Err met)) copy)
-    (λ some. ⊎_elim (λ met. invalid (bad (is ∙ ap Err met)) copy) (λ met. fault (inl met)) some) (only error is)
-  where
-    unnamed : IsNotVolume size contents → IsHome size contents home → ⊥
-    unnamed (inl out) valid = out volume
-    unnamed (inr none) (inl valid) = none.0 (_, valid.words)
-    unnamed (inr none) (inr valid) = none.1 (_, (valid.1).words)
-
-    invalid : IsBadHome size contents → IsHome size contents home → ⊥
-    invalid none (inl valid) = none.first home valid
-    invalid none (inr valid) = none.second home valid.1
 
 -- What a chain is refused with, as a start would name it.
 

@@ -1,13 +1,10 @@
 -- A directory's chain of blocks, and the directory after an entry gets another value or is put in. ChainRemoval takes
 -- one out. Each edit takes the chain before it by its shape, and what the new contents have in the blocks that changed.
 -- In each section `o` states that the order of the keys is total, and `exact` that only equal keys tie in it.
-use Rattle.std.proofs.Common.{◌≡◌, ℕ, ◌+◌, ◌*◌, ◌<◌, ◌≤◌, Bool, true, false, cond, List, [], ◌∷◌, ◌++◌, length}
-use Rattle.std.proofs.Common.{Option, Some, None, ◌⊎◌, inl, inr, refl, sym, ap, subst, ◌∙◌, arith, Ordering}
-use Rattle.std.proofs.Common.{append_assoc, append-nil, length-append, lit<, lit≤}
+use Rattle.std.proofs.Common.{◌≡◌, ℕ, ◌+◌, ◌*◌, ◌<◌, ◌≤◌, List, [], ◌∷◌, ◌++◌, length, Some, None, ◌⊎◌, inl, inr, refl}
+use Rattle.std.proofs.Common.{sym, ap, subst, ◌∙◌, arith, Ordering, append_assoc, append-nil, length-append, lit<, lit≤}
 use Rattle.std.proofs.lemmas.List.{append_cancel_right, length-map}
 use Rattle.std.specs.List.{AllByRecursion}
-use Rattle.std.specs.Option.{option_or}
-use Rattle.std.specs.Ordering.{eq_by_cmp}
 use Rattle.std.specs.Cmp.{IsTotalOrder}
 use Rattle.std.specs.FinMap.{IsAntisymmetric}
 use Rattle.std.specs.FinMap.Entries.{find}
@@ -18,8 +15,8 @@ use Rattle.spec_image.specs.Directories.{IsDirectory}
 use Rattle.spec_image.specs.Costs.{directory_cost}
 use Rattle.spec_image.specs.Blocks.{AgreeOn}
 use Rattle.spec_image.proofs.Lists.{times_here, times_later}
-use Rattle.spec_image.proofs.MapLaws.{some_same, some_none, tied, get-removed, insert-removed}
-use Rattle.spec_image.proofs.MapLists.{find-append_both, get-from_entries}
+use Rattle.spec_image.proofs.MapLaws.{get-removed, insert-removed}
+use Rattle.spec_image.proofs.MapLists.{get-from_entries}
 use Rattle.spec_image.proofs.MapSums.{times-append, size-from_entries}
 use Rattle.spec_image.proofs.MapEdits.{EachOnce-without, EachOnce-around, from_entries_around, from_entries_without}
 
@@ -30,12 +27,6 @@ pub record HasLast {X : Type 0} (zs : List X) : Type 0 where
   pub front : List X
   pub last : X
   pub is : zs ≡ front ++ last ∷ []
-
--- The element is in the list, between `xs` and `ys`.
-pub record IsWithin {X : Type 0} (x : X) (zs : List X) : Type 0 where
-  pub xs : List X
-  pub ys : List X
-  pub is : zs ≡ xs ++ x ∷ ys
 
 -- a list that is not empty has a last element
 pub has_last : {X : Type 0} (x : X) (xs : List X) → HasLast (x ∷ xs)
@@ -208,40 +199,6 @@ module _ {K V : Type 0} {R : K → K → Ordering} (o : IsTotalOrder R) (exact :
 
 -- What a directory's chain is.
 
--- The entry is in a block of the chain.
-pub record HasEntry {E : Type 0} (nodes : List (Node E)) (e : E) : Type 0 where
-  pub pre : List (Node E)
-  pub n : ℕ
-  pub xs : List E
-  pub ys : List E
-  pub post : List (Node E)
-  pub is : nodes ≡ pre ++ (n, xs ++ e ∷ ys) ∷ post
-
-module _ {K V : Type 0} {R : K → K → Ordering} (o : IsTotalOrder R) (exact : IsAntisymmetric R) where
-  -- what is found in a list is in it, with its key
-  found_within : (es : List (K × V)) (k : K) (v : V) → find R k es ≡ Some v → IsWithin (k, v) es
-  found_within [] k v h = absurd (some_none (sym h))
-  found_within (e ∷ es) k v h = step (eq_by_cmp R k e.0) refl h (found_within es k v)
-    where
-      step : (b : Bool) → eq_by_cmp R k e.0 ≡ b → cond b (Some e.1) (find R k es) ≡ Some v
-          → (find R k es ≡ Some v → IsWithin (k, v) es) → IsWithin (k, v) (e ∷ es)
-      step true t s rest = record { xs = []; ys = es; is = λ i. (sym (tied o exact k e.0 t) i, some_same s i) ∷ es }
-      step false t s rest = let r = rest s in record { xs = e ∷ r.xs; ys = r.ys; is = ap (λ zs. e ∷ zs) r.is }
-
-  -- what is found in a chain is in one of its blocks
-  found_in_block : (nodes : List (Node (K × V))) (k : K) (v : V) → find R k (items nodes) ≡ Some v
-      → HasEntry nodes (k, v)
-  found_in_block [] k v h = absurd (some_none (sym h))
-  found_in_block (a ∷ nodes) k v h = step (find R k a.1) refl (sym (find-append_both R a.1 (items nodes) k)
-      ∙ h) (found_in_block nodes k v)
-    where
-      step : (r : Option V) → find R k a.1 ≡ r → option_or r (find R k (items nodes)) ≡ Some v
-          → (find R k (items nodes) ≡ Some v → HasEntry nodes (k, v)) → HasEntry (a ∷ nodes) (k, v)
-      step None t s rest = let r = rest s in
-          record { pre = a ∷ r.pre; n = r.n; xs = r.xs; ys = r.ys; post = r.post; is = ap (λ zs. a ∷ zs) r.is }
-      step (Some x) t s rest = let r = found_within a.1 k v (t ∙ s) in
-          record { pre = []; n = a.0; xs = r.xs; ys = r.ys; post = nodes; is = ap (λ es. (a.0, es) ∷ nodes) r.is }
-
 module _ {K V : Type 0} {R : K → K → Ordering} (o : IsTotalOrder R) (exact : IsAntisymmetric R) (words : K × V
     → List ℕ) (IsEntry : K × V → Type 0) (contents : Contents) (blocks : List ℕ) (m : FinMap R V)
     (d : IsDirectory R words IsEntry contents blocks m) where
@@ -260,19 +217,6 @@ module _ {K V : Type 0} {R : K → K → Ordering} (o : IsTotalOrder R) (exact :
       let entries = size-from_entries o exact (items d.nodes) d.each_once in
       ap length (sym d.blocks_are) ∙ length-map d.nodes (λ node. node.0) ∙ length_filled d.nodes d.filled
       ∙ ap directory_cost (sym entries ∙ ap size d.map_is)
-
-  -- a directory has a last block
-  pub last_block : HasLast d.nodes
-  last_block = at d.nodes d.filled
-    where
-      at : (nodes : List (Node (K × V))) → IsFilled nodes → HasLast nodes
-      at [] f = absurd f
-      at (a ∷ nodes) f = has_last a nodes
-
-  -- an entry of the map is in a block
-  pub block_of_entry : (k : K) (v : V) → get m k ≡ Some v → HasEntry d.nodes (k, v)
-  block_of_entry k v is = found_in_block o exact d.nodes k v (sym (get-from_entries o (items d.nodes) k)
-      ∙ ap (λ n. get n k) d.map_is ∙ is)
 
 -- The edits. In them `us` are the entries of the blocks before the one that is named first.
 

@@ -65,11 +65,6 @@ module _ {K X : Type 0} {R : K → K → Ordering} (o : IsTotalOrder R) where
   EachOnce-push es k v none u = EachOnce-around es (k, v) [] (ap (find R k) (append-nil es)
       ∙ none) (subst (EachOnce R) (sym (append-nil es)) u)
 
-  pub EachOnce-replaced : (us : List (K × X)) (k : K) (v w : X) (vs : List (K × X)) → EachOnce R (us ++ (k, v) ∷ vs)
-      → EachOnce R (us ++ (k, w) ∷ vs)
-  EachOnce-replaced us k v w vs u = let rest = EachOnce-without us (k, v) vs u in
-      EachOnce-around us (k, w) vs rest.0 rest.1
-
   module _ (exact : IsAntisymmetric R) where
     pub from_entries_alike : (es fs : List (K × X)) → ((q : K) → find R q es ≡ find R q fs)
         → from_entries {R = R} es ≡ from_entries fs

@@ -29,13 +29,6 @@ twice : {A : Type 0} (b : Bool) (x y z : A) → cond b x (cond b y z) ≡ cond b
 twice true x y z = refl
 twice false x y z = refl
 
--- two tests change places, if both give one answer or at most one of them holds
-swapped : {A : Type 0} (a b : Bool) (x y z : A) → (a ≡ true → b ≡ true → x ≡ y)
-    → cond a x (cond b y z) ≡ cond b y (cond a x z)
-swapped true true x y z both = both refl refl
-swapped true false x y z both = refl
-swapped false b x y z both = refl
-
 -- Two keys.
 
 module _ {K : Type 0} {R : K → K → Ordering} (o : IsTotalOrder R) where
@@ -65,10 +58,6 @@ module _ {K : Type 0} {R : K → K → Ordering} (o : IsTotalOrder R) where
         decide : (b : Bool) → eq_by_cmp R q k ≡ b → b ≡ false
         decide true e = absurd (differ (tied q k e))
         decide false e = refl
-
-    -- no key is equal to two different keys
-    not_both : (x k q : K) → q ≢ k → eq_by_cmp R x q ≡ true → eq_by_cmp R x k ≡ true → ⊥
-    not_both x k q differ a b = differ (sym (tied x q a) ∙ tied x k b)
 
 -- What each operation answers.
 
@@ -197,17 +186,3 @@ module _ {K X : Type 0} {R : K → K → Ordering} (o : IsTotalOrder R) (exact :
 
   pub remove-insert_new : (m : FinMap R X) (k : K) (v : X) → get m k ≡ None → remove (insert m k v) k ≡ m
   remove-insert_new m k v is = remove-insert_same m k v ∙ remove_none m k is
-
-  pub remove-remove : (m : FinMap R X) (k q : K) → remove (remove m k) q ≡ remove (remove m q) k
-  remove-remove m k q = same_map _ _
-      (λ x. simp (get-remove {X = X} o) (swapped (eq_by_cmp R x q) (eq_by_cmp R x k) _ _ _ (λ a b. refl)))
-
-  pub insert-insert_other : (m : FinMap R X) (k : K) (v : X) (q : K) (w : X) → q ≢ k
-      → insert (insert m k v) q w ≡ insert (insert m q w) k v
-  insert-insert_other m k v q w differ = same_map _ _ (λ x. simp (get-insert {X = X} o)
-      (swapped (eq_by_cmp R x q) (eq_by_cmp R x k) _ _ _ (λ a b. absurd (not_both o exact x k q differ a b))))
-
-  pub remove-insert_other : (m : FinMap R X) (k : K) (v : X) (q : K) → q ≢ k
-      → remove (insert m k v) q ≡ insert (remove m q) k v
-  remove-insert_other m k v q differ = same_map _ _ (λ x. simp (get-insert {X = X} o, get-remove {X = X} o)
-      (swapped (eq_by_cmp R x q) (eq_by_cmp R x k) _ _ _ (λ a b. absurd (not_both o exact x k q differ a b))))

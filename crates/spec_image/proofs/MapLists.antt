@@ -2,8 +2,8 @@
 -- for each entry. In each section `o` states that the order of the keys is total, and `exact` that only equal keys tie
 -- in it.
 use Rattle.std.proofs.Common.{◌≡◌, ℕ, zero, suc, ◌<◌, Bool, true, false, cond, ◌&&◌, T, List, [], ◌∷◌, ◌++◌, map}
-use Rattle.std.proofs.Common.{length, Option, Some, None, option_map, get_or, map-id, refl, sym, ap, subst, ◌∙◌}
-use Rattle.std.proofs.Common.{Ordering, Less, Equal, Greater, arith}
+use Rattle.std.proofs.Common.{length, Option, Some, None, option_map, get_or, refl, sym, ap, subst, ◌∙◌, Ordering, Less}
+use Rattle.std.proofs.Common.{Equal, Greater, arith}
 use mathlib.Core.List.{map-map}
 use Rattle.std.specs.Ordering.{eq_by_cmp, is_eq, is_lt}
 use Rattle.std.specs.Option.{option_or}
@@ -106,18 +106,10 @@ module _ {K X : Type 0} {R : K → K → Ordering} (o : IsTotalOrder R) where
       at (f ∷ fs) a zero l = a.0
       at (f ∷ fs) a (suc n) l = at fs a.1 n (omega arith)
 
-  -- an entry of the map is what `get` answers
-  pub get-entry : (m : FinMap R X) (q : K) (x : X) → Contains (entries m) (q, x) → get m q ≡ Some x
-  get-entry m q x c = get-entries m q ∙ find-contains (entries m) q x (EachOnce-entries m) c
-
   pub get-from_entries : (es : List (K × X)) (q : K) → get (from_entries {R = R} es) q ≡ find R q es
   get-from_entries [] q = get-empty R X q
   get-from_entries (e ∷ es) q = get-insert o (from_entries es) e.0 e.1 q
       ∙ ap (cond (eq_by_cmp R q e.0) (Some e.1)) (get-from_entries es q)
-
-  pub get-from_entries_append : (es fs : List (K × X)) (q : K) → get (from_entries {R = R} (es ++ fs)) q
-      ≡ option_or (get (from_entries {R = R} es) q) (get (from_entries {R = R} fs) q)
-  get-from_entries_append es fs q = simp (get-from_entries) (find-append_both R es fs q)
 
   -- a list whose keys rise is the list of its map
   pub entries-from_sorted : (es : List (K × X)) → T (is_sorted R es) → entries (from_entries {R = R} es) ≡ es
@@ -194,35 +186,14 @@ module _ {K X : Type 0} {R : K → K → Ordering} (o : IsTotalOrder R) (exact :
       step true t h rest = (0, omega arith, λ i. (sym (tied o exact q e.0 t) i, some_same h i))
       step false t h rest = let c = rest h in (suc c.0, omega arith, c.2)
 
-  -- what `get` answers is an entry of the map
-  pub entry-get : (m : FinMap R X) (q : K) (x : X) → get m q ≡ Some x → Contains (entries m) (q, x)
-  entry-get m q x is = contains-found (entries m) q x (sym (get-entries m q) ∙ is)
-
   pub from_entries-entries : (m : FinMap R X) → from_entries (entries m) ≡ m
   from_entries-entries m = same_map o exact _ _ (λ q. get-from_entries o (entries m) q ∙ sym (get-entries m q))
-
-  pub map_values_identity : (m : FinMap R X) → map_values (λ x. x) m ≡ m
-  map_values_identity m = ap from_entries (map-id (entries m)) ∙ from_entries-entries m
 
   -- to push an entry whose key is new is to insert it, and one whose key is not new is lost
   pub from_entries_push : (es : List (K × X)) (k : K) (v : X) → find R k es ≡ None
       → from_entries {R = R} (es ++ (k, v) ∷ []) ≡ insert (from_entries es) k v
   from_entries_push es k v none = same_map o exact _ _ (λ q. get-from_entries o _ q ∙ find-append R o es k v q none
       ∙ sym (get-insert o _ k v q ∙ ap (cond (eq_by_cmp R q k) (Some v)) (get-from_entries o es q)))
-
-  pub from_entries_push_over : (es : List (K × X)) (k : K) (v w : X) → find R k es ≡ Some w
-      → from_entries {R = R} (es ++ (k, v) ∷ []) ≡ from_entries es
-  from_entries_push_over es k v w is = same_map o exact _ _ (λ q. get-from_entries o _ q
-      ∙ find-append_both R es ((k, v) ∷ []) q ∙ first q (eq_by_cmp R q k) refl ∙ sym (get-from_entries o es q))
-    where
-      kept : (x : Option X) → option_or x None ≡ x
-      kept None = refl
-      kept (Some x) = refl
-
-      first : (q : K) (b : Bool) → eq_by_cmp R q k ≡ b → option_or (find R q es) (cond b (Some v) None) ≡ find R q es
-      first q true t = let here : find R q es ≡ Some w = ap (λ x. find R x es) (tied o exact q k t) ∙ is in
-          ap (λ x. option_or x (Some v)) here ∙ sym here
-      first q false t = kept (find R q es)
 
   module _ {Y : Type 0} (f : X → Y) where
     pub mapped-from_entries : (es : List (K × X)) → map_values f (from_entries {R = R} es)
@@ -249,16 +220,6 @@ module _ {K X : Type 0} {R : K → K → Ordering} (o : IsTotalOrder R) (exact :
         inside : (b : Bool) (x : Option X) → option_map f (cond b None x) ≡ cond b None (option_map f x)
         inside true x = refl
         inside false x = refl
-
-    -- f and g alike on what the map has
-    pub map_values_alike : (g : X → Y) (m : FinMap R X) → ((q : K) (x : X) → get m q ≡ Some x → f x ≡ g x)
-        → map_values f m ≡ map_values g m
-    map_values_alike g m alike = same_map o exact _ _ (λ q. get-map_values o f m q ∙ at q (get m q) refl
-        ∙ sym (get-map_values o g m q))
-      where
-        at : (q : K) (x : Option X) → get m q ≡ x → option_map f x ≡ option_map g x
-        at q None is = refl
-        at q (Some x) is = ap Some (alike q x is)
 
     -- two maps whose values look alike under f are equal, if f distinguishes their values
     pub same_under : (m n : FinMap R X) → map_values f m ≡ map_values f n

@@ -1,8 +1,7 @@
 -- Laws of sums over lists and over maps, of the size of a map, and of how often a number is in a list. In each section
 -- `o` states that the order of the keys is total, and `exact` that only equal keys tie in it.
-use Rattle.std.proofs.Common.{◌≡◌, ℕ, zero, suc, ◌+◌, ◌<◌, ◌≤◌, Bool, true, false, cond, List, [], ◌∷◌, ◌++◌, map}
-use Rattle.std.proofs.Common.{length, Option, Some, None, ◌≢◌, refl, sym, ap, ◌∙◌, arith, Ordering, Less, Equal}
-use Rattle.std.proofs.Common.{Greater}
+use Rattle.std.proofs.Common.{◌≡◌, ℕ, ◌+◌, ◌≤◌, Bool, true, false, cond, List, [], ◌∷◌, ◌++◌, map, length, Option, Some}
+use Rattle.std.proofs.Common.{None, ◌≢◌, refl, sym, ap, ◌∙◌, arith, Ordering, Less, Equal, Greater}
 use Rattle.std.proofs.lemmas.Bool.{eq-eqb, ne_eqb}
 use Rattle.std.specs.Ordering.{eq_by_cmp, is_eq}
 use Rattle.std.specs.Cmp.{IsTotalOrder}
@@ -13,8 +12,7 @@ use Rattle.spec_image.specs.Maps.{FinMap, entries, empty, get, insert, remove, s
 use Rattle.spec_image.specs.Maps.{EachOnce, total, sum_entries, sum_over, times}
 use Rattle.spec_image.proofs.MapLaws.{some_none, apart, get-entries, size-entries, entries-empty, entries-insert}
 use Rattle.spec_image.proofs.MapLaws.{get-removed, get-remove_other, insert-removed, insert_same, same_entries_map}
-use Rattle.spec_image.proofs.MapLists.{EachOnce-entries, find_first, find_later, each_in_entries, get-from_entries}
-use Rattle.spec_image.proofs.MapLists.{entries-map_values}
+use Rattle.spec_image.proofs.MapLists.{each_in_entries, get-from_entries, entries-map_values}
 
 -- Lists.
 
@@ -42,14 +40,6 @@ module _ {X : Type 0} (f : X → ℕ) where
   total_zero (x ∷ xs) a = omega (arith, a.0, total_zero xs a.1)
 
   module _ (g : X → ℕ) where
-    pub total-add : (xs : List X) → total (λ x. f x + g x) xs ≡ total f xs + total g xs
-    total-add [] = omega arith
-    total-add (x ∷ xs) = omega (arith, total-add xs)
-
-    pub total_alike : (xs : List X) → AllByRecursion (λ x. f x ≡ g x) xs → total f xs ≡ total g xs
-    total_alike [] a = refl
-    total_alike (x ∷ xs) a = omega (arith, a.0, total_alike xs a.1)
-
     pub total_le : (xs : List X) → AllByRecursion (λ x. f x ≤ g x) xs → total f xs ≤ total g xs
     total_le [] a = omega arith
     total_le (x ∷ xs) a = omega (arith, a.0, total_le xs a.1)
@@ -70,12 +60,6 @@ pub sum_entries-empty : {K X : Type 0} (R : K → K → Ordering) (g : K → X �
 sum_entries-empty {X = X} R g = ap (total (λ e. g e.0 e.1)) (entries-empty R X)
 
 module _ {K X : Type 0} {R : K → K → Ordering} (o : IsTotalOrder R) (f g : K → X → ℕ) where
-  -- f and g alike on what the map has
-  pub sum_entries_alike : (m : FinMap R X) → ((q : K) (x : X) → get m q ≡ Some x → f q x ≡ g q x)
-      → sum_entries f m ≡ sum_entries g m
-  sum_entries_alike m each = total_alike (λ e. f e.0 e.1) (λ e. g e.0 e.1) (entries m)
-      (each_in_entries o (λ q x. f q x ≡ g q x) m each)
-
   pub sum_entries_le : (m : FinMap R X) → ((q : K) (x : X) → get m q ≡ Some x → f q x ≤ g q x)
       → sum_entries f m ≤ sum_entries g m
   sum_entries_le m each = total_le (λ e. f e.0 e.1) (λ e. g e.0 e.1) (entries m)
@@ -139,14 +123,7 @@ sum-empty R g = sum_entries-empty R (λ k. g)
 pub sum-values : {K X : Type 0} {R : K → K → Ordering} (g : X → ℕ) (m : FinMap R X) → sum_over g m ≡ total g (values m)
 sum-values g m = sym (total-map g (λ e. e.1) (entries m))
 
-pub sum-add : {K X : Type 0} {R : K → K → Ordering} (f g : X → ℕ) (m : FinMap R X)
-    → sum_over (λ x. f x + g x) m ≡ sum_over f m + sum_over g m
-sum-add f g m = total-add (λ e. f e.1) (λ e. g e.1) (entries m)
-
 module _ {K X : Type 0} {R : K → K → Ordering} (o : IsTotalOrder R) (f g : X → ℕ) where
-  pub sum_alike : (m : FinMap R X) → ((q : K) (x : X) → get m q ≡ Some x → f x ≡ g x) → sum_over f m ≡ sum_over g m
-  sum_alike = sum_entries_alike o (λ k. f) (λ k. g)
-
   pub sum_le : (m : FinMap R X) → ((q : K) (x : X) → get m q ≡ Some x → f x ≤ g x) → sum_over f m ≤ sum_over g m
   sum_le = sum_entries_le o (λ k. f) (λ k. g)
 
@@ -182,24 +159,6 @@ module _ {K X : Type 0} {R : K → K → Ordering} (o : IsTotalOrder R) (g : X �
       → sum_over g (map_values h m) ≡ sum_over (λ y. g (h y)) m
   sum-map_values h m = ap (total (λ e. g e.1)) (entries-map_values o h m)
       ∙ total-map (λ e. g e.1) (λ e. (e.0, h e.1)) (entries m)
-
-  pub sum_zero : (m : FinMap R X) → ((q : K) (x : X) → get m q ≡ Some x → g x ≡ 0) → sum_over g m ≡ 0
-  sum_zero m each = total_zero (λ e. g e.1) (entries m) (each_in_entries o (λ q x. g x ≡ 0) m each)
-
-  found_positive : (es : List (K × X)) → EachOnce R es → 0 < total (λ e. g e.1) es → (q : K) × (x : X)
-      × (find R q es ≡ Some x) × (0 < g x)
-  found_positive [] u p = absurd (omega arith)
-  found_positive (e ∷ es) u p = here (g e.1) refl (λ r. found_positive es u.1 r)
-    where
-      here : (n : ℕ) → g e.1 ≡ n → (0 < total (λ e. g e.1) es → (q : K) × (x : X) × (find R q es ≡ Some x) × (0 < g x))
-          → (q : K) × (x : X) × (find R q (e ∷ es) ≡ Some x) × (0 < g x)
-      here zero n rest = let r = rest (omega arith) in (r.0, r.1, find_later o e es r.0 r.1 u.0 r.2, r.3)
-      here (suc n) is rest = (e.0, e.1, find_first o e es, omega arith)
-
-  -- a sum that is not 0 has a value that is not 0
-  pub sum_positive : (m : FinMap R X) → 0 < sum_over g m → (q : K) × (x : X) × (get m q ≡ Some x) × (0 < g x)
-  sum_positive m p = let r = found_positive (entries m) (EachOnce-entries m) p in
-      (r.0, r.1, get-entries m r.0 ∙ r.2, r.3)
 
 -- Entries of a list, each under a key of its own, add up to no more than the map.
 

@@ -100,10 +100,6 @@ itself n = omega arith
 pub same_le : {a b : ℕ} → a ≡ b → a ≤ b
 same_le {a} {b} e = omega (arith, e)
 
--- no words put leave the length
-pub longer_none : (words block : ℕ) → length_after words block 0 ≡ words
-longer_none words block = refl
-
 pub at_output : (f : SpecOutput → ℕ) (o : Option SpecOutput) (k : ℕ)
     → ((o : SpecOutput) → f (record o { next = k }) ≡ f o)
     → item f (output_at o k) ≡ item f o

@@ -1,12 +1,9 @@
--- Laws of one event: an IN depends only on its own job, what isn't done leaves the files, and no event of another job
--- changes a job's record.
-use Rattle.std.proofs.Common.{◌≡◌, ℕ, Bool, true, false, if◌then◌else◌, Option, Some, None, refl, sym, subst, ◌∙◌}
-use Rattle.std.proofs.Common.{◌≢◌}
+-- Laws of one event: what isn't done leaves the files, and no event of another job changes a job's record.
+use Rattle.std.proofs.Common.{◌≡◌, ℕ, Bool, true, false, if◌then◌else◌, Option, Some, None, refl, ◌≢◌}
 use Rattle.std.specs.Prelude.{nat_lt, nat_le}
 use Rattle.words36.specs.declared.moment.Moment.{Moment}
 use Rattle.spec_image.specs.Common.{Files, SpecVersion, Pack}
 use Rattle.spec_machine.specs.Jobs.{Channel, SpecJob, State, channel_at, job_at, with_job}
-use Rattle.spec_machine.specs.Inputs.{reads}
 use Rattle.spec_machine.specs.Outcomes.{settled}
 use Rattle.spec_machine.specs.Step.{step, job_of, last_date, on_job, on_channel, of_job, of_files, call_of}
 use Rattle.spec_machine.specs.declared.call.Call.{Call}
@@ -18,48 +15,7 @@ use Rattle.spec_machine.specs.declared.call.Event.TheVariants.{Login, Deposit, E
 use Rattle.spec_machine.specs.declared.call.Reply.{Reply}
 use Rattle.spec_machine.specs.declared.call.Reply.TheVariants.{Done, NoChannel, DateRange}
 use Rattle.spec_machine.proofs.OutcomeLaws.{settled_by}
-use Rattle.spec_machine.proofs.SlotLaws.{slot-set_same, slot-set_other}
-
--- The reply of an IN and the job's record after it come from that record alone.
-
--- two outcomes that answer a job alike, and leave it alike
-abbrev pub Alike : ℕ → Reply × State → Reply × State → Type 0
-Alike n a b = (a.0 ≡ b.0) × (job_at a.1 n ≡ job_at b.1 n)
-
-alike_of_job : (s t : State) (n : ℕ) (job : SpecJob) → job_at s n ≡ Some job → job_at t n ≡ Some job
-    → (r : Reply × SpecJob)
-    → Alike n (of_job s n r) (of_job t n r)
-alike_of_job s t n job e f r = (refl, slot-set_same s.jobs n r.1 job e ∙ sym (slot-set_same t.jobs n r.1 job f))
-
--- a row that changes only the job's record
-abbrev own_row : State → ℕ → (SpecJob → ℕ → Channel → Reply × SpecJob) → ℕ → Option SpecJob → Reply × State
-own_row s n row ch job = on_job s job (λ job. on_channel s (channel_at job ch) (λ c. of_job s n (row job ch c)))
-
-alike_on_channel : (s t : State) (n : ℕ) (job : SpecJob) → job_at s n ≡ Some job → job_at t n ≡ Some job
-    → (row : Channel → Reply × SpecJob) (c : Option Channel)
-    → Alike n (on_channel s c (λ c. of_job s n (row c))) (on_channel t c (λ c. of_job t n (row c)))
-alike_on_channel s t n job e f row None = (refl, e ∙ sym f)
-alike_on_channel s t n job e f row (Some c) = alike_of_job s t n job e f (row c)
-
-alike_on_job : (s t : State) (n : ℕ) (row : SpecJob → ℕ → Channel → Reply × SpecJob) (ch : ℕ) (job : Option SpecJob)
-    → job_at s n ≡ job → job_at t n ≡ job → Alike n (own_row s n row ch job) (own_row t n row ch job)
-alike_on_job s t n row ch None e f = (refl, e ∙ sym f)
-alike_on_job s t n row ch (Some job) e f = alike_on_channel s t n job e f (row job ch) (channel_at job ch)
-
-alike_own : (s t : State) (n : ℕ) → job_at s n ≡ job_at t n
-    → (row : SpecJob → ℕ → Channel → Reply × SpecJob) (ch : ℕ) (late : Bool)
-    → Alike n (if late then (DateRange, s) else own_row s n row ch (job_at s n)) (if late then (DateRange, t)
-    else own_row t n row ch (job_at t n))
-alike_own s t n same row ch true = (refl, same)
-alike_own s t n same row ch false =
-    subst (λ other. Alike n (own_row s n row ch (job_at s n)) (own_row t n row ch other)) same
-    (alike_on_job s t n row ch (job_at s n) refl (sym same))
-
-pub in_alike : (pack : Pack) (serial other : ℕ) (s t : State) (n ch a : ℕ) (moment : Moment)
-    → job_at s n ≡ job_at t n
-    → Alike n (step pack serial s (Calls n (In ch a) moment)) (step pack other t (Calls n (In ch a) moment))
-in_alike pack serial other s t n ch a moment same =
-    alike_own s t n same (λ job ch c. reads job ch c a) ch (nat_lt (last_date pack.layout) moment.date)
+use Rattle.spec_machine.proofs.SlotLaws.{slot-set_other}
 
 -- What isn't done leaves the files unchanged.
 

@@ -2,10 +2,10 @@
 //!
 //! The definitions are in `specs/`. Read them in this order: `Jobs` (jobs, their channels, and the machine's state),
 //! `Rights`, `Room` and `Charges` (what is allowed, and what there is room for), `Outcomes` (how a call ends), then the
-//! calls, `Opening`, `Looking`, `Entering`, `Updating`, `Renaming`, `Inputs`, `Outputs` (with `Cores`, `CommandLists`
-//! and `Rings`: the words of a core), `Closing`, `Making` and `Sessions`, and `Step`, which is the machine. `Runs`
-//! plays lists of events, and `Crashes`, `Holding`, `Undone` and `Sound` define what is true along them. `Common`
-//! passes on what other crates cite.
+//! calls, `Open`, `Lookup`, `Enter`, `Update`, `Rename`, `Inputs`, `Outputs` (with `Cores`, `CommandLists` and `Rings`:
+//! the words of a core), `Close`, `MakeDir` and `Sessions`, and `Step`, which is the machine. `Runs` plays lists of
+//! events, and `Crashes`, `PinnedVersions`, `Undone` and `Sound` define what is true along them. `Common` passes on
+//! what other crates cite.
 //!
 //! A law is the contract of a function that does nothing. Besides laws, `src/` has only the plain types that
 //! definitions and code share.

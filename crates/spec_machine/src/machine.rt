@@ -102,7 +102,8 @@ pub fn quotas_are_not_overdrawn()
     ensures within { (pack : Pack) (s t : State) (event : Event) (reply : Reply) (ppn : ℕ) → IsSound s
         → Steps pack s event reply t → is_limited s ppn ≡ true → charge s ppn ≤ quota_of s ppn
         → charge t ppn ≤ quota_of s ppn }
-    ensures quota { (pack : Pack) (s t : State) (event : Event) (reply : Reply) (ppn : ℕ) (d new : Directory SpecVersion)
+    ensures quota { (pack : Pack) (s t : State) (event : Event) (reply : Reply) (ppn : ℕ)
+        (d new : Directory SpecVersion)
         → ((n e : ℕ) (moment : Moment) → event ≢ Calls n (Quota e) moment) → Steps pack s event reply t
         → get s.files ppn ≡ Some d → get t.files ppn ≡ Some new → new.quota ≡ d.quota }
 {}

@@ -1,5 +1,5 @@
 //! The status of a channel.
-ghost use Rattle.std.specs.Prelude.{⊤, ◌≡◌, ◌+◌, ◌<◌, ◌^◌, [], ◌∷◌, codes};
+ghost use Rattle.std.specs.Prelude.{⊤, ◌≡◌, ◌+◌, ◌<◌, [], ◌∷◌, codes};
 ghost use Rattle.spec_machine.specs.Jobs.{cleared, block_too_large, end_of_file, improper_mode};
 
 use bitflags::{Flag, Flags, bitflag_items};

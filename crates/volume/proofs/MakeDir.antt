@@ -1,7 +1,6 @@
 -- A directory is made.
 pub mod Transactions
 pub mod Law
-pub mod Lists
 pub mod Entries
 pub mod MadeDirectories
 pub mod Places

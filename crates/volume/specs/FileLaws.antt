@@ -1,7 +1,7 @@
 -- What was found of a file is what the file is, except its words.
-use Rattle.std.specs.Prelude.{◌≡◌, ℕ, ◌∷◌, ◌++◌}
+use Rattle.std.specs.Prelude.{◌≡◌, ℕ}
 use Rattle.blockdisk.specs.Common.{Contents}
-use Rattle.spec_image.specs.Common.{times, Place, reaches_in_file}
+use Rattle.spec_image.specs.Common.{Place}
 use Rattle.retrieval.specs.Common.{VersionState}
 use Rattle.retrieval.specs.declared.prime.Prime.{Prime as PrimeValue}
 use Rattle.volume.specs.Facts.{facts_of, known_facts}
@@ -20,10 +20,3 @@ facts_found layout contents place at prime v found = λ i. record {
   ribs = found.ribs_are i;
   blocks = found.blocks_are i;
 }
-
--- It reaches the blocks that were marked.
-pub found_reaches : (layout : ℕ) (contents : Contents) (place : Place) (at : ℕ) (prime : PrimeValue) (v : VersionState)
-    → (found : IsFileFound layout contents place at prime v)
-    → (n : ℕ) → reaches_in_file n found.file ≡ times n (at ∷ (v.ribs ++ v.blocks))
-found_reaches layout contents place at prime v found n = λ i.
-    times n (found.prime_is i ∷ (found.ribs_are i ++ found.blocks_are i))

@@ -1,7 +1,6 @@
 //! The beginning of a version that will be written, and what it costs.
-ghost use Rattle.std.specs.Prelude.{◌≡◌, ◌↔◌, ◌⊎◌, ◌+◌, ◌<◌, ◌≤◌, ◌^◌, ℕ, true, false, if◌then◌else◌, None, Some};
-ghost use Rattle.std.specs.Prelude.{slice_get, is_none, length, IfOk, IfErr, OnErr, IsErr, IsErrOf, IfSome, IsSome};
-ghost use Rattle.std.specs.Prelude.{IsTrue};
+ghost use Rattle.std.specs.Prelude.{◌≡◌, ◌↔◌, ◌+◌, ◌<◌, ◌≤◌, ◌^◌, ℕ, true, false, None, Some, slice_get, is_none};
+ghost use Rattle.std.specs.Prelude.{length, IfOk, IfErr, OnErr, IsErr, IsErrOf, IfSome, IsSome, IsTrue};
 ghost use Rattle.std.specs.Ordering.{nat_cmp};
 ghost use Rattle.std.specs.FinMap.Entries.{find};
 ghost use Rattle.spec_image.specs.declared.code.ErrorCode.{ErrorCode};
@@ -9,10 +8,10 @@ ghost use Rattle.spec_image.specs.declared.code.ErrorCode.TheVariants.{NoDirecto
 ghost use Rattle.spec_image.specs.Common.{version_cost, File, Directory, Files, get, total, pack_of, date_limit};
 ghost use Rattle.spec_image.specs.Common.{most_blocks, growth};
 ghost use Rattle.alloctab.specs.Common.{space};
-ghost use Rattle.volume.specs.Common.{begin_cost, entries_with, is_absent, is_update, begun, version_before};
-ghost use Rattle.volume.specs.Common.{IsBefore, IsBegun, IsBeginRefusal, IsDirectoryOf, IsMisfit, Before};
-ghost use Rattle.volume.specs.Common.{CurrentDirectory, IsNamed, cost_before, as_known, creates, is_create, pending_at};
-ghost use Rattle.volume.specs.Common.{slot, IsWholeMemory, memory_of, BeginsWithFile, RestsAt};
+ghost use Rattle.volume.specs.Common.{begin_cost, entries_with, is_absent, is_update, begun, version_before, IsBefore};
+ghost use Rattle.volume.specs.Common.{IsBegun, IsBeginRefusal, IsDirectoryOf, IsMisfit, Before, CurrentDirectory};
+ghost use Rattle.volume.specs.Common.{IsNamed, cost_before, as_known, creates, is_create, pending_at, slot};
+ghost use Rattle.volume.specs.Common.{IsWholeMemory, memory_of, BeginsWithFile, RestsAt};
 ghost use Rattle.volume.specs.declared.error.CallError.TheVariants.{Refused, Device, Failed};
 
 use crate::CallError;

@@ -1,5 +1,5 @@
 //! What directories are charged for, and what their quotas leave.
-ghost use Rattle.std.specs.Prelude.{◌≡◌, ◌↔◌, ◌<◌, ◌≤◌, ◌+◌, ◌^◌, ℕ, false, true, None, Some, IfSome, IsSome, IsTrue};
+ghost use Rattle.std.specs.Prelude.{◌≡◌, ◌↔◌, ◌<◌, ◌≤◌, ◌+◌, ◌^◌, ℕ, false, true, None, Some, IfSome, IsTrue};
 ghost use Rattle.std.specs.Prelude.{filter_map, length, slice_get};
 ghost use Rattle.std.specs.Ordering.{nat_cmp};
 ghost use Rattle.std.specs.FinMap.Entries.{find};
@@ -208,8 +208,9 @@ fn put_is_over(memory: &LiveMap, key: usize, block: u32, count: usize) -> bool
 /// Returns whether a file that comes from another directory costs more than the quota of its new one leaves.
 fn move_is_over(memory: &LiveMap, ppn: Ppn, name: &FileName, to: Ppn) -> bool
     requires whole { IsWholeMemory memory.now.table.size (memory_of memory.now) }
-    ensures { (d t : CurrentDirectory) → IsDirectoryOf (memory_of memory.now) ppn d → IsDirectoryOf (memory_of memory.now) to t
-        → (old : Before) → IsNamed d name.now old → (IsTrue result ↔ IsOver (memory_of memory.now) to
+    ensures { (d t : CurrentDirectory) → IsDirectoryOf (memory_of memory.now) ppn d
+        → IsDirectoryOf (memory_of memory.now) to t → (old : Before) → IsNamed d name.now old
+        → (IsTrue result ↔ IsOver (memory_of memory.now) to
         (cost_before old + growth (entries_with (memory_of memory.now) t to))) }
 {
     if quota_in_memory(memory, to) == 0 {

@@ -1,7 +1,6 @@
 //! The copy of a volume to another disk.
-ghost use Rattle.std.specs.Prelude.{◌≡◌, ◌⊎◌, ◌<◌, ◌≤◌, ℕ, Some, OnOk, IfOk, IfErr, IsErrOf};
-ghost use Rattle.blockdisk.specs.Common.{LeavesOnly, Modifies, Near, NoneOpen, SameDisk, SameOutside, Still};
-ghost use Rattle.blockdisk.specs.Common.{one_more};
+ghost use Rattle.std.specs.Prelude.{◌≡◌, ◌⊎◌, ◌<◌, ◌≤◌, Some, OnOk, IfOk, IfErr, IsErrOf};
+ghost use Rattle.blockdisk.specs.Common.{LeavesOnly, Modifies, Near, NoneOpen, SameDisk, SameOutside, Still, one_more};
 ghost use Rattle.changeset.specs.Common.{IsRecovered, SyncsFirst, OnlyReads};
 ghost use Rattle.spec_image.specs.Common.{File, Files, StandsOn, pack_of, Stands};
 ghost use Rattle.volume.specs.Common.{DiskAnswer, copied, AreCopied, ArePartlyCopied, HomesComeLast, IsCopyStep};

@@ -22,7 +22,8 @@ fn shrinkage(memory: &LiveMap, version: &PendingVersion) -> u32
     requires aligned { length memory.now.directories.items ≡ length memory.now.master.entries }
     requires there { is_creation version.now ≡ true
         → find nat_cmp version.now.prime.ppn (memory_of memory.now).known.master.entries ≡ None → ⊥ }
-    requires few { (place : ℕ) (d : CurrentDirectory) → slice_get (memory_of memory.now).known.directories place ≡ Some d
+    requires few { (place : ℕ) (d : CurrentDirectory) → slice_get
+        (memory_of memory.now).known.directories place ≡ Some d
         → entries_with (memory_of memory.now) d version.now.prime.ppn < 2 ^ 64 }
     ensures none { is_creation version.now ≡ false → result ≡ 0 }
     ensures value { is_creation version.now ≡ true → (d : CurrentDirectory)

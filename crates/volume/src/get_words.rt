@@ -1,13 +1,11 @@
 //! The reading of words of a version.
-ghost use Rattle.std.specs.Prelude.{◌≡◌, ◌↔◌, ◌⊎◌, ◌+◌, ◌-◌, ◌*◌, ◌<◌, ℕ, List, true, false, Some, None, IfOk};
-ghost use Rattle.std.specs.Prelude.{IsErrOf, length, min, slice_index, take};
-ghost use Rattle.std.specs.List.{AllByRecursion};
+ghost use Rattle.std.specs.Prelude.{◌≡◌, ◌⊎◌, ◌+◌, ◌-◌, ◌*◌, ◌<◌, ℕ, List, true, Some, None, IfOk, IsErrOf, length};
+ghost use Rattle.std.specs.Prelude.{min, slice_index, take};
 ghost use Rattle.changeset.specs.Common.{OnlyReads};
 ghost use Rattle.spec_image.specs.declared.code.ErrorCode.{ErrorCode};
-ghost use Rattle.spec_image.specs.Common.{blocks_of, InSpace, File, Files, HasBody, block_start, words_from};
-ghost use Rattle.alloctab.specs.Common.{IsTable};
+ghost use Rattle.spec_image.specs.Common.{File, Files, HasBody, block_start, words_from};
 ghost use Rattle.retrieval.specs.Common.{VersionState};
-ghost use Rattle.volume.specs.Common.{DeviceAnswer, IsWholeMemory, memory_of, version_under, IsReadable, RestsAt};
+ghost use Rattle.volume.specs.Common.{DeviceAnswer, memory_of, version_under, IsReadable, RestsAt};
 ghost use Rattle.volume.specs.declared.error.CallError.TheVariants.{Refused, Device, NoMemory, Failed};
 ghost use Rattle.words36.specs.declared.word.TheConstants.{BLOCK_WORDS};
 

@@ -1,8 +1,7 @@
 //! Lists of the files of a directory, and of all directories.
-ghost use Rattle.std.specs.Prelude.{◌≡◌, ◌↔◌, ◌⊎◌, true, false, length, map, None, Some, IfOk, OnOk, IfErr, IsErrOf};
-ghost use Rattle.std.specs.Prelude.{IsTrue};
+ghost use Rattle.std.specs.Prelude.{◌≡◌, ◌↔◌, ◌⊎◌, false, length, map, None, Some, IfOk, OnOk, IfErr, IsErrOf, IsTrue};
 ghost use Rattle.std.specs.FinMap.Entries.{find};
-ghost use Rattle.std.specs.List.{AllByRecursion, AllZip};
+ghost use Rattle.std.specs.List.{AllZip};
 ghost use Rattle.std.specs.Ordering.{nat_cmp};
 ghost use Rattle.spec_image.specs.declared.code.ErrorCode.TheVariants.{NoDirectory};
 ghost use Rattle.spec_image.specs.Common.{File, Files, Directory, name_cmp, entries, keys, from_entries, get};

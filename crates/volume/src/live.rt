@@ -278,7 +278,8 @@ pub fn unpin_version(map: &mut LiveMap, key: usize)
     requires whole { (size : ℕ) × IsWholeMemory size (memory_of map.old) }
     requires there { IsSome (slot (memory_of map.old).live key) }
     requires held { IfSome (slot (memory_of map.old).live key) (λ v. 0 < v.readers) }
-    ensures known { (memory_of map.new).known ≡ record (memory_of map.old).known { table = (memory_of map.new).known.table } }
+    ensures known { (memory_of map.new).known
+        ≡ record (memory_of map.old).known { table = (memory_of map.new).known.table } }
     ensures keys { (memory_of map.new).keys ≡ (memory_of map.old).keys }
     ensures pending { (memory_of map.new).pending ≡ (memory_of map.old).pending }
     ensures table { (memory_of map.new).known.table

@@ -1,15 +1,13 @@
 //! The making of directories.
-ghost use Rattle.std.specs.Prelude.{◌≡◌, ◌↔◌, ◌⊎◌, ◌+◌, ◌<◌, ◌≤◌, ◌++◌, ◌∷◌, [], ℕ, true, if◌then◌else◌, IsTrue};
-ghost use Rattle.std.specs.Prelude.{IsSome, IfSome, IfNone, IfOk, OnOk, OnErr, IsErrOf, None, Some, option_to_list};
-ghost use Rattle.std.specs.Prelude.{length, false};
-ghost use Rattle.std.specs.List.{AllByRecursion};
+ghost use Rattle.std.specs.Prelude.{◌≡◌, ◌↔◌, ◌⊎◌, ◌+◌, ◌<◌, ◌≤◌, ◌++◌, ◌∷◌, [], ℕ, true, if◌then◌else◌, IfOk, OnOk};
+ghost use Rattle.std.specs.Prelude.{OnErr, IsErrOf, None, Some, option_to_list, length, false};
 ghost use Rattle.std.specs.Ordering.{nat_cmp};
 ghost use Rattle.std.specs.FinMap.Entries.{find};
 ghost use Rattle.words36.specs.declared.names.FileName.{FileName};
 ghost use Rattle.spec_image.specs.declared.code.ErrorCode.{ErrorCode};
 ghost use Rattle.spec_image.specs.declared.code.ErrorCode.TheVariants.{NameExists, NoRoom};
-ghost use Rattle.spec_image.specs.Common.{times, IsVolumeSize, space_start, InSpace};
-ghost use Rattle.alloctab.specs.Common.{TableState, IsTable, IsFree, bit, holds, space, used_in_space, with_held};
+ghost use Rattle.spec_image.specs.Common.{times, space_start};
+ghost use Rattle.alloctab.specs.Common.{TableState, IsTable, IsFree, holds, space, used_in_space};
 ghost use Rattle.retrieval.specs.Common.{Takes, IsFixed};
 ghost use Rattle.volume.specs.Common.{IsDirectoryOf, ChangesFiles, DeviceAnswer, CurrentDirectory, IsWholeMemory};
 ghost use Rattle.volume.specs.Common.{memory_of, put_in_use, Uses, TakesBlocks, PutsTable, chain_growth, fresh_list};
@@ -167,7 +165,8 @@ fn make_in_memory(
         ↔ (find nat_cmp ppn (memory_of memory.old).known.master.entries ≡ None → ⊥) }
     ensures room { find nat_cmp ppn (memory_of memory.old).known.master.entries ≡ None
         → (IsErrOf result (Refused NoRoom)
-        ↔ (space memory.old.table.size < memory.old.table.booked + 1 + chain_growth (memory_of memory.old).known.master)) }
+        ↔ (space memory.old.table.size < memory.old.table.booked + 1
+        + chain_growth (memory_of memory.old).known.master)) }
     ensures codes { (code : ErrorCode) → IsErrOf result (Refused code) → (code ≡ NameExists) ⊎ (code ≡ NoRoom) }
     ensures plain { (IsErrOf result Device → ⊥) × (IsErrOf result Failed → ⊥) }
 {

@@ -1,10 +1,9 @@
 //! The reading of all that a disk reaches, and of its allocation table.
-ghost use Rattle.std.specs.Prelude.{◌≡◌, ◌+◌, ◌<◌, ℕ, false, map, length, replicate, IfOk, IfErr, IsErrOf};
+ghost use Rattle.std.specs.Prelude.{◌≡◌, ◌<◌, ℕ, false, map, length, replicate, IfOk, IfErr, IsErrOf};
 ghost use Rattle.std.specs.List.{AllByRecursion};
 ghost use Rattle.std.specs.Ordering.{nat_cmp};
-ghost use Rattle.spec_image.specs.Common.{head_or_zero, master_words, IsHome, IsLayout, layout_number, times};
-ghost use Rattle.spec_image.specs.Common.{IsVolumeSize, table_blocks, DiskMap as MapValue, LeadsAlong, InSpace};
-ghost use Rattle.spec_image.specs.Common.{IsMasterEntryOf};
+ghost use Rattle.spec_image.specs.Common.{head_or_zero, master_words, IsHome, layout_number, times, IsVolumeSize};
+ghost use Rattle.spec_image.specs.Common.{table_blocks, DiskMap as MapValue, LeadsAlong, InSpace, IsMasterEntryOf};
 ghost use Rattle.alloctab.specs.Common.{InTable, digit_at, wanted_bit, bit};
 ghost use Rattle.directory.specs.Common.{nodes_of, IsChain, IsOn, viewed};
 ghost use Rattle.volume.specs.Common.{master_view, known_directory, known_of, ReadsDisk, home_in, known_reaches};

@@ -1,7 +1,7 @@
 //! Pins: how readers keep the version of a file, whatever its name has later.
-ghost use Rattle.std.specs.Prelude.{◌≡◌, ◌↔◌, ◌⊎◌, ◌+◌, ◌-◌, ◌<◌, ◌^◌, ℕ, true, false, None, Some, IfOk, IfErr};
-ghost use Rattle.std.specs.Prelude.{IsErr, IsErrOf, IsSome, IfSome, IsTrue, length};
-ghost use Rattle.spec_image.specs.declared.code.ErrorCode.TheVariants.{NoDirectory, NotFound};
+ghost use Rattle.std.specs.Prelude.{◌≡◌, ◌↔◌, ◌⊎◌, ◌+◌, ◌-◌, ◌<◌, ◌^◌, ℕ, true, false, None, Some, IfOk, IfErr, IsErr};
+ghost use Rattle.std.specs.Prelude.{IsErrOf, IsTrue, length};
+ghost use Rattle.spec_image.specs.declared.code.ErrorCode.TheVariants.{NotFound};
 ghost use Rattle.spec_image.specs.Common.{File, Files, get, times, cost_of_blocks};
 ghost use Rattle.alloctab.specs.Common.{holds};
 ghost use Rattle.volume.specs.Common.{blocks_reached, slot, IsWholeMemory, memory_of, IsKeyOf, IsNoFile, IsPinAnswer};

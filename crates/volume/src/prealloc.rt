@@ -1,5 +1,5 @@
 //! The memory for a publication or a new entry, found before anything is written.
-ghost use Rattle.std.specs.Prelude.{◌≡◌, ◌<◌, ◌++◌, ◌∷◌, [], length, slice_get, Some, IfOk, IsSome};
+ghost use Rattle.std.specs.Prelude.{◌≡◌, ◌<◌, length, slice_get, Some, IfOk, IsSome};
 ghost use Rattle.spec_image.specs.Common.{name_cmp};
 ghost use Rattle.retrieval.specs.Common.{rib_count};
 ghost use Rattle.slab.specs.Slab.{HasRoomFor};
@@ -78,11 +78,12 @@ pub(crate) fn preallocate_publish(
 ) -> Result<PublishPrealloc, NoMemory>
     requires whole { IsWholeMemory map.old.table.size (memory_of map.old) }
     requires there { IsSome (pending_at (memory_of map.old).pending key) }
-    requires placed { (p : PendingVersion) → pending_at (memory_of map.old).pending key ≡ Some p
-        → IsPlaced (memory_of map.old) p }
+    requires placed { (p : PendingVersion)
+        → pending_at (memory_of map.old).pending key ≡ Some p → IsPlaced (memory_of map.old) p }
     ensures map { memory_of map.new ≡ memory_of map.old }
     ensures ribs { IfOk result (λ supplies. length supplies.ribs.items ≡ rib_count blocks) }
-    ensures supplied { IfOk result (λ supplies. (p : PendingVersion) → pending_at (memory_of map.old).pending key ≡ Some p
+    ensures supplied { IfOk result (λ supplies. (p : PendingVersion)
+        → pending_at (memory_of map.old).pending key ≡ Some p
         → IsSupplied (memory_of map.old) p supplies.reserve supplies.keys) }
     ensures slot { IfOk result (λ supplies. HasRoomFor map.new.versions 1) }
 {

@@ -1,18 +1,16 @@
 //! The publication of versions.
-ghost use Rattle.std.specs.Prelude.{◌≡◌, ◌⊎◌, ◌↔◌, ◌-◌, ◌<◌, ◌≤◌, ℕ, Bool, List, false, true, length, OnOk, OnErr};
-ghost use Rattle.std.specs.Prelude.{IfOk, IfErr, IsErrOf, IsSome, Some, None};
+ghost use Rattle.std.specs.Prelude.{◌≡◌, ◌⊎◌, ◌↔◌, ◌-◌, ◌<◌, ℕ, Bool, List, false, true, length, OnOk, IfOk, IfErr};
+ghost use Rattle.std.specs.Prelude.{IsErrOf, IsSome, Some, None};
 ghost use Rattle.blockdisk.specs.Common.{LeavesOnly};
 ghost use Rattle.spec_image.specs.Common.{pack_of, blocks_of, File, Files, times, HasBody, splice, length_after};
 ghost use Rattle.spec_image.specs.declared.code.ErrorCode.{ErrorCode};
 ghost use Rattle.spec_image.specs.declared.code.ErrorCode.TheVariants.{NoRoom};
 ghost use Rattle.spec_image.specs.declared.put.Put.{Put};
-ghost use Rattle.directory.specs.Common.{viewed};
-ghost use Rattle.retrieval.specs.Common.{IsEdgeBlock, VersionState, rib_count};
+ghost use Rattle.retrieval.specs.Common.{IsEdgeBlock, rib_count};
 ghost use Rattle.slab.specs.Slab.{HasRoomFor};
-ghost use Rattle.volume.specs.Common.{file_view, DeviceAnswer, KeepsHomeCopies, MemoryMap, slot, pending_at};
-ghost use Rattle.volume.specs.Common.{IsWholeMemory, memory_of, MakesCurrent, IsPlaced, IsPublishedMemory, IsSupplied};
-ghost use Rattle.volume.specs.Common.{file_of, files_published, HasNoPlace, IsSoundMemory, RestsAt, StandsForOneOf};
-ghost use Rattle.volume.specs.Common.{KeepsRead, KeepsWritten};
+ghost use Rattle.volume.specs.Common.{DeviceAnswer, KeepsHomeCopies, slot, pending_at, IsWholeMemory, memory_of};
+ghost use Rattle.volume.specs.Common.{MakesCurrent, IsPlaced, IsPublishedMemory, IsSupplied, file_of, files_published};
+ghost use Rattle.volume.specs.Common.{HasNoPlace, IsSoundMemory, RestsAt, StandsForOneOf, KeepsRead, KeepsWritten};
 ghost use Rattle.volume.specs.declared.error.CallError.TheVariants.{Refused, Device, Failed, NoMemory};
 ghost use Rattle.volume.specs.declared.live.LiveVersion.{LiveVersion};
 ghost use Rattle.volume.specs.declared.pending.PendingVersion.{PendingVersion};

@@ -1,7 +1,6 @@
 //! What a volume answers from memory.
-ghost use Rattle.std.specs.Prelude.{◌≡◌, ◌↔◌, ◌<◌, ◌^◌, ◌-ℤ◌, pos, ℕ, true, false, length, map, None, IfOk, IfErr};
-ghost use Rattle.std.specs.Prelude.{IsErr, IsErrOf, IsTrue};
-ghost use Rattle.std.specs.List.{AllByRecursion};
+ghost use Rattle.std.specs.Prelude.{◌≡◌, ◌↔◌, ◌<◌, ◌^◌, ◌-ℤ◌, pos, ℕ, false, length, map, None, IfOk, IfErr, IsErr};
+ghost use Rattle.std.specs.Prelude.{IsErrOf, IsTrue};
 ghost use Rattle.std.specs.Ordering.{nat_cmp};
 ghost use Rattle.std.specs.FinMap.Entries.{find};
 ghost use Rattle.spec_image.specs.declared.code.ErrorCode.TheVariants.{NoDirectory, NotFound};

@@ -9,9 +9,8 @@ ghost use Rattle.spec_image.specs.declared.put.Put.{Put};
 ghost use Rattle.spec_image.specs.Common.{name_cmp, place_of};
 ghost use Rattle.retrieval.specs.declared.prime.Prime.{Prime as PrimeValue};
 ghost use Rattle.volume.specs.Common.{IsDirectoryOf, claims, ChangesFiles, DeviceAnswer, CurrentDirectory, slot};
-ghost use Rattle.volume.specs.Common.{files_moved, HasFile, HasNoRoom, MovesWithin, MovesAcross, prime_at};
-ghost use Rattle.volume.specs.Common.{IsFilePrime};
-ghost use Rattle.volume.specs.declared.error.CallError.TheVariants.{Refused, Device, Failed, NoMemory};
+ghost use Rattle.volume.specs.Common.{files_moved, HasFile, HasNoRoom, MovesWithin, MovesAcross, prime_at, IsFilePrime};
+ghost use Rattle.volume.specs.declared.error.CallError.TheVariants.{Refused, Failed, NoMemory};
 ghost use Rattle.volume.specs.declared.live.LiveVersion.{LiveVersion};
 
 use crate::CallError;

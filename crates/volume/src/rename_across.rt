@@ -163,8 +163,8 @@ fn move_to_directory(
     requires named { 0 < moved.to.name }
     requires protection { moved.protection < 512 }
     requires empty { set.old ≡ [] }
-    ensures { (v : LiveVersion) × MovesAcross memory.old.table.size (memory_of memory.old) (memory_of memory.new) moved.ppn
-        moved.name moved.to_ppn moved.to moved.protection key v words.now set.new }
+    ensures { (v : LiveVersion) × MovesAcross memory.old.table.size (memory_of memory.old) (memory_of memory.new)
+        moved.ppn moved.name moved.to_ppn moved.to moved.protection key v words.now set.new }
 {
     arrive(memory, moved.to_ppn, &moved.to, key, supplies, set);
     leave(memory, moved.ppn, &moved.name, set);
@@ -210,8 +210,8 @@ fn move_across<D: Disk>(
     ensures edited { IsEdited (D.state disk.old) (D.state disk.new) (memory_of memory.old) (memory_of memory.new)
         (λ f. files_moved f moved.ppn moved.name moved.to_ppn moved.to moved.protection) failed.new result }
     ensures moved { OnOk result ((v : LiveVersion) × (words : List ℕ) × (puts : List Put)
-        × MovesAcross (D.state disk.old).size (memory_of memory.old) (memory_of memory.new) moved.ppn moved.name moved.to_ppn
-        moved.to moved.protection key v words puts
+        × MovesAcross (D.state disk.old).size (memory_of memory.old) (memory_of memory.new)
+        moved.ppn moved.name moved.to_ppn moved.to moved.protection key v words puts
         × ((D.state disk.new).honest → (D.state disk.old).contents v.at ≡ Some words)
         × IsFilePrime words moved.ppn moved.name v) }
     ensures pending { (memory_of memory.new).pending ≡ (memory_of memory.old).pending }

@@ -111,8 +111,8 @@ fn move_in_memory(memory: &mut LiveMap, moved: Move, key: usize, words: &Block, 
     requires named { 0 < moved.to.name }
     requires protection { moved.protection < 512 }
     requires empty { set.old ≡ [] }
-    ensures { (v : LiveVersion) × MovesWithin memory.old.table.size (memory_of memory.old) (memory_of memory.new) moved.ppn
-        moved.name moved.to moved.protection key v words.now set.new }
+    ensures { (v : LiveVersion) × MovesWithin memory.old.table.size (memory_of memory.old) (memory_of memory.new)
+        moved.ppn moved.name moved.to moved.protection key v words.now set.new }
 {
     let place = place_of(&memory.master, moved.ppn);
     let entry = file_entry(moved.to, prime_of(&memory.versions, key));

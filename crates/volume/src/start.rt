@@ -1,5 +1,5 @@
 //! The start of a volume: its making, its recovery and its opening.
-ghost use Rattle.std.specs.Prelude.{◌≡◌, ◌⊎◌, ◌↔◌, ℕ, [], false, OnOk, IfOk, IfErr, IfSome, IsErrOf};
+ghost use Rattle.std.specs.Prelude.{◌≡◌, ◌⊎◌, ◌↔◌, [], false, OnOk, IfOk, IfErr, IfSome, IsErrOf};
 ghost use Rattle.std.specs.List.{AllByRecursion};
 ghost use Rattle.blockdisk.specs.Common.{Near, NoneOpen, Still, Modifies, LeavesOnly};
 ghost use Rattle.changeset.specs.Common.{IsRecovered, SyncsFirst, AtRest};

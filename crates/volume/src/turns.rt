@@ -1,5 +1,5 @@
 //! The order in which the files of a directory are read.
-ghost use Rattle.std.specs.Prelude.{◌≡◌, ℕ, map, length, IfOk};
+ghost use Rattle.std.specs.Prelude.{map, length, IfOk};
 ghost use Rattle.std.specs.List.{enumerate_from, range_with_len};
 ghost use Rattle.std.specs.List.Sorted.{IsPermutation, IsNonDecreasingBy};
 ghost use Rattle.volume.specs.Common.{numbered_entry, numbered_version};

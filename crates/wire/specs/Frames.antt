@@ -1,5 +1,5 @@
 -- Records in a row, each followed by the words that it announces.
-use Rattle.std.specs.Prelude.{◌≡◌, ◌*◌, ◌<◌, ◌≤◌, ℕ, List, ◌++◌, length, flat_map}
+use Rattle.std.specs.Prelude.{◌≡◌, ◌*◌, ◌<◌, ◌≤◌, ℕ, List, ◌++◌, length}
 use Rattle.wire.specs.Records.{record_bytes, most_words, FitsRecord}
 use Rattle.wire.specs.declared.header.Header.{Header}
 use Rattle.wire.specs.declared.front.Front.{Front}
@@ -12,9 +12,6 @@ pub record Framed : Type 0 where
 
 abbrev pub frame_bytes : Framed → List ℕ
 frame_bytes f = record_bytes f.header ++ f.body
-
-abbrev pub frames_bytes : List Framed → List ℕ
-frames_bytes frames = flat_map frame_bytes frames
 
 -- The words that a record announces follow it, and they are no more than 18 bits can address.
 pub record IsFrame (f : Framed) : Type 0 where

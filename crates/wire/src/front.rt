@@ -1,5 +1,4 @@
 //! The record that bytes begin with, and the words that follow it.
-ghost use Rattle.std.specs.Prelude.{◌≡◌};
 ghost use Rattle.wire.specs.Frames.{BeginsWith};
 
 use crate::header::{HEADER_BYTES, Header};

@@ -1,5 +1,5 @@
 //! The law that nothing that is written has two readings.
-ghost use Rattle.std.specs.Prelude.{◌≡◌, ◌<◌, ◌^◌, ℕ, List};
+ghost use Rattle.std.specs.Prelude.{◌≡◌, ℕ, List};
 ghost use Rattle.wire.specs.Records.{IsOrder, FitsRecord, answer_record, record_bytes};
 ghost use Rattle.wire.specs.declared.answer.Answer as answers;
 ghost use Rattle.wire.specs.declared.header.Header as headers;

@@ -1,7 +1,7 @@
 //! The orders of a program, and their parsing.
-ghost use Rattle.std.specs.Prelude.{◌≡◌, ◌+◌, ◌*◌, ◌<◌, ◌≤◌, ◌^◌, ◌↔◌, ℕ, List, IfSome, IsSome, Some, Bool, IsTrue};
-ghost use Rattle.std.specs.Prelude.{length, All, []};
-ghost use Rattle.words36.specs.Common.{IsWord, number_at, block_bytes};
+ghost use Rattle.std.specs.Prelude.{◌≡◌, ◌+◌, ◌*◌, ◌<◌, ◌≤◌, ◌^◌, ◌↔◌, ℕ, List, IfSome, IsSome, Some, IsTrue, length};
+ghost use Rattle.std.specs.Prelude.{[]};
+ghost use Rattle.words36.specs.Common.{number_at};
 ghost use Rattle.wire.specs.Records.{IsOrder, record_of, HasWords, moment_number, most_words};
 ghost use Rattle.wire.specs.declared.order.Order as orders;
 

@@ -123,15 +123,6 @@ number_at-block_bytes words i h w =
       at 7 (omega arith),
     )
 
--- a block's bytes have one block
-pub block_bytes-injective : (a b : List ℕ) → IsBlock a → IsBlock b → block_bytes a ≡ block_bytes b → a ≡ b
-block_bytes-injective a b block_a block_b same =
-    ext_get_or 0 a b (block_a.long ∙ sym block_b.long)
-    (λ i h.
-    let inside : i < length b = omega (arith, block_a.long, block_b.long) in
-    sym (number_at-block_bytes a i h (block_a.each i 0 h)) ∙ ap (λ bytes. number_at bytes i) same
-    ∙ number_at-block_bytes b i inside (block_b.each i 0 inside))
-
 -- the first n words of a block are those of the bytes
 pub record AreRead (bytes words : List ℕ) (n : ℕ) : Type 0 where
   pub value : (k : ℕ) → k < n → get_or words k 0 ≡ number_at bytes k

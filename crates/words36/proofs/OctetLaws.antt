@@ -1,7 +1,7 @@
 -- Bytes of eight bits and their words.
 use Rattle.std.proofs.Common.{ℕ, zero, suc, Bool, true, false, ◌≡◌, ◌∙◌, ◌+◌, ◌-◌, ◌*◌, ◌/◌, ◌%◌, ◌^◌, ◌<◌, ◌≤◌, List}
-use Rattle.std.proofs.Common.{[], ◌∷◌, ◌++◌, length, take, arith, refl, ap, sym, subst, bit_and, nat_eq, Option, Some}
-use Rattle.std.proofs.Common.{None, if◌then◌else◌}
+use Rattle.std.proofs.Common.{[], ◌∷◌, ◌++◌, length, take, arith, refl, ap, sym, subst, Option, Some, None}
+use Rattle.std.proofs.Common.{if◌then◌else◌}
 use Rattle.std.proofs.lemmas.Grind.{common_steps}
 use Rattle.std.specs.List.{All}
 use Rattle.std.proofs.lemmas.List.Elements.{All-drop, All-take, All-append}
@@ -11,22 +11,6 @@ use Rattle.std.specs.Str.{bytes_eq}
 use Rattle.std.proofs.lemmas.Option.{cond_some}
 use Rattle.std.proofs.lemmas.Slice.Eq.{bytes_eq-Decides}
 
--- masks
-
-pub low_octet : (w : ℕ) → bit_and w 15 ≡ w % 16
-low_octet w = grind (arith, common_steps)
-
-pub unused_bits : (w count unused : ℕ) → 1 ≤ count → count ≤ 4
-    → (count ≡ 1 → unused ≡ w / 16 % 2 ^ 24) → (count ≡ 2 → unused ≡ w / 16 % 2 ^ 16)
-    → (count ≡ 3 → unused ≡ w / 16 % 2 ^ 8) → (count ≡ 4 → unused ≡ 0)
-    → unused ≡ w / 16 % 256 ^ (4 - count)
-unused_bits w zero unused from to p q r s = absurd (omega arith)
-unused_bits w (suc zero) unused from to p q r s = p refl
-unused_bits w (suc (suc zero)) unused from to p q r s = q refl
-unused_bits w (suc (suc (suc zero))) unused from to p q r s = r refl
-unused_bits w (suc (suc (suc (suc zero)))) unused from to p q r s = s refl ∙ omega arith
-unused_bits w (suc (suc (suc (suc (suc n))))) unused from to p q r s = absurd (omega arith)
-
 -- a word and its bytes
 
 pub octets-four : (a b c d low : ℕ) → a < 256 → b < 256 → c < 256 → d < 256 → low < 16
@@ -35,10 +19,6 @@ octets-four a b c d low p q r s t = grind arith
 
 pub low-octets : (a b c d low : ℕ) → low < 16 → octet_word a b c d low % 16 ≡ low
 low-octets a b c d low h = omega arith
-
-pub octets-fit : (a b c d low : ℕ) → a < 256 → b < 256 → c < 256 → d < 256 → low < 16
-    → IsWord (octet_word a b c d low)
-octets-fit a b c d low p q r s t = omega arith
 
 -- whether a word is the last one, and how many of its bytes count
 
@@ -196,10 +176,6 @@ are_octets (w ∷ words) = All-append IsOctet (take (count_in w (is_end words)) 
     (All-take IsOctet (count_in w (is_end words)) (four_octets w) (four-fit w)) (are_octets words)
 
 -- the result of a walk through the words
-
-end-is : (words : List ℕ) → is_end words ≡ nat_eq (length words) 0
-end-is [] = refl
-end-is (w ∷ words) = search arith
 
 pub spelled-of : (words bytes : List ℕ) → AreOctets words bytes → AreSpelled words
 spelled-of words bytes a = subst AreSpelled (sym a.packed) (packed-spelled bytes a.fit)

@@ -1,5 +1,5 @@
 //! Moments of the machine: a date and a minute.
-ghost use Rattle.std.specs.Prelude.{◌≡◌, ◌<◌, ◌≤◌, ◌^◌, ◌↔◌, IfOk, IfErr, IsOk};
+ghost use Rattle.std.specs.Prelude.{◌≡◌, ◌<◌, ◌≤◌, ◌↔◌, IfOk, IfErr, IsOk};
 ghost use Rattle.words36.specs.declared.error.WordError.TheVariants.{DateRange};
 
 use crate::WordError;

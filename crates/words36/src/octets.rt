@@ -1,5 +1,5 @@
 //! Bytes of eight bits (octets) in words: four to a word, with a count in the last one.
-ghost use Rattle.std.specs.Prelude.{◌%◌, ◌==◌, ◌&&◌, ◌∷◌, ◌++◌, [], OnErr, ◌≡◌, ◌<◌, ◌≤◌, ◌^◌, ℕ, List, true, false};
+ghost use Rattle.std.specs.Prelude.{◌%◌, ◌==◌, ◌&&◌, ◌∷◌, ◌++◌, [], OnErr, ◌≡◌, ◌<◌, ◌≤◌, ◌^◌, ℕ, List, true};
 ghost use Rattle.std.specs.Prelude.{Some, None, IfOk, IfSome, IfNone, length, slice_index};
 ghost use Rattle.words36.specs.Common.{octets_packed, octets_unpacked, octet_word, four_octets, AreOctets};
 ghost use Rattle.words36.specs.Common.{CountsOctets, OctetsAreOne, OctetsAreFound, FoundOctetsAreRight, HasRead};

@@ -1,5 +1,5 @@
 //! Texts of SIXBIT characters in words: six characters to a word.
-ghost use Rattle.std.specs.Prelude.{◌≡◌, ◌%◌, ◌+◌, ◌*◌, ◌<◌, ◌^◌, ◌↔◌, IfOk, IfErr, IsOk, length, slice_index};
+ghost use Rattle.std.specs.Prelude.{◌≡◌, ◌%◌, ◌+◌, ◌<◌, ◌↔◌, IfOk, IfErr, IsOk, length, slice_index};
 ghost use Rattle.words36.specs.Common.{IsSixbitText, IsSixbitCharacter, sixbit, characters, six_characters, code};
 
 use crate::{Word, WordError};

@@ -1,5 +1,5 @@
 -- CLOSE and RELEAS by the job of a number: what its row states of all jobs.
-use Rattle.std.proofs.Common.{◌≡◌, ℕ, Bool, false, List, Option, Some, refl, sym, subst, ◌∙◌, ◌⊎◌, inl, inr, ⊎_elim}
+use Rattle.std.proofs.Common.{◌≡◌, ℕ, Bool, false, List, Option, Some, refl, sym, subst, ◌⊎◌, inl, inr, ⊎_elim}
 use Rattle.std.proofs.Common.{slice_set}
 use Rattle.std.specs.Prelude.{◌↔◌, IsTrue}
 use Rattle.words36.specs.declared.moment.Moment.{Moment}
@@ -10,12 +10,10 @@ use Rattle.spec_machine.specs.declared.call.Event.TheVariants.{Call as Calls}
 use Rattle.spec_machine.specs.declared.call.Reply.{Reply}
 use Rattle.spec_machine.specs.declared.call.Reply.TheVariants.{Done, Value, Refused, Stopped, NoChannel, AddressCheck}
 use Rattle.spec_machine.specs.declared.call.Reply.TheVariants.{NoJob, NoMemory, Device, Failed, DateRange}
-use Rattle.spec_image.proofs.Common.{some_same}
 use Rattle.spec_image.specs.Common.{pack_of}
 use Rattle.volume.specs.Common.{MemoryMap}
-use Rattle.monitor.specs.Common.{OnlyDrops, CallCrashes, IsIdle, IsPublishing, IsPublishRow, CrashesAsRow}
-use Rattle.monitor.specs.Common.{StillStands, ClosesSide, IsRow, KeepsSides, KeepsReading, Serves, AreKeyed}
-use Rattle.monitor.specs.Common.{ArePlaced, AreReading, IsTimely}
+use Rattle.monitor.specs.Common.{OnlyDrops, CallCrashes, IsIdle, IsPublishing, IsPublishRow, CrashesAsRow, IsRow}
+use Rattle.monitor.specs.Common.{KeepsSides, KeepsReading, Serves, AreKeyed, ArePlaced, AreReading, IsTimely}
 use Rattle.monitor.specs.declared.channel.OpenChannel.{OpenChannel}
 use Rattle.monitor.specs.declared.output.Output.{Output}
 use Rattle.monitor.specs.declared.job.Job.{Job}
@@ -23,13 +21,6 @@ use Rattle.monitor.proofs.common.EventAnswers.{row, in_state, contrary}
 use Rattle.monitor.proofs.common.Dropped.{keeps_keyed}
 use Rattle.monitor.proofs.common.JobReaders.{keeps_reading}
 use Rattle.monitor.proofs.common.ServedCalls.{row_is}
-
--- The side that is published is one of the job's.
-pub closes_here : (jobs : List (Option Job)) (n : ℕ) (job : Job) (channel bits : ℕ) (c : OpenChannel) (o : Output)
-    → slot jobs n ≡ Some job → (there : Job) × (slot jobs n ≡ Some there) × ClosesSide there channel bits c o
-    → ClosesSide job channel bits c o
-closes_here jobs n job channel bits c o at closes = subst (λ j. ClosesSide j channel bits c o)
-    (some_same (sym closes.1 ∙ at)) closes.2
 
 -- If something is published.
 
@@ -47,12 +38,6 @@ module _ (d d' : DiskState) (c c' : MemoryMap) (jobs jobs' : List (Option Job)) 
 
   pub row_crashes : (call : Call) → CrashesAsRow d d' c job call → CallCrashes d d' c jobs n call moment
   row_crashes call crashes honest s state = crashes honest jobs n moment there timely s state
-
-  pub row_stands : (failed' : Bool) → StillStands c c' failed' job job' → AreKeyed c.pending jobs → ArePlaced c
-      → AreReading c.live jobs → failed' ≡ false → AreKeyed c'.pending jobs' × ArePlaced c' × AreReading c'.live jobs'
-  row_stands failed' stands keyed placed reading alive =
-      let is = stands jobs n there keyed placed reading alive in
-      (subst (AreKeyed c'.pending) (sym set) is.0, is.1, subst (AreReading c'.live) (sym set) is.2)
 
 -- what holds for each answer
 module _ (d d' : DiskState) (c c' : MemoryMap) (failed failed' : Bool) (channel : OpenChannel) (o : Output)

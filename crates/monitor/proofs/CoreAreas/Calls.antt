@@ -1,7 +1,7 @@
 -- What the monitor returns for a call is what the machine's job has.
 use Rattle.std.proofs.Common.{◌≡◌, ◌≤◌, ℕ, List, [], ◌∷◌, length, Option, Some, sym, ap, subst, ◌∙◌, arith}
 use Rattle.std.specs.List.{AllByRecursion}
-use Rattle.std.specs.Prelude.{Bool, Result, Ok, Err, IfOk, option_map}
+use Rattle.std.specs.Prelude.{Bool, Result, IfOk, option_map}
 use Rattle.blockdisk.specs.Common.{DiskState}
 use Rattle.spec_image.specs.Common.{File}
 use Rattle.spec_machine.specs.Common.{State, channel_at, job_at, slot, Serving}

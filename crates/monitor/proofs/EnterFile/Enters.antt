@@ -1,5 +1,5 @@
 -- An ENTER answers as the machine does.
-use Rattle.std.proofs.Common.{◌≡◌, ℕ, ◌+◌, false, List, Option, None, Some, refl, sym, ap, subst, ◌∙◌, inl, inr}
+use Rattle.std.proofs.Common.{◌≡◌, ℕ, ◌+◌, false, List, None, Some, refl, sym, ap, subst, ◌∙◌, inl, inr}
 use Rattle.std.specs.Prelude.{◌==◌, ◌||◌, if◌then◌else◌, is_some, option_map}
 use Rattle.spec_image.specs.Common.{number_of, Pack}
 use Rattle.spec_machine.specs.Common.{lies_outside, with_right, begin_answer, enter_answer, State, slot, channel_at}
@@ -11,7 +11,6 @@ use Rattle.monitor.specs.Common.{IsEnterAnswer, begin_answer_at, UnderKeys, inpu
 use Rattle.monitor.specs.declared.channel.OpenChannel.{OpenChannel}
 use Rattle.monitor.specs.declared.job.Job.{Job}
 use Rattle.monitor.proofs.common.CallRows.{channel_is}
-use Rattle.spec_machine.proofs.Common.{is_none_of}
 use Rattle.spec_machine.specs.Jobs as machine
 
 module _ (pack : Pack) (s : State) (w : UnderKeys) (job : Job) (number e : ℕ) (c : OpenChannel)

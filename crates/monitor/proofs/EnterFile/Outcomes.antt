@@ -1,7 +1,6 @@
 -- An ENTER begins, or is refused, as by the machine.
 use Rattle.std.proofs.Common.{◌≡◌, ◌<◌, ℕ, ◌+◌, Bool, true, false, nat_lt, Option, None, Some, Result, Ok, Err, refl}
-use Rattle.std.proofs.Common.{sym, ap, subst, ◌∙◌, ◌⊎◌, inl, inr, ⊎_elim, arith, slice_index}
-use Rattle.std.proofs.lemmas.Bool.Decides.{nat_tests}
+use Rattle.std.proofs.Common.{sym, ap, subst, ◌∙◌, ⊎_elim, slice_index}
 use Rattle.std.proofs.lemmas.Bool.{both_ways}
 use Rattle.std.specs.Prelude.{◌==◌, ◌||◌, if◌then◌else◌, is_none, option_map, ◌↔◌}
 use Rattle.std.specs.Ordering.{nat_cmp}
@@ -46,13 +45,6 @@ pub at_place : (w : UnderKeys) (job : Job) (address ppn : ℕ) (file : FileName)
     → file.ext ≡ left (slice_index job.core (address + 1))
     → place_of ppn file ≡ place_at (job_of w job) address
 at_place w job address ppn file p n x = λ i. record { ppn = p i; name = record { name = n i; ext = x i } }
-
-is_less : (a b : ℕ) → (a < b) ⊎ (nat_lt a b ≡ false)
-is_less a b = by (nat_lt a b) refl
-  where
-    by : (t : Bool) → nat_lt a b ≡ t → (a < b) ⊎ (nat_lt a b ≡ false)
-    by true e = inl (grind (arith, nat_tests))
-    by false e = inr e
 
 -- A job that begins, begins a new file if there is none.
 

@@ -1,7 +1,6 @@
 -- What a crash leaves of a disk that served a list of events.
 use Rattle.std.proofs.Common.{◌≡◌, ◌⊎◌, inl, inr, ⊎_elim, ℕ, List, [], ◌∷◌, Result, Ok, Err, IfOk, refl, sym, subst}
 use Rattle.std.proofs.Common.{◌∙◌}
-use Rattle.std.specs.Prelude.{IfErr}
 use Rattle.blockdisk.specs.Common.{Contents, DiskState, MayLeave, SameDisk, Still, LeavesOnly, same_contents}
 use Rattle.blockdisk.specs.Common.{leaves_weaker}
 use Rattle.changeset.specs.Common.{IsRecovered}
@@ -19,7 +18,6 @@ use Rattle.volume.specs.declared.error.VolumeError.TheVariants.{NoMemory, Failed
 use Rattle.volume.proofs.common.Packs.{stands_in_one}
 use Rattle.volume.proofs.VolumeStart.Starts.{stands_ignores_gate}
 use Rattle.monitor.specs.Common.{IsAlong, HasStarted, AreStopped}
-use Rattle.volume.proofs.common.PassedErrors.{found_named}
 use Rattle.spec_image.specs.Faults as faults
 
 module _ (pack : Pack) (d : DiskState) (only_now : (c : Contents) → d.left_since d.clock c

@@ -26,11 +26,6 @@ lines_are : (es : List (FileName × SpecVersion)) → map line (map (λ e. (e.0,
 lines_are [] = refl
 lines_are (e ∷ es) = ap (λ ls. entry e ∷ ls) (lines_are es)
 
--- nobody asks
-pub nobody : (s : State) (jobs : List (Option SpecJob)) (n owner : ℕ) → s.jobs ≡ jobs → slot jobs n ≡ None
-    → list s n owner ≡ Err replies.NoJob
-nobody s jobs n owner jobs_are none = ap (λ o. list_for s o owner) (ap (λ slots. slot slots n) jobs_are ∙ none)
-
 module _ (s : State) (jobs : List (Option SpecJob)) (n owner : ℕ) (job : SpecJob) (jobs_are : s.jobs
     ≡ jobs) (there : slot jobs n ≡ Some job) where
   asked : list s n owner ≡ listed job owner (get s.files owner)

@@ -76,14 +76,6 @@ module _ (c between c' : MemoryMap) (job job' : Job) (number address : ℕ) (cha
     };
   })
 
--- What isn't done leaves the channels.
-pub core_reading : (live : List (Option LiveVersion)) (job job' : Job) → job' ≡ record job { core = job'.core }
-    → KeepsReading live live job job'
-core_reading live job job' is = subst (KeepsReading live live job) (sym is) (record {
-  once = λ k. refl;
-  each = λ readers. record { each = readers.each; sixteen = readers.sixteen };
-})
-
 -- Versions that are being written stay where they are.
 pub placed_still : (c c' : MemoryMap) → c'.pending ≡ c.pending → c'.known ≡ record c.known { table = c'.known.table }
     → ArePlaced c → ArePlaced c'

@@ -66,10 +66,6 @@ module _ (d : DiskState) (c : MemoryMap) (files : Files SpecVersion) (w : UnderK
   abbrev rest : Bool → Bool → Reply
   rest there full = if there then Refused 4 else if full then Refused 0o14 else Done
 
-  abbrev with_rest : Reply → Reply
-  with_rest reply = pick (lies_outside job.core e 2) ((left owner == 0) || (right owner == 0))
-      (not ((job.ppn == system) || (job.ppn == owner))) reply
-
   abbrev crowded : Bool
   crowded = exceeds_room (pack_of d) t (1 + growth (size files))
 

@@ -2,7 +2,7 @@
 use Rattle.std.proofs.Common.{◌≡◌, ◌<◌, ◌≤◌, ◌+◌, ℕ, Bool, true, false, nat_le, List, ◌++◌, Option, None, Some, refl}
 use Rattle.std.proofs.Common.{sym, ap, subst, ◌∙◌, arith, slice_set}
 use Rattle.std.proofs.lemmas.Bool.Decides.{nat_tests}
-use Rattle.std.specs.Prelude.{◌||◌, if◌then◌else◌, is_some, option_map, option_to_list}
+use Rattle.std.specs.Prelude.{◌||◌, if◌then◌else◌, is_some, option_to_list}
 use Rattle.spec_machine.specs.Common.{lies_outside, after_writes, slot, channel_at, improper_mode, mode_at}
 use Rattle.spec_machine.specs.Common.{output_header_at, input_header_at, misses_headers, open_answer, open_done}
 use Rattle.spec_machine.specs.Common.{opens, header_opened, is_buffered, settled, of_job}

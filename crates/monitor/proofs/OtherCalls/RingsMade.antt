@@ -5,7 +5,7 @@ use Rattle.spec_machine.specs.Common.{slot, cleared, sets_up, found_or_not, core
 use Rattle.spec_machine.specs.Common.{is_buffered, byte_size, setup, buffers_of, of_job}
 use Rattle.spec_machine.specs.declared.call.Call.TheVariants.{Inbuf, Outbuf}
 use Rattle.spec_machine.specs.declared.call.Reply.{Reply}
-use Rattle.spec_machine.specs.declared.call.Reply.TheVariants.{Done, Refused, NoChannel, AddressCheck}
+use Rattle.spec_machine.specs.declared.call.Reply.TheVariants.{Done, Refused, NoChannel}
 use Rattle.retrieval.specs.Common.{mode_number}
 use Rattle.monitor.specs.Common.{UnderKeys, channel_of, job_of, IsRow}
 use Rattle.monitor.specs.declared.channel.OpenChannel.{OpenChannel}
@@ -32,14 +32,6 @@ module _ (job : Job) (number : ℕ) (c : OpenChannel) (header count : ℕ) (w : 
 
   abbrev asked : Option (List ℕ)
   asked = setup job.core header (byte_size (mode_number c.mode)) (buffers_of count)
-
-  pub ring_refused : has_no_ring (mode_number c.mode) header ≡ true
-      → sets_up (job_of w job) number (channel_of w c) header count ≡ (Refused 5, job_of w job)
-  ring_refused none = ap (λ b. made b asked) none
-
-  pub ring_outside : has_no_ring (mode_number c.mode) header ≡ false → asked ≡ None
-      → sets_up (job_of w job) number (channel_of w c) header count ≡ (AddressCheck, job_of w job)
-  ring_outside some none = ap (λ b. made b asked) some ∙ ap (made false) none
 
   pub ring_done : has_no_ring (mode_number c.mode) header ≡ false → (core : List ℕ) → asked ≡ Some core
       → sets_up (job_of w job) number (channel_of w c) header count ≡ (

@@ -3,8 +3,8 @@ use Rattle.std.proofs.Common.{◌≡◌, ◌<◌, ◌≤◌, ℕ, Bool, true, fa
 use Rattle.std.proofs.Common.{Some, refl, sym, ap, subst, ◌∙◌, arith}
 use Rattle.std.specs.List.{All}
 use Rattle.std.specs.Prelude.{◌↔◌, option_map, Result, Ok, Err, IfOk, is_err}
-use Rattle.spec_machine.specs.Common.{dump_list, word_count, after_writes, dealt, cleared, is_buffered, byte_size}
-use Rattle.spec_machine.specs.Common.{data_words, in_ready, in_writes}
+use Rattle.spec_machine.specs.Common.{dump_list, word_count, after_writes, cleared, is_buffered, byte_size, data_words}
+use Rattle.spec_machine.specs.Common.{in_ready, in_writes}
 use Rattle.spec_machine.specs.declared.area.Area.{Area}
 use Rattle.spec_image.proofs.Common.{some_same, some_none}
 use Rattle.retrieval.specs.Common.{mode_number}
@@ -28,9 +28,6 @@ module _ {X : Type 0} (f : X → Asked) (found : Option X) (asked : Option Asked
       by : (o : Option X) → found ≡ o → found ≡ None
       by None gone = gone
       by (Some x) some = absurd (some_none (sym (is ∙ ap (option_map f) some) ∙ none))
-
-  pub exact_of : {P : Type 0} → P ↔ (found ≡ None) → P ↔ (asked ≡ None)
-  exact_of exact = (λ p. is ∙ ap (option_map f) (exact.0 p), λ none. exact.1 (none_of none))
 
 -- the ring that was checked is ready
 pub ready_found : {A E : Type 0} (r : Result A E) (w : A → List ℕ) (core : List ℕ) (header bits size : ℕ)
@@ -111,24 +108,6 @@ module _ (core : List ℕ) (c : OpenChannel) (a : ℕ) where
             let from = asked_of (areas_asked core) (dump_list core a) (asked_at core c a) (asks_areas dump) k at in
             subst (λ (x : Asked). x.filled (take x.count words) ≡ x.filled words) from.2
             (ap (after_writes core) (dealt_enough from.0 words))
-
-    pub none_asked : k.none ≡ true → core ≡ k.filled words
-    none_asked none = by (is_buffered (mode_number c.mode)) refl
-      where
-        none_named : (areas : List Area) → names_none areas ≡ true → core ≡ after_writes core (dealt areas words)
-        none_named [] is = refl
-        none_named (area ∷ areas) is = absurd (cc is)
-
-        by : (b : Bool) → is_buffered (mode_number c.mode) ≡ b → core ≡ k.filled words
-        by true buffered =
-            let from = asked_of (buffer_asked c) (in_ready core c.input_header (byte_size (mode_number c.mode)))
-            (asked_at core c a) (asks_buffer buffered) k at in
-            let wrong : false ≡ true = ap (λ (x : Asked). x.none) from.2 ∙ none in
-            absurd (cc wrong)
-        by false dump =
-            let from = asked_of (areas_asked core) (dump_list core a) (asked_at core c a) (asks_areas dump) k at in
-            subst (λ (x : Asked). core ≡ x.filled words) from.2
-            (none_named from.0 (ap (λ (x : Asked). x.none) from.2 ∙ none))
 
   -- no more words than a core has
   pub few_asked : (k : Asked) → asked_at core c a ≡ Some k → k.count ≤ 0o400000

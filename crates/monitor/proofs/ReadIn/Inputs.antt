@@ -1,13 +1,11 @@
 -- IN: the words that a list names, dealt out.
-use Rattle.std.proofs.Common.{◌≡◌, ℕ, zero, suc, ◌+◌, ◌-◌, ◌<◌, ◌≤◌, List, [], ◌∷◌, ◌++◌, length, take, drop, min}
-use Rattle.std.proofs.Common.{Some, refl, sym, ap, ◌∙◌, arith}
+use Rattle.std.proofs.Common.{◌≡◌, ℕ, zero, suc, ◌+◌, ◌<◌, ◌≤◌, List, [], ◌∷◌, ◌++◌, take, drop, Some, refl, ap, arith}
 use Rattle.std.specs.List.{All}
 use Rattle.std.specs.Prelude.{option_map}
-use Rattle.std.proofs.lemmas.List.{drop-take, length-drop, drop_all}
+use Rattle.std.proofs.lemmas.List.{drop-take}
 use Rattle.std.proofs.lemmas.List.Elements.{All-head}
 use Rattle.spec_machine.specs.declared.area.Area.{Area}
 use Rattle.spec_machine.specs.Common.{placed, dealt, word_count}
-use Rattle.spec_image.specs.Common.{block_start, words_from}
 use Rattle.retrieval.specs.Common.{VersionState}
 use Rattle.volume.specs.Common.{MemoryMap, version_under, IsReadable}
 use Rattle.volume.specs.declared.handles.VersionHandle.{VersionHandle}
@@ -43,15 +41,3 @@ no_area [] some none = refl
 no_area (area ∷ areas) some none =
     let first : 0 < area.count = All-head (λ area. 0 < area.count) area areas some in
     absurd (omega (arith, first, none))
-
--- What was read of a body: at most this many words, from a block.
-module _ (most : ℕ) (body : List ℕ) (words block : ℕ) (long : length body ≡ words) where
-  -- as many words as the body has there
-  pub as_many_read : (n : ℕ) → n ≡ min most (words - block_start block) → n ≡ min most (length (words_from body block))
-  as_many_read n is =
-      is ∙ ap (λ m. min most (m - block_start block)) (sym long)
-      ∙ ap (min most) (sym (length-drop (block_start block) body))
-
-  -- if some are asked for and there are none, the body has none
-  pub ends_before : 0 < most → min most (words - block_start block) ≡ 0 → words_from body block ≡ []
-  ends_before some none = drop_all (block_start block) body (omega (arith, long, some, none))

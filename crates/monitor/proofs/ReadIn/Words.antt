@@ -22,8 +22,7 @@ use Rattle.volume.specs.declared.handles.VersionHandle.TheVariants.{Pinned, Pend
 use Rattle.volume.specs.declared.live.LiveVersion.{LiveVersion}
 use Rattle.volume.specs.declared.pending.PendingVersion.{PendingVersion}
 use Rattle.monitor.specs.Common.{Asked, handle_read, read_on, IsIn, readers_of, KeepsSides, KeepsReading, present}
-use Rattle.monitor.specs.Common.{HasReaders, IsReader, IsSide, side_of, sides_in, keys_of, reader_of, readers_in}
-use Rattle.monitor.specs.Common.{pins_of}
+use Rattle.monitor.specs.Common.{IsReader, IsSide, side_of, sides_in, keys_of, reader_of, readers_in, pins_of}
 use Rattle.monitor.specs.declared.channel.OpenChannel.{OpenChannel}
 use Rattle.monitor.specs.declared.input.Input.{Input}
 use Rattle.monitor.specs.declared.output.Output.{Output}
@@ -59,9 +58,6 @@ module _ (live : List (Option LiveVersion)) (job : Job) (number : ℕ) (c : Open
           → (v : LiveVersion) × (version_at live i.pin.key ≡ Some v) × (0 < v.readers)
       by None is none = absurd (omega arith)
       by (Some v) is one = (v, is, one)
-
-  pub next_first : HasReaders job → 0 < i.next
-  next_first has = has.each number c there i side
 
 -- The version that it reads: what its output side writes while that is open, else the one that is pinned.
 module _ (map : MemoryMap) (job : Job) (number : ℕ) (c : OpenChannel) (there : slot job.channels number ≡ Some c)

@@ -1,8 +1,8 @@
 -- RENAME on a channel that reads nothing is out of order, as it is for the machine.
 use Rattle.std.proofs.Common.{◌≡◌, ℕ, Bool, true, false, Option, None, Some, ap, ◌∙◌}
 use Rattle.std.specs.Prelude.{if◌then◌else◌, option_map}
-use Rattle.spec_machine.specs.Common.{lies_outside, State, slot, channel_at, job_at, with_job, settled, refused_at}
-use Rattle.spec_machine.specs.Common.{renames, rename_sides, rename_done, files_renamed, on_channel, of_files}
+use Rattle.spec_machine.specs.Common.{lies_outside, State, slot, channel_at, settled, refused_at, renames, rename_sides}
+use Rattle.spec_machine.specs.Common.{rename_done, files_renamed, on_channel, of_files}
 use Rattle.spec_image.specs.Common.{Files, SpecVersion, Pack}
 use Rattle.spec_machine.specs.declared.call.Call.TheVariants.{Rename}
 use Rattle.spec_machine.specs.declared.call.Reply.{Reply}

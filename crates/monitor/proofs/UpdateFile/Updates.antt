@@ -18,16 +18,15 @@ use Rattle.spec_machine.specs.declared.call.Reply.{Reply}
 use Rattle.spec_machine.specs.declared.call.Reply.TheVariants.{Done, Refused}
 use Rattle.spec_image.proofs.Common.{get-map_values, name_total}
 use Rattle.alloctab.specs.Common.{space}
-use Rattle.volume.specs.Common.{begin_cost, entries_with, is_absent, is_update, IsBeginRefusal, IsDirectoryOf, IsOver}
-use Rattle.volume.specs.Common.{claims, CurrentVersion, CurrentDirectory, cost_of_version, MemoryMap, is_create}
-use Rattle.volume.specs.Common.{IsSoundMemory}
+use Rattle.volume.specs.Common.{entries_with, is_absent, is_update, IsBeginRefusal, IsDirectoryOf, IsOver, claims}
+use Rattle.volume.specs.Common.{CurrentDirectory, MemoryMap, is_create, IsSoundMemory}
 use Rattle.volume.specs.declared.error.CallError.{CallError}
 use Rattle.volume.specs.declared.pending.PendingKind.{PendingKind}
-use Rattle.volume.specs.declared.pending.PendingKind.TheVariants.{Create, Supersede, Update, Append}
+use Rattle.volume.specs.declared.pending.PendingKind.TheVariants.{Update, Append}
 use Rattle.volume.proofs.common.Answers.{Holds, rest_holds}
 use Rattle.volume.proofs.BeginVersion.BegunFiles.{file_known, begins_with_cost, update_creates}
-use Rattle.monitor.specs.Common.{IsKnown, IsAnswer, found_file, found_in, begun_as, named_in, digit_for, UnderKeys}
-use Rattle.monitor.specs.Common.{job_of, allowed_update, update_kind, update_answer_at}
+use Rattle.monitor.specs.Common.{IsKnown, IsAnswer, found_file, found_in, begun_as, UnderKeys, job_of, allowed_update}
+use Rattle.monitor.specs.Common.{update_kind, update_answer_at}
 use Rattle.monitor.specs.declared.found.Found.{Found}
 use Rattle.monitor.specs.declared.job.Job.{Job}
 use Rattle.monitor.proofs.EnterFile.Begins.{home, listed}
@@ -56,19 +55,6 @@ updates (found.Absent p) who owner is_zero claimed kind is = cc is
 updates (found.Present p q) who owner is_zero claimed kind is =
     ap is_update (begun_kind (update_kind (file_digit q who owner)) kind _ is_zero claimed is)
     ∙ kind_updates (file_digit q who owner)
-
--- in the way that the job's digit for it allows
-pub kind_is : (o : Option (Directory File)) (name : FileName) (who owner : ℕ) (is_zero claimed : Bool)
-    (kind : PendingKind)
-    → allowed_update (found_in o name) who owner is_zero claimed ≡ Ok kind
-    → kind ≡ update_kind (digit_for who owner (named_in o name))
-kind_is None name who owner is_zero claimed kind is = cc is
-kind_is (Some d) name who owner is_zero claimed kind is = by (get d.files name) is
-  where
-    by : (was : Option File) → allowed_update (found_file d.protection was) who owner is_zero claimed ≡ Ok kind
-        → kind ≡ update_kind (digit_for who owner was)
-    by None e = cc e
-    by (Some file) e = begun_kind (update_kind (file_digit file.protection who owner)) kind _ is_zero claimed e
 
 -- What is answered, by whether a job may and whether there is room for the whole file.
 abbrev update_reply : Result PendingKind ErrorCode → Bool → Reply

@@ -1,6 +1,6 @@
 -- OUT by the job of a number, whatever it is answered with.
-use Rattle.std.proofs.Common.{◌≡◌, ◌<◌, ℕ, Bool, true, false, List, Option, Some, refl, sym, ap, subst, ◌∙◌, ◌⊎◌, inl}
-use Rattle.std.proofs.Common.{inr, slice_set}
+use Rattle.std.proofs.Common.{◌≡◌, ◌<◌, ℕ, Bool, false, List, Option, Some, refl, sym, ap, subst, ◌∙◌, ◌⊎◌, inl, inr}
+use Rattle.std.proofs.Common.{slice_set}
 use Rattle.std.specs.Prelude.{◌↔◌, IsTrue}
 use Rattle.words36.specs.declared.moment.Moment.{Moment}
 use Rattle.blockdisk.specs.Common.{DiskState}

@@ -3,7 +3,6 @@ use Rattle.std.proofs.Common.{◌≡◌, ◌<◌, ◌≤◌, ◌+◌, ◌-◌, �
 use Rattle.std.proofs.Common.{Some, refl, sym, ap, ◌∙◌, ◌⊎◌, inl, inr, arith, slice_set}
 use Rattle.std.specs.Prelude.{◌==◌, ◌&&◌, ◌||◌, not, nat_lt, option_map, option_to_list, filter_map}
 use Rattle.std.proofs.lemmas.Bool.{both_ways}
-use Rattle.std.proofs.lemmas.Bool.Decides.{nat_tests}
 use Rattle.blockdisk.specs.Common.{DiskState}
 use Rattle.spec_machine.specs.Common.{exceeds_left, State, slot, with_channel, with_job, clean, longest}
 use Rattle.spec_machine.specs.Common.{is_before_end, outgrows, finds_no_place, put_on, booked}

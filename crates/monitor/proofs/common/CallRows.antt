@@ -1,6 +1,6 @@
 -- A call's row, by the job that makes it.
-use Rattle.std.proofs.Common.{◌≡◌, ℕ, List, Option, Some, refl, sym, ap, subst, ◌∙◌, inr, arith, ◌<◌, ◌+◌, None}
-use Rattle.std.specs.Prelude.{option_map, slice_set, option_to_list, filter_map, ◌==◌, if◌then◌else◌}
+use Rattle.std.proofs.Common.{◌≡◌, ℕ, List, Option, Some, refl, sym, ap, subst, ◌∙◌, inr, arith, None}
+use Rattle.std.specs.Prelude.{option_map, slice_set, option_to_list, filter_map}
 use Rattle.std.specs.List.{AllByRecursion}
 use Rattle.spec_machine.specs.Common.{State, slot, channel_at, job_at, with_channel, with_job, on_channel, of_job}
 use Rattle.spec_machine.proofs.Common.{set-slot, slot-map}

@@ -17,8 +17,8 @@ use Rattle.monitor.specs.declared.input.Input.{Input}
 use Rattle.monitor.specs.declared.output.Output.{Output}
 use Rattle.monitor.specs.declared.job.Job.{Job}
 use Rattle.monitor.proofs.common.ReaderLists.{held-within, held-more}
-use Rattle.monitor.proofs.common.SideLists.{count, count-set, count-slot, count-more, count-within, take_all}
-use Rattle.monitor.proofs.common.SideLists.{each-set, each-slot, each-as, each_counted, each-both}
+use Rattle.monitor.proofs.common.SideLists.{count, count-set, count-slot, count-more, count-within, each-set, each-slot}
+use Rattle.monitor.proofs.common.SideLists.{each-as, each_counted, each-both}
 
 -- two keys
 pub same_or_not : {P : Type 0} (k key : ℕ) → (k ≡ key → P) → (k ≢ key → P) → P
@@ -112,12 +112,6 @@ module _ (a b : MemoryMap) (cs : List (Option OpenChannel)) (i : ℕ) (o : Optio
       → Closes a c (keys_of (filter_map side_of (take (i + 1) cs))) (pins_of (filter_map reader_of (take (i + 1) cs)))
   closed_more c next = closes_on a b c _ _ _ _ _ _ closed next (λ key. count-more key cs i o below is)
       (λ key. held-more key cs i r below reads)
-
-pub closed_all : (a b : MemoryMap) (cs : List (Option OpenChannel)) (i : ℕ) → length cs ≤ i
-    → Closes a b (keys_of (filter_map side_of (take i cs))) (pins_of (filter_map reader_of (take i cs)))
-    → Closes a b (keys_of (filter_map side_of cs)) (pins_of (filter_map reader_of cs))
-closed_all a b cs i le closed = subst
-    (λ xs. Closes a b (keys_of (filter_map side_of xs)) (pins_of (filter_map reader_of xs))) (take_all cs i le) closed
 
 -- A side that is there stays one.
 pub side_stays : (old new : List (Option PendingVersion))

@@ -7,7 +7,7 @@ use Rattle.std.proofs.lemmas.Bool.{eqb-true, eq-eqb, ne_eqb}
 use Rattle.std.specs.List.{AllByRecursion, AllZip}
 use Rattle.spec_image.specs.Common.{version_cost, cost_of_blocks, total, times, SpecVersion}
 use Rattle.spec_machine.specs.Common.{has_serial, distinct_cost}
-use Rattle.spec_image.proofs.Common.{times_head, times_other, times_here}
+use Rattle.spec_image.proofs.Common.{times_other, times_here}
 use Rattle.volume.specs.Common.{slot, pinned_cost}
 use Rattle.volume.specs.declared.live.LiveVersion.{LiveVersion}
 use Rattle.volume.proofs.common.LiveTotals.{total_updated}

@@ -1,31 +1,27 @@
 -- Versions that are being written may be published under their names: they still may if others are dropped, get words,
 -- are begun or published.
-use Rattle.std.proofs.Common.{◌≡◌, ◌<◌, ℕ, zero, suc, Bool, true, false, Option, Ok, List, [], ◌∷◌, slice_get}
-use Rattle.std.proofs.Common.{slice_set, Some, None, refl, sym, ap, subst, ◌∙◌, ⊎_elim, arith}
+use Rattle.std.proofs.Common.{◌≡◌, ◌<◌, ℕ, zero, suc, Bool, true, false, Option, List, [], ◌∷◌, slice_get, slice_set}
+use Rattle.std.proofs.Common.{Some, None, refl, sym, ap, subst, ◌∙◌, ⊎_elim, arith}
 use Rattle.std.proofs.lemmas.Bool.{cases_eq, eq-eqb}
 use Rattle.std.specs.Prelude.{◌==◌, ◌&&◌, ◌||◌, is_none}
 use Rattle.std.specs.List.{list_any}
 use Rattle.spec_image.specs.Common.{Place, same_place, place_of, SpecMasterEntry, name_cmp, get, insert, from_entries}
-use Rattle.spec_machine.specs.Common.{may_look, may_create, may_supersede, directory_digit, file_digit}
 use Rattle.retrieval.specs.Common.{VersionState}
 use Rattle.retrieval.specs.declared.prime.Prime.{Prime}
 use Rattle.volume.specs.Common.{claims_at, claims, begun, begun_version, is_absent, IsBegun, IsDirectoryOf}
 use Rattle.volume.specs.Common.{CurrentDirectory, MemoryMap, pending_at, IsPlaced, IsPublishedMemory}
-use Rattle.monitor.specs.Common.{begun_as, allowed, OnlyDrops, ArePlaced}
-use Rattle.monitor.specs.declared.found.Found.{Found}
+use Rattle.monitor.specs.Common.{OnlyDrops, ArePlaced}
 use Rattle.monitor.proofs.common.Dropped.{same_or_not}
 use Rattle.words36.specs.declared.names.FileName.{FileName}
 use Rattle.std.specs.Ordering.{nat_cmp}
 use Rattle.spec_image.proofs.Common.{some_same, some_none, get-insert_other, get-from_entries, name_total, name_exact}
 use Rattle.directory.specs.Common.{StandsAt}
 use Rattle.volume.specs.declared.pending.PendingKind.{PendingKind}
-use Rattle.volume.specs.declared.pending.PendingKind.TheVariants.{Create, Supersede}
 use Rattle.volume.specs.declared.pending.PendingVersion.{PendingVersion}
 use Rattle.volume.proofs.BeginVersion.Beginnings.{named_none}
 use Rattle.volume.proofs.PublishVersion.Publications.{placed_on}
 use Rattle.volume.proofs.common.Lists.{set_there}
 use Rattle.volume.proofs.RenameAcross.Places.{set_elsewhere}
-use Rattle.monitor.specs.declared.found.Found.TheVariants as found
 
 pub placed_none : (c : MemoryMap) → c.pending ≡ [] → ArePlaced c
 placed_none c none = record {
@@ -146,23 +142,6 @@ placed_begun c c' key kind prime begins named free placed = record {
         (some_same (sym begins.here ∙ ap (pending_at c'.pending) (sym here) ∙ at)) in
         unclaimed c.pending l q (place_of prime.ppn prime.file) free (sym (begins.others l other)
         ∙ there) (λ i. place_of ((ppn ∙ sym (ap (λ x. x.ppn) is)) i) ((file ∙ sym (ap (λ x. x.file) is)) i))
-
-begun_free : (begins : PendingKind) (may is_zero claimed : Bool) (kind : PendingKind)
-    → begun_as begins may is_zero claimed ≡ Ok kind
-    → (is_zero ≡ false) × (claimed ≡ false)
-begun_free begins may true claimed kind is = let wrong = is in cc
-begun_free begins true false true kind is = let wrong = is in cc
-begun_free begins true false false kind is = (refl, refl)
-begun_free begins false false claimed kind is = let wrong = is in cc
-
--- a version that may begin has a name, and nobody claims its place
-pub allowed_free : (found : Found) (who owner : ℕ) (is_zero claimed : Bool) (kind : PendingKind)
-    → allowed found who owner is_zero claimed ≡ Ok kind → (is_zero ≡ false) × (claimed ≡ false)
-allowed_free found.NoDirectory who owner z b kind is = let wrong = is in cc
-allowed_free (found.Absent p) who owner z b kind is = begun_free Create
-    (may_create (directory_digit p who owner)) z b kind is
-allowed_free (found.Present p q) who owner z b kind is = begun_free Supersede (may_look (directory_digit p who owner)
-    && may_supersede (file_digit q who owner)) z b kind is
 
 -- One is published.
 

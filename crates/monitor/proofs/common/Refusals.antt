@@ -1,5 +1,5 @@
 -- What a refusal leaves of a job, and what an answer leaves that is decided before anything is done.
-use Rattle.std.proofs.Common.{◌≡◌, ℕ, Bool, List, Option, subst, ◌<◌, ◌≤◌, true, false, refl, ◌∙◌, ◌⊎◌, inl, inr}
+use Rattle.std.proofs.Common.{◌≡◌, ℕ, Bool, List, Option, subst, true, false, refl, ◌⊎◌, inl, inr}
 use Rattle.blockdisk.specs.Common.{DiskState}
 use Rattle.spec_machine.specs.declared.call.Reply.{Reply}
 use Rattle.spec_machine.specs.declared.call.Reply.TheVariants.{Refused, Device, Failed}
@@ -9,7 +9,7 @@ use Rattle.monitor.specs.declared.channel.OpenChannel.{OpenChannel}
 use Rattle.monitor.specs.declared.output.Output.{Output}
 use Rattle.monitor.specs.declared.job.Job.{Job}
 use Rattle.monitor.proofs.common.Called.{by_decided}
-use Rattle.std.specs.Prelude.{if◌then◌else◌, ◌↔◌, IsTrue}
+use Rattle.std.specs.Prelude.{◌↔◌, IsTrue}
 
 -- it failed just where the device or the disk did
 pub alive_after : (failed' : Bool) (reply : Reply) → IsTrue failed' ↔ ((reply ≡ Device) ⊎ (reply ≡ Failed))

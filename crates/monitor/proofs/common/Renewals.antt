@@ -1,14 +1,13 @@
 -- An input side pins another version of its file.
-use Rattle.std.proofs.Common.{◌≡◌, ◌<◌, ℕ, ◌+◌, true, List, [], ◌∷◌, Option, None, Some, Ok, sym, ap, subst, ◌∙◌}
-use Rattle.std.proofs.Common.{⊎_elim, slice_set, arith}
-use Rattle.std.specs.Prelude.{option_map, option_to_list}
+use Rattle.std.proofs.Common.{◌≡◌, ◌<◌, ℕ, ◌+◌, true, List, [], ◌∷◌, Option, Some, Ok, sym, ap, subst, ◌∙◌, ⊎_elim}
+use Rattle.std.proofs.Common.{slice_set, arith}
+use Rattle.std.specs.Prelude.{option_to_list}
 use Rattle.std.proofs.lemmas.Bool.{cases_lt}
 use Rattle.words36.specs.declared.names.FileName.{FileName}
 use Rattle.blockdisk.specs.Common.{DiskState}
-use Rattle.spec_image.specs.Common.{Files, Directory, map_directory, get, times, SpecVersion, without_serials, file_in}
-use Rattle.spec_image.specs.Common.{file_at, place_of}
+use Rattle.spec_image.specs.Common.{Files, get, times, SpecVersion, without_serials, file_at, place_of}
 use Rattle.spec_machine.specs.Common.{slot, HaveDistinctSerials}
-use Rattle.spec_image.proofs.Common.{some_same, some_none, get-map_values, name_total}
+use Rattle.spec_image.proofs.Common.{some_same, some_none}
 use Rattle.volume.specs.Common.{as_known, MemoryMap, IsWholeMemory, slot as version_at, IsVersionOf, IsPinAnswer}
 use Rattle.volume.specs.Common.{prime_at}
 use Rattle.volume.specs.declared.live.LiveVersion.{LiveVersion}

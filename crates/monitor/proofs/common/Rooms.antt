@@ -68,10 +68,6 @@ each_once : (vs : List SpecVersion) → HaveDistinctSerials vs → distinct_cost
 each_once [] distinct = refl
 each_once (v ∷ vs) distinct = cc (distinct.0, each_once vs distinct.1)
 
-total-append : {X : Type 0} (f : X → ℕ) (xs ys : List X) → total f (xs ++ ys) ≡ total f xs + total f ys
-total-append f [] ys = omega arith
-total-append f (x ∷ xs) ys = omega (arith, total-append f xs ys)
-
 total-add : {X : Type 0} (f g : X → ℕ) (xs : List X) → total (λ x. f x + g x) xs ≡ total f xs + total g xs
 total-add f g [] = refl
 total-add f g (x ∷ xs) = omega (arith, total-add f g xs)

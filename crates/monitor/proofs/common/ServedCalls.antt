@@ -3,17 +3,16 @@ use Rattle.std.proofs.Common.{◌≡◌, ℕ, Bool, false, List, Option, None, S
 use Rattle.words36.specs.declared.moment.Moment.{Moment}
 use Rattle.blockdisk.specs.Common.{DiskState}
 use Rattle.spec_image.specs.Common.{Files, SpecVersion, pack_of}
-use Rattle.spec_machine.specs.Common.{slot, Service, Serving, Answers, step}
+use Rattle.spec_machine.specs.Common.{slot, Service, Answers, step}
 use Rattle.spec_machine.specs.declared.call.Call.{Call}
 use Rattle.spec_machine.specs.declared.call.Event.TheVariants.{Call as Calls}
 use Rattle.spec_machine.specs.declared.call.Reply.{Reply}
 use Rattle.spec_machine.specs.declared.call.Reply.TheVariants.{NoJob}
-use Rattle.spec_machine.proofs.Common.{set-slot}
 use Rattle.volume.specs.Common.{MemoryMap}
 use Rattle.monitor.specs.Common.{IsRow, KeepsSides, KeepsReading, Serves, AreKeyed, AreReading, IsTimely, UnderKeys}
 use Rattle.monitor.specs.Common.{state_of}
 use Rattle.monitor.specs.declared.job.Job.{Job}
-use Rattle.monitor.proofs.common.EventAnswers.{in_state, row, slot_of, job_set, no_job, called}
+use Rattle.monitor.proofs.common.EventAnswers.{row, slot_of, job_set, no_job, called}
 use Rattle.monitor.proofs.common.Dropped.{leaves_none, keeps_keyed}
 use Rattle.monitor.proofs.common.JobReaders.{keeps_reading}
 
@@ -22,23 +21,6 @@ module _ (d : DiskState) (map : MemoryMap) (failed : Bool) (jobs : List (Option 
   abbrev pub Answered : MemoryMap → List (Option Job) → Reply → Type 0
   Answered map' jobs' reply = (old : Service) → Serves d map failed jobs old → (new : Service)
       × Serves d map' failed jobs' new × Answers (pack_of d) old (Calls n call moment) reply new
-
-  -- Nothing is changed: then the state itself states what memory has.
-  abbrev Stays : Reply → Type 0
-  Stays reply = (serial : ℕ) (files : Files SpecVersion) (w : UnderKeys)
-      → step (pack_of d) serial (state_of files w jobs) (Calls n call moment) ≡ (reply, state_of files w jobs)
-
-  stays : (reply : Reply) → Stays reply → Answered map jobs reply
-  stays reply steps =
-      in_state d map failed jobs (λ old. (new : Service) × Serves d map failed jobs new
-      × Answers (pack_of d) old (Calls n call moment) reply new) serves
-      (λ s state. row d map map failed jobs jobs state.keyed state.reading (leaves_none map) (pack_of d)
-      (Calls n call moment) reply steps serves (Serving s) (serves, state))
-
-  -- nobody calls
-  pub nobody_asks : d.honest → slot jobs n ≡ None → Answered map jobs NoJob
-  nobody_asks honest none =
-      stays NoJob (λ serial files w. no_job (pack_of d) jobs n call moment serial files w (timely honest) none)
 
   pub nobody : d.honest → (jobs' : List (Option Job)) → AreKeyed map.pending jobs → AreReading map.live jobs → slot
       jobs n ≡ None
@@ -57,12 +39,6 @@ module _ (d : DiskState) (map : MemoryMap) (failed : Bool) (jobs : List (Option 
       called (pack_of d) jobs n call moment serial files w (timely honest) job there
       ∙ is (pack_of d) serial (state_of files w jobs) n w moment (slot_of w jobs n (Some job) there)
       ∙ ap (λ s. (reply, s)) (job_set files w jobs n job' ∙ ap (state_of files w) (sym set))
-
-  -- the job stays as it is
-  pub asks : d.honest → (job : Job) (reply : Reply) → slot jobs n ≡ Some job → IsRow job job call reply → Answered map
-      jobs reply
-  asks honest job reply there is =
-      stays reply (row_is honest jobs job job reply there (sym (set-slot jobs n job there)) is)
 
   pub alone_keyed : (jobs' : List (Option Job)) (job job' : Job) → AreKeyed map.pending jobs → slot jobs n ≡ Some job
       → jobs' ≡ slice_set jobs n (Some job') → KeepsSides map.pending map.pending job job' → AreKeyed map.pending jobs'

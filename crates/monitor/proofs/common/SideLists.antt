@@ -1,7 +1,7 @@
 -- Output sides in lists of jobs and channels: how often a key is in them, and what holds of each.
-use Rattle.std.proofs.Common.{◌≡◌, ℕ, zero, suc, ◌+◌, ◌<◌, ◌≤◌, List, [], ◌∷◌, ◌++◌, length, take, get_or, map}
-use Rattle.std.proofs.Common.{Option, Some, None, refl, ap, arith}
-use Rattle.std.specs.Prelude.{option_map, slice_set, filter_map, option_to_list}
+use Rattle.std.proofs.Common.{◌≡◌, ℕ, zero, suc, ◌+◌, ◌<◌, ◌≤◌, List, [], ◌∷◌, ◌++◌, length, take, get_or, Option, Some}
+use Rattle.std.proofs.Common.{None, refl, arith}
+use Rattle.std.specs.Prelude.{slice_set, filter_map, option_to_list}
 use Rattle.std.specs.List.{AllByRecursion, cons_option}
 use Rattle.spec_machine.specs.Common.{slot}
 use Rattle.spec_image.specs.Common.{times}
@@ -10,8 +10,6 @@ use Rattle.monitor.specs.Common.{side_of, sides_in, sides, keys_of}
 use Rattle.monitor.specs.declared.output.Output.{Output}
 use Rattle.monitor.specs.declared.channel.OpenChannel.{OpenChannel}
 use Rattle.monitor.specs.declared.job.Job.{Job}
-use Rattle.spec_machine.proofs.Common.{slot-map}
-use Rattle.volume.proofs.RenameWithin.Renamings.{map_set}
 use Rattle.monitor.proofs.common.SideCounts as counts
 
 -- Slots.
@@ -59,12 +57,6 @@ count-more key cs i o below is = counts.count-more side_of key_of key cs i o bel
 pub count-within : (key : ℕ) (cs : List (Option OpenChannel)) (i : ℕ) → count key (filter_map side_of (take i cs))
     ≤ count key (filter_map side_of cs)
 count-within key cs i = counts.count-within side_of key_of key cs i
-
-pub take_all : {X : Type 0} (xs : List X) (i : ℕ) → length xs ≤ i → take i xs ≡ xs
-take_all [] zero le = refl
-take_all [] (suc i) le = refl
-take_all (x ∷ xs) zero le = absurd (omega arith)
-take_all (x ∷ xs) (suc i) le = ap (λ ys. x ∷ ys) (take_all xs i (omega arith))
 
 -- What holds of each output side.
 

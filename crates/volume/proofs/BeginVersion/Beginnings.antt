@@ -8,7 +8,7 @@ use Rattle.std.proofs.lemmas.List.{length-map}
 use Rattle.std.specs.Ordering.{nat_cmp}
 use Rattle.std.specs.FinMap.Entries.{find}
 use Rattle.words36.specs.declared.names.FileName.{FileName}
-use Rattle.spec_image.specs.Common.{cost_of_blocks, InSpace, name_cmp, EachOnce, times, most_blocks, growth}
+use Rattle.spec_image.specs.Common.{cost_of_blocks, InSpace, name_cmp, EachOnce, times, growth}
 use Rattle.spec_image.proofs.Common.{some_same, some_none, all_times}
 use Rattle.changeset.specs.Common.{some_or_none}
 use Rattle.directory.specs.Common.{StandsAt}
@@ -24,13 +24,11 @@ use Rattle.volume.specs.declared.pending.PendingKind.{PendingKind}
 use Rattle.volume.specs.declared.pending.PendingKind.TheVariants.{Create, Supersede, Update, Append}
 use Rattle.volume.specs.declared.pending.PendingVersion.{PendingVersion}
 use Rattle.volume.specs.Common.{master_view, CurrentDirectory, CurrentVersion, Before, IsNamed, IsWholeVersion}
-use Rattle.volume.specs.Common.{IsWholeDirectory, cost_before, MemoryMap, as_known, slot, pending_cost}
-use Rattle.volume.specs.Common.{pending_reaches, is_create, IsCurrentAt, IsWholePending, IsWholeMemory, memory_of}
-use Rattle.volume.specs.Common.{live_directory, IsKeyOf, is_update, begin_cost, entries_with, no_words, shared_body}
-use Rattle.volume.specs.Common.{begun_prime, begun_version, begun, version_before, is_absent, IsBefore, IsDirectoryOf}
-use Rattle.volume.specs.Common.{IsMisfit, IsBeginRefusal}
+use Rattle.volume.specs.Common.{IsWholeDirectory, cost_before, MemoryMap, as_known, slot, pending_cost, pending_reaches}
+use Rattle.volume.specs.Common.{is_create, IsCurrentAt, IsWholePending, IsWholeMemory, memory_of, live_directory}
+use Rattle.volume.specs.Common.{IsKeyOf, is_update, begin_cost, entries_with, no_words, shared_body, begun_prime}
+use Rattle.volume.specs.Common.{begun_version, begun, version_before, is_absent, IsBefore, IsDirectoryOf, IsMisfit}
 use Rattle.alloctab.specs.Common.{IsTable, holds, space}
-use Rattle.volume.proofs.common.MapCosts.{few_blocks}
 use Rattle.volume.proofs.VolumeStart.FoundDirectories.{all_at}
 use Rattle.volume.proofs.common.Growths.{absent_at, one_place, Adds, added_total, created_elsewhere, added_growths}
 use Rattle.volume.proofs.common.LiveLookups.{standing_at}
@@ -123,34 +121,6 @@ module _ {size : ℕ} {c : MemoryMap} (whole : IsWholeMemory size c) (sound : Is
 
   pub has_version : IfSome o (λ k. IsSome (slot c.live k))
   has_version = there_of o is.key
-
-  -- it is there if the kind requires it
-  pub update_there : is_create kind ≡ is_none o → is_update kind ≡ true → (key : ℕ) × (o ≡ Some key)
-      × IsSome (slot c.live key)
-  update_there fits updates = by o fits has_version kind updates
-    where
-      by : (q : Option ℕ) → is_create kind ≡ is_none q → IfSome q (λ k. IsSome (slot c.live k)) → (l : PendingKind)
-          → is_update l ≡ true → (key : ℕ) × (q ≡ Some key) × IsSome (slot c.live key)
-      by None new there l up = absurd (creation kind updates new)
-        where
-          creation : (l : PendingKind) → is_update l ≡ true → is_create l ≡ true → ⊥
-          creation Create up new = cc
-          creation Supersede up new = cc
-          creation Update up new = cc
-          creation Append up new = cc
-      by (Some k) new there l up = (k, refl, there)
-
-  pub few_before : IfSome o (λ key. IfSome (slot c.live key) (λ v. length v.version.blocks ≤ most_blocks))
-  few_before = by o
-    where
-      by : (q : Option ℕ) → IfSome q (λ key. IfSome (slot c.live key) (λ v. length v.version.blocks ≤ most_blocks))
-      by None = tt
-      by (Some k) = of (slot c.live k) refl
-        where
-          of : (l : Option LiveVersion) → slot c.live k ≡ l → IfSome l (λ v. length v.version.blocks ≤ most_blocks)
-          of None at = tt
-          of (Some v) at = few_blocks (as_known v)
-              (standing_at (λ u. IsWholeVersion (as_known u)) c.live k v whole.standing at)
 
   -- Its blocks are those of the file of its place.
 
@@ -411,8 +381,3 @@ misfit_absent creates absent absent' code same (inl other) = (
 pub misfit_not : (creates absent : Bool) (code : ErrorCode) → IsMisfit creates absent (Some code) → creates ≡ absent → ⊥
 misfit_not creates absent code (inl one) fits = let no : true ≡ false = sym one.1 ∙ fits ∙ one.2 in cc
 misfit_not creates absent code (inr other) fits = let no : false ≡ true = sym other.1 ∙ fits ∙ other.2 in cc
-
-pub misfit_code : (creates absent : Bool) (code : ErrorCode) → IsMisfit creates absent (Some code)
-    → IsBeginRefusal code
-misfit_code creates absent code (inl one) = inr (inl one.0)
-misfit_code creates absent code (inr other) = inr (inr (inl other.0))

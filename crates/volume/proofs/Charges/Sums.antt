@@ -1,18 +1,17 @@
 -- The sums of which a charge consists, as loops add them up, and that they don't overflow.
 use Rattle.std.proofs.Common.{◌≡◌, ℕ, ◌+◌, ◌^◌, ◌<◌, ◌≤◌, ◌==◌, Bool, true, false, if◌then◌else◌, List, [], ◌∷◌, ◌++◌}
-use Rattle.std.proofs.Common.{length, take, drop, get_or, slice_get, Option, Some, None, IfSome, filter_map, refl}
-use Rattle.std.proofs.Common.{sym, ap, ◌∙◌, arith}
+use Rattle.std.proofs.Common.{length, take, drop, get_or, slice_get, Option, Some, None, filter_map, refl, sym, ap, ◌∙◌}
+use Rattle.std.proofs.Common.{arith}
 use Rattle.std.proofs.lemmas.List.{take_more, take-append-drop}
 use Rattle.std.specs.List.{AllByRecursion}
 use Rattle.spec_image.specs.Common.{total, most_blocks}
 use Rattle.slab.specs.Slab.{entries_from}
-use Rattle.volume.specs.Common.{version_before, writes_in, CurrentDirectory, IsWholeVersion, cost_before}
-use Rattle.volume.specs.Common.{cost_of_version, cost_of_directory, MemoryMap, slot, as_known, as_written}
-use Rattle.volume.specs.Common.{pending_cost, AreStanding, AreWaiting, IsWholeMemory, known_at}
+use Rattle.volume.specs.Common.{version_before, writes_in, CurrentDirectory, cost_before, cost_of_version}
+use Rattle.volume.specs.Common.{cost_of_directory, MemoryMap, slot, as_written, pending_cost, AreWaiting, IsWholeMemory}
+use Rattle.volume.specs.Common.{known_at}
 use Rattle.volume.specs.declared.live.LiveVersion.{LiveVersion}
 use Rattle.volume.specs.declared.pending.PendingVersion.{PendingVersion}
 use Rattle.volume.proofs.common.MapCosts.{few_blocks}
-use Rattle.volume.proofs.common.LiveLookups.{standing_at}
 use Rattle.volume.proofs.common.Lookups.{total-append, total-push}
 use Rattle.volume.proofs.PublishVersion.Blocks.{total_place}
 
@@ -45,15 +44,6 @@ costs_under live (k ∷ ks) = by (slot live k) refl (costs_under live ks)
         → total cost_of_version (filter_map (known_at live) (k ∷ ks)) ≡ total (cost_under live) (k ∷ ks)
     by None is rest = rw is (omega arith)
     by (Some v) is rest = rw is (omega arith)
-
-pub few_under : (live : List (Option LiveVersion)) (key : ℕ) → AreStanding live
-    → IfSome (slot live key) (λ v. length v.version.blocks ≤ most_blocks)
-few_under live key standing = by (slot live key) refl
-  where
-    by : (o : Option LiveVersion) → slot live key ≡ o → IfSome o (λ v. length v.version.blocks ≤ most_blocks)
-    by None is = tt
-    by (Some v) is = few_blocks (as_known v)
-        (standing_at (λ v. IsWholeVersion (as_known v)) live key v standing is)
 
 -- Versions that are being written, by a slab's entries.
 
@@ -91,9 +81,6 @@ writes_few ppn (Some p ∷ rest) =
     omega arith
 
 -- Both are booked.
-
-pub writing_fits : (size : ℕ) (c : MemoryMap) → IsWholeMemory size c → total pending_cost c.pending < 2 ^ 63
-writing_fits size c whole = let booked = whole.booked in let fits = whole.fits in omega arith
 
 pub charge_fits : (size : ℕ) (c : MemoryMap) (ppn place : ℕ) (d : CurrentDirectory) → IsWholeMemory size c
     → slice_get c.known.directories place ≡ Some d

@@ -1,9 +1,9 @@
 -- A copy whose home blocks come last: what a crash leaves of it before it is done.
-use Rattle.std.proofs.Common.{◌≡◌, ◌⊎◌, inl, inr, ℕ, ◌<◌, ◌≤◌, min, ap, ◌∙◌, arith}
-use Rattle.blockdisk.specs.Common.{Contents, DiskState, LeavesOnly, Modifies, Near, NoneOpen, leaves_on}
-use Rattle.blockdisk.specs.Common.{leaves_weaker, modifies_on, modifies_wider, none_open_leaves}
+use Rattle.std.proofs.Common.{◌≡◌, ◌⊎◌, inl, inr, ℕ, ◌<◌, ◌≤◌, min, arith}
+use Rattle.blockdisk.specs.Common.{Contents, DiskState, LeavesOnly, Modifies, Near, leaves_weaker, modifies_on}
+use Rattle.blockdisk.specs.Common.{modifies_wider}
 use Rattle.spec_image.proofs.Common.{below_or_not}
-use Rattle.volume.specs.Common.{ArePartlyCopied, HomesComeLast}
+use Rattle.volume.specs.Common.{HomesComeLast}
 
 -- one more of the blocks from `first` was written
 pub part_modified : (first end n : ℕ) (s s' s'' : DiskState) → first ≤ n → n < end
@@ -25,15 +25,6 @@ behind_first size behind from t t' low leaves = leaves_weaker t t' (Near (λ n. 
         out : (n : ℕ) → n < 3 → (behind ≤ n) × (n < size) → 3 ≤ behind ⊎ size ≤ behind → ⊥
         out n below within (inl h) = let a = within.0 in omega arith
         out n below within (inr h) = let a = within.0 in let b = within.1 in omega arith
-
--- and after they are on the disk they stay, while those below the gate are written
-pub homes_last : (size behind : ℕ) (from : Contents) (t t' t'' : DiskState) → behind ≤ 3
-    → LeavesOnly t t' (HomesComeLast size from t) → NoneOpen t' → ArePartlyCopied behind size from t'.contents
-    → LeavesOnly t' t'' (Near (λ n. (0 ≤ n) × (n < behind)) t') → LeavesOnly t t'' (HomesComeLast size from t)
-homes_last size behind from t t' t'' low first closed there leaves =
-    leaves_on t t' t'' (HomesComeLast size from t) (Near (λ n. (0 ≤ n) × (n < behind)) t') first leaves
-    (λ c near. inr (λ n from_gate inside. near.2 n (λ within. let a = within.1 in omega arith)
-    ∙ ap (λ (d : Contents). d n) (none_open_leaves t' closed near.0 near.1) ∙ there n (omega arith) inside))
 
 -- the least of two numbers is one of them
 pub gate_or_end : (size behind : ℕ) → behind ≡ min size 3 → 3 ≤ behind ⊎ size ≤ behind

@@ -1,18 +1,16 @@
--- What a deletion makes of the places, and of the pinned versions.
-use Rattle.std.proofs.Common.{◌≡◌, ℕ, ◌<◌, Bool, false, List, slice_set, Some, None, sym, ap, ◌∙◌, arith, ⊎_elim}
+-- What a deletion makes of the places.
+use Rattle.std.proofs.Common.{◌≡◌, ℕ, List, slice_set, Some, None, sym, ap, ◌∙◌, ⊎_elim}
 use Rattle.std.proofs.lemmas.Bool.{cases_eq}
 use Rattle.std.specs.FinMap.Entries.{find}
 use Rattle.words36.specs.declared.names.FileName.{FileName}
 use Rattle.spec_image.specs.declared.put.Put.{Put}
 use Rattle.spec_image.specs.Common.{name_cmp, get, remove, from_entries}
-use Rattle.spec_image.proofs.Common.{some_same, some_none, get-removed, get-remove_other, get-from_entries}
-use Rattle.spec_image.proofs.Common.{name_total, name_exact}
-use Rattle.volume.specs.Common.{CurrentMap, CurrentVersion, CurrentDirectory, prime_in, IsDirectoryOf, MemoryMap, slot}
+use Rattle.spec_image.proofs.Common.{some_none, get-removed, get-remove_other, get-from_entries, name_total, name_exact}
+use Rattle.volume.specs.Common.{CurrentMap, CurrentVersion, CurrentDirectory, prime_in, IsDirectoryOf, MemoryMap}
 use Rattle.volume.specs.Common.{as_known, IsCurrentAt, IsWholeMemory, IsKeyOf, prime_at, IsRemoved, RemovesFile}
 use Rattle.volume.specs.declared.live.LiveVersion.{LiveVersion}
 use Rattle.volume.proofs.BeginVersion.Beginnings.{same_directory}
 use Rattle.volume.proofs.common.PrimeBlocks.{prime_of_place, prime_elsewhere, prime_set}
-use Rattle.volume.proofs.PublishVersion.Places.{not_zero}
 
 -- The map.
 
@@ -75,20 +73,6 @@ module _ (size : ℕ) (c c' : MemoryMap) (ppn : ℕ) (name : FileName) (key : �
 
   pub primes_gone : prime_at c' ppn name ≡ None
   primes_gone = removed_here size c.known c'.known ppn name (v.at, as_known v) puts is.removed
-
-  -- a pinned version is still there
-  pub removed_readers : (k : ℕ) (u : LiveVersion) → slot c.live k ≡ Some u → 0 < u.readers
-      → (b : Bool) × (slot c'.live k ≡ Some (record u { is_current = b }))
-  removed_readers k u there read = ⊎_elim
-      (λ (same : k ≡ key).
-      let which : v ≡ u = some_same (sym is.there ∙ ap (slot c.live) (sym same) ∙ there) in
-      let left = not_zero v.readers None (Some (record v { is_current = false }))
-      (let readers = ap (λ (x : LiveVersion). x.readers) which in omega arith) in (
-        false,
-        ap (slot c'.live) same ∙ is.ended ∙ left
-            ∙ ap (λ (x : LiveVersion). Some (record x { is_current = false })) which,
-      ))
-      (λ other. (u.is_current, is.others k other ∙ there)) (cases_eq k key)
 
 -- A place whose version has a key has a file.
 pub is_named : (size : ℕ) (c : MemoryMap) → IsWholeMemory size c → (ppn : ℕ) (name : FileName) (key : ℕ)

@@ -4,7 +4,7 @@ use Rattle.std.proofs.Common.{Option, Some, None, IfSome, refl, sym, ap, subst, 
 use Rattle.std.proofs.lemmas.Bool.{cases_eq}
 use Rattle.std.specs.Ordering.{nat_cmp}
 use Rattle.std.specs.FinMap.Entries.{find}
-use Rattle.spec_image.specs.Common.{cost_of_blocks, total, times, most_blocks, growth}
+use Rattle.spec_image.specs.Common.{cost_of_blocks, total, times, growth}
 use Rattle.spec_image.proofs.Common.{some_none}
 use Rattle.alloctab.specs.Common.{holds}
 use Rattle.slab.specs.Slab.{Slab, get, Updates}
@@ -12,9 +12,8 @@ use Rattle.volume.specs.declared.pending.PendingVersion.{PendingVersion}
 use Rattle.volume.specs.Common.{CurrentDirectory, MemoryMap, pending_at, pending_cost, pending_reaches, is_creation}
 use Rattle.volume.specs.Common.{creates, growths, IsWholePending, IsWholeMemory, IsDirectoryOf}
 use Rattle.volume.proofs.common.Apart.{apart_same}
-use Rattle.volume.proofs.common.MapCosts.{few_blocks}
 use Rattle.volume.proofs.common.Growths.{Adds, added_total, added_growths, kept_growths, created_once, entries_few}
-use Rattle.volume.proofs.PinVersion.Pins.{each_slot, all_updated}
+use Rattle.volume.proofs.PinVersion.Pins.{all_updated}
 use Rattle.volume.proofs.common.StillMatches.{counting, counts_whole}
 
 -- the version that was taken out
@@ -28,10 +27,6 @@ taken_out old new key p updates is = record {
 
 module _ (size : ℕ) (c : MemoryMap) (whole : IsWholeMemory size c) (less : List (Option PendingVersion))
     (key : ℕ) (p : PendingVersion) (adds : Adds less c.pending key p) where
-  dropped_pending : IsWholePending size p
-  dropped_pending = subst (λ o. IfSome o (IsWholePending size)) adds.here
-      (each_slot (λ o. IfSome o (IsWholePending size)) tt c.pending whole.waiting key)
-
   -- its directory is there
   pub dropped_there : is_creation p ≡ true → find nat_cmp p.prime.ppn c.known.master.entries ≡ None → ⊥
   dropped_there new none =
@@ -52,9 +47,6 @@ module _ (size : ℕ) (c : MemoryMap) (whole : IsWholeMemory size c) (less : Lis
       let more = added_total less c.pending key p adds (pending_reaches n) refl in
       let all = whole.held n in
       omega arith
-
-  pub dropped_blocks : length p.version.blocks ≤ most_blocks
-  dropped_blocks = few_blocks (record { prime = p.prime; version = p.version }) dropped_pending.whole
 
   -- what its directory costs less
   pub dropped_growths : (share : ℕ) → (is_creation p ≡ false → share ≡ 0)

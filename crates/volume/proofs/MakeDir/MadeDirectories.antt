@@ -25,14 +25,6 @@ use Rattle.volume.proofs.common.Lookups.{all_push, total-push, zip_behind}
 use Rattle.volume.proofs.MakeDir.Law.{bare_chain, made_inside, puts_both}
 use Rattle.volume.proofs.common.ChainPuts.{space_not_written}
 
--- Of any event.
-
--- There are blocks to take, and none of them occurs in a chain.
-
-pub free_elsewhere : (size : ℕ) (k : CurrentMap) → IsWholeMap size k → (n : ℕ) → bit k.table n ≡ 0
-    → times n k.master.blocks ≡ 0
-free_elsewhere size k whole n clear = let is = whole.bits n in omega arith
-
 -- one directory more
 pub growths_push : (pending : List (Option PendingVersion)) (es : List SpecMasterEntry) (ds : List CurrentDirectory)
     (e : SpecMasterEntry) (d : CurrentDirectory) → length ds ≡ length es

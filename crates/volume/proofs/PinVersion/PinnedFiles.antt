@@ -1,12 +1,12 @@
--- The version of a file under its key: its blocks occur in the directories, and have the words of the file.
-use Rattle.std.proofs.Common.{◌≡◌, ◌⊎◌, inl, inr, ⊎_elim, ℕ, zero, suc, ◌+◌, ◌-◌, ◌<◌, ◌≤◌, Bool, true, false, List}
-use Rattle.std.proofs.Common.{[], ◌∷◌, slice_get, Option, Some, None, option_map, Result, Ok, Err, refl, sym, ap}
-use Rattle.std.proofs.Common.{subst, ◌∙◌, arith}
+-- The version of a file under its key: its blocks have the words of the file.
+use Rattle.std.proofs.Common.{◌≡◌, ◌⊎◌, inl, inr, ⊎_elim, ℕ, zero, suc, ◌+◌, ◌-◌, ◌<◌, Bool, true, false, List}
+use Rattle.std.proofs.Common.{slice_get, Option, Some, None, option_map, Result, Ok, Err, refl, sym, ap, subst, ◌∙◌}
+use Rattle.std.proofs.Common.{arith}
 use Rattle.std.specs.Cmp.{nat_cmp_total}
 use Rattle.words36.specs.declared.names.FileName.{FileName}
 use Rattle.blockdisk.specs.Common.{Contents, DiskState}
-use Rattle.spec_image.specs.Common.{SpecFileEntry, File, Files, get, total, times, HasBody, master_words, StoredFile}
-use Rattle.spec_image.specs.Common.{StoredDirectory, DiskMap, directory_of, files_of}
+use Rattle.spec_image.specs.Common.{File, Files, get, HasBody, master_words, StoredFile, StoredDirectory, DiskMap}
+use Rattle.spec_image.specs.Common.{directory_of, files_of}
 use Rattle.alloctab.specs.Common.{bit}
 use Rattle.directory.specs.Common.{IsOn}
 use Rattle.std.proofs.lemmas.Bool.{cases_eq}
@@ -15,41 +15,9 @@ use Rattle.volume.specs.declared.error.CallError.{CallError}
 use Rattle.volume.specs.declared.handles.Pin.{Pin}
 use Rattle.volume.specs.declared.live.LiveVersion.{LiveVersion}
 use Rattle.volume.specs.Common.{IsDirectoryOf, CurrentMap, CurrentVersion, CurrentDirectory, IsNamed, AgreesOnMap}
-use Rattle.volume.specs.Common.{MatchesMap}
-use Rattle.volume.specs.Common.{blocks_reached, reaches_in_entries, reaches_in_known, MemoryMap, slot, pending_at}
-use Rattle.volume.specs.Common.{as_known, IsWholeMemory, IsKeyOf, IsNoFile, IsVersionOf, IsFilePinned, IsPinAnswer}
-use Rattle.volume.specs.Common.{HasSomeBody, IsAtRest, IsSoundMemory}
+use Rattle.volume.specs.Common.{MatchesMap, MemoryMap, slot, pending_at, as_known, IsWholeMemory, IsKeyOf, IsNoFile}
+use Rattle.volume.specs.Common.{IsVersionOf, IsFilePinned, IsPinAnswer, HasSomeBody, IsAtRest, IsSoundMemory}
 use Rattle.volume.proofs.common.Answers.{Holds, directory_none}
-
-entries_reach : (n : ℕ) (es : List SpecFileEntry) (vs : List CurrentVersion) (i : ℕ) (e : SpecFileEntry)
-    (v : CurrentVersion)
-    → slice_get es i ≡ Some e → slice_get vs i ≡ Some v → times n (blocks_reached e.1 v.version)
-    ≤ reaches_in_entries n es vs
-entries_reach n [] vs i e v here there = cc
-entries_reach n (x ∷ es) [] i e v here there = cc
-entries_reach n (x ∷ es) (y ∷ vs) zero e v here there =
-    let same : times n (blocks_reached e.1 v.version) ≡ times n (blocks_reached x.1 y.version) = λ j.
-    times n (blocks_reached (some_same (sym here) j).1 (some_same (sym there) j).version) in
-    omega arith
-entries_reach n (x ∷ es) (y ∷ vs) (suc i) e v here there = let rest = entries_reach n es vs i e v here there in
-    omega arith
-
-directories_reach : (n : ℕ) (ds : List CurrentDirectory) (i : ℕ) (d : CurrentDirectory) → slice_get ds i ≡ Some d
-    → reaches_in_known n d ≤ total (reaches_in_known n) ds
-directories_reach n [] i d here = cc
-directories_reach n (x ∷ ds) zero d here = let same = ap (reaches_in_known n) (some_same here) in omega arith
-directories_reach n (x ∷ ds) (suc i) d here = let rest = directories_reach n ds i d here in omega arith
-
-pub key_stands : (c : MemoryMap) (ppn : ℕ) (name : FileName) (key : ℕ) → (is : IsKeyOf c ppn name key) → (n : ℕ)
-    → times n (blocks_reached is.version.at is.version.version) ≤ total (reaches_in_known n) c.known.directories
-key_stands c ppn name key is n =
-    let entry = entries_reach n is.directory.chain.entries is.directory.versions is.index (name, is.prime)
-    (as_known is.version) is.at.is is.known in
-    let directory = directories_reach n c.known.directories is.place is.directory is.directory_at in
-    let same : times n (blocks_reached is.version.at is.version.version)
-    ≡ times n (blocks_reached is.prime is.version.version) = λ j.
-    times n (blocks_reached (is.prime_is j) is.version.version) in
-    omega arith
 
 -- On an honest disk it is the file's.
 pub record IsFileOf (s : DiskState) (files : Files File) (ppn : ℕ) (name : FileName) (v : CurrentVersion) : Type 0 where

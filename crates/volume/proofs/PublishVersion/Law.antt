@@ -187,15 +187,3 @@ module _ (size : ℕ) (k k' : CurrentMap) (m : DiskMap) (ppn : ℕ) (name : File
 
   pub stored_at : get m.directories ppn ≡ Some stored
   stored_at = (known.each is.place (ppn, is.word) is.directory is.there.is is.directory_at).1
-
-module _ (size : ℕ) (k k' : CurrentMap) (m : DiskMap) (ppn : ℕ) (name : FileName) (at : ℕ) (v : CurrentVersion)
-    (old : Before) (puts : List Put) (whole : IsWholeMap size k) (is : IsPublished size k k' ppn name at v old puts)
-    (c : Contents) (held : MatchesMap size k m c) (f : StoredFile)
-    (facts : facts_of f ≡ known_facts at v.prime v.version)
-    (version : IsVersion m.layout c (place_of ppn name) f) where
-  pub publishing_leads : MatchesMap size k'
-      (map_published m ppn (stored size k k' m ppn name at v old puts is held.known) is.directory'.chain.blocks name f)
-      (with_puts puts c)
-  publishing_leads = publishing_leads_in size k k' m ppn name at v old puts whole is
-      (stored size k k' m ppn name at v old puts is held.known)
-      (stored_at size k k' m ppn name at v old puts is held.known) c held f facts version

@@ -1,12 +1,10 @@
 -- The blocks that are taken for a version and for the chain of its directory, and how all of its blocks come into use.
-use Rattle.std.proofs.Common.{◌≡◌, ⊎_elim, ℕ, ◌+◌, ◌<◌, ◌≤◌, List, [], ◌∷◌, ◌++◌, length, refl, sym, ap, subst, ◌∙◌}
-use Rattle.std.proofs.Common.{arith}
+use Rattle.std.proofs.Common.{◌≡◌, ⊎_elim, ℕ, ◌+◌, ◌<◌, ◌≤◌, List, [], ◌∷◌, ◌++◌, length, refl, sym, ap, subst, arith}
 use Rattle.std.proofs.lemmas.Bool.{cases_eq}
 use Rattle.changeset.specs.Common.{times_head, times_tail, some_or_none}
 use Rattle.spec_image.specs.Common.{times}
 use Rattle.spec_image.proofs.Common.{times-append}
-use Rattle.alloctab.specs.Common.{TableState, IsTable, bit, holds, used_in_space, holds-with_held_same}
-use Rattle.alloctab.specs.Common.{holds-with_held_other, sound-with_held}
+use Rattle.alloctab.specs.Common.{TableState, IsTable, bit, holds, used_in_space, sound-with_held}
 use Rattle.retrieval.specs.Common.{Takes, IsFixed}
 use Rattle.retrieval.proofs.TakenBlocks.{Stays, takes_stays, takes_each, takes_apart, may_be_written}
 use Rattle.volume.specs.Common.{taken, put_in_use, Marks, PutsInUse, TakesPlaces}
@@ -21,19 +19,6 @@ pub takes_append : (t : TableState) (xs : List ℕ) (u : TableState) (ys : List 
     → Takes u ys v → Takes t (xs ++ ys) v
 takes_append t [] u ys v first second = subst (λ (w : TableState). Takes w ys v) first second
 takes_append t (n ∷ xs) u ys v first second = (first.0, first.1, takes_append (taken t n) xs u ys v first.2 second)
-
-held_more : (t : TableState) (m n : ℕ) → IsTable t → m < t.size → holds (taken t m) n ≡ holds t n + times n (m ∷ [])
-held_more t m n sound inside = ⊎_elim
-    (λ (is : n ≡ m).
-    let here : holds (taken t m) n ≡ holds t m + 1 = ap (holds (taken t m)) is
-    ∙ holds-with_held_same t m (holds t m + 1) sound inside in
-    let was : holds t n ≡ holds t m = ap (holds t) is in
-    let one = times_head n m [] is in
-    omega arith)
-    (λ other.
-    let there = holds-with_held_other t m n (holds t m + 1) other in
-    let none = times_tail n m [] other in
-    omega arith) (cases_eq n m)
 
 -- and none twice
 pub takes_once : (t : TableState) (ns : List ℕ) (t' : TableState) → IsTable t → IsFixed t → Takes t ns t'

@@ -1,21 +1,20 @@
 -- A file moves to another directory: which refusal comes when.
-use Rattle.std.proofs.Common.{◌≡◌, ◌↔◌, ◌⊎◌, inl, inr, ⊎_elim, ℕ, ◌+◌, ◌^◌, ◌<◌, ◌≤◌, true, false, List, ◌∷◌, map}
-use Rattle.std.proofs.Common.{slice_get, Option, Some, None, IfSome, IfNone, is_some, Result, Ok, Err, IsErrOf, refl}
-use Rattle.std.proofs.Common.{sym, ap, subst, ◌∙◌, arith}
-use Rattle.std.specs.Cmp.{nat_cmp_total}
+use Rattle.std.proofs.Common.{◌≡◌, ◌↔◌, ◌⊎◌, inl, inr, ⊎_elim, ℕ, ◌+◌, ◌^◌, ◌<◌, ◌≤◌, true, false, map, slice_get}
+use Rattle.std.proofs.Common.{Option, Some, None, IfSome, IfNone, is_some, Result, Ok, Err, IsErrOf, refl, sym, ap}
+use Rattle.std.proofs.Common.{subst, ◌∙◌, arith}
 use Rattle.std.specs.Ordering.{nat_cmp}
 use Rattle.std.specs.FinMap.Entries.{find}
 use Rattle.words36.specs.declared.names.FileName.{FileName}
 use Rattle.spec_image.specs.declared.code.ErrorCode.{ErrorCode}
 use Rattle.spec_image.specs.declared.code.ErrorCode.TheVariants.{NameExists, NoDirectory, NoRoom, NotFound}
-use Rattle.spec_image.specs.Common.{name_cmp, growth, SpecMasterEntry}
-use Rattle.spec_image.proofs.Common.{some_same, some_none, find_first}
+use Rattle.spec_image.specs.Common.{name_cmp, growth}
+use Rattle.spec_image.proofs.Common.{some_same, some_none}
 use Rattle.alloctab.specs.Common.{space}
 use Rattle.directory.specs.Common.{StandsAt}
 use Rattle.volume.specs.Common.{entries_with, IsDirectoryOf, file_view, master_view, CurrentDirectory, MemoryMap}
 use Rattle.volume.specs.Common.{IsWholeMemory, memory_of, live_directory, HasFile, HasNoRoom, IsKeyOf, IsNoFile}
 use Rattle.volume.specs.declared.error.CallError.{CallError}
-use Rattle.volume.specs.declared.error.CallError.TheVariants.{Refused, Device, Failed, NoMemory}
+use Rattle.volume.specs.declared.error.CallError.TheVariants.{Refused, NoMemory}
 use Rattle.volume.specs.declared.live.LiveDirectory.{LiveDirectory}
 use Rattle.volume.specs.declared.live.LiveMap.{LiveMap}
 use Rattle.volume.proofs.BeginVersion.Beginnings.{same_directory}
@@ -144,21 +143,6 @@ module _ (size : ℕ) (c : MemoryMap) (whole : IsWholeMemory size c) (ppn : ℕ)
           λ any. absurd (⊎_elim (λ absent. some_none (sym none.2.found ∙ absent)) (λ has. no_file has.0) any),
         )
 
-    pub no_file_lacking : IsErrOf {T = Unit {0}} (Err error) (Refused NotFound) ↔ IsLacking c ppn name
-    no_file_lacking = by is
-      where
-        by : IsNoFile c ppn name error
-            → (IsErrOf {T = Unit {0}} (Err error) (Refused NotFound) ↔ IsLacking c ppn name)
-        by (inl absent) = (
-          λ said. absurd (let a : Refused NotFound ≡ Refused NoDirectory = sym (error_is error _ said) ∙ absent.1 in
-              cc),
-          λ lacks. absurd (some_none (sym lacks.1.2.found ∙ absent.0)),
-        )
-        by (inr none) = (
-          λ said. (none.3, (none.0, none.1, none.2, none.4), none.5),
-          λ lacks. ap (λ e. Err e) none.6,
-        )
-
     -- which code it is
     no_file_code : (code : ErrorCode) × (error ≡ Refused code) × ((code ≡ NoDirectory) ⊎ (code ≡ NotFound))
     no_file_code = by is
@@ -189,24 +173,6 @@ module _ (size : ℕ) (c : MemoryMap) (whole : IsWholeMemory size c) (ppn : ℕ)
       λ said. absurd (no_file_other NoRoom (λ same. cc) (λ same. cc) said),
       λ has. absurd (no_file has.0),
     )
-
-    pub no_file_codes : (code : ErrorCode) → IsErrOf {T = Unit {0}} (Err error) (Refused code)
-        → (code ≡ NoDirectory) ⊎ (code ≡ NotFound) ⊎ (code ≡ NameExists) ⊎ (code ≡ NoRoom)
-    no_file_codes code said =
-        let of = no_file_code in
-        let both : Refused code ≡ Refused of.0 = sym (error_is error _ said) ∙ of.1 in
-        let same : code ≡ of.0 = cc in
-        ⊎_elim (λ first. inl (same ∙ first)) (λ second. inr (inl (same ∙ second))) of.2
-
-    -- nothing else is blamed
-    pub no_file_plain : (IsErrOf {T = Unit {0}} (Err error) NoMemory → ⊥)
-        × (IsErrOf {T = Unit {0}} (Err error) Device → ⊥) × (IsErrOf {T = Unit {0}} (Err error) Failed → ⊥)
-    no_file_plain =
-        let of = no_file_code in (
-          λ said. let a : NoMemory ≡ Refused of.0 = sym (error_is error _ said) ∙ of.1 in absurd (cc),
-          λ said. let a : Device ≡ Refused of.0 = sym (error_is error _ said) ∙ of.1 in absurd (cc),
-          λ said. let a : Failed ≡ Refused of.0 = sym (error_is error _ said) ∙ of.1 in absurd (cc),
-        )
 
   -- If the file is there, and may not move to its place.
 
@@ -250,16 +216,6 @@ module _ (size : ℕ) (c : MemoryMap) (whole : IsWholeMemory size c) (ppn : ℕ)
         by (inr (inl is)) = (NameExists, is, inr (inl refl))
         by (inr (inr is)) = (NoRoom, is, inr (inr refl))
 
-    pub target_codes : (code : ErrorCode) → IsErrOf {T = Unit {0}} (Err error) (Refused code)
-        → (code ≡ NoDirectory) ⊎ (code ≡ NotFound) ⊎ (code ≡ NameExists) ⊎ (code ≡ NoRoom)
-    target_codes code said =
-        let of = target_code in
-        let both : Refused code ≡ Refused of.0 = sym (error_is error _ said) ∙ of.1 in
-        let same : code ≡ of.0 = cc in
-        ⊎_elim (λ first. inl (same ∙ first))
-        (λ rest. ⊎_elim (λ second. inr (inr (inl (same ∙ second)))) (λ third. inr (inr (inr (same ∙ third)))) rest)
-        of.2
-
     pub target_lacking : IsErrOf {T = Unit {0}} (Err error) (Refused NotFound) ↔ IsLacking c ppn name
     target_lacking = (
       λ said.
@@ -272,27 +228,10 @@ module _ (size : ℕ) (c : MemoryMap) (whole : IsWholeMemory size c) (ppn : ℕ)
       λ lacks. absurd (key_there size c whole ppn name key file lacks),
     )
 
-    pub target_plain : (IsErrOf {T = Unit {0}} (Err error) NoMemory → ⊥)
-        × (IsErrOf {T = Unit {0}} (Err error) Device → ⊥) × (IsErrOf {T = Unit {0}} (Err error) Failed → ⊥)
-    target_plain =
-        let of = target_code in (
-          λ said. let a : NoMemory ≡ Refused of.0 = sym (error_is error _ said) ∙ of.1 in absurd (cc),
-          λ said. let a : Device ≡ Refused of.0 = sym (error_is error _ said) ∙ of.1 in absurd (cc),
-          λ said. let a : Failed ≡ Refused of.0 = sym (error_is error _ said) ∙ of.1 in absurd (cc),
-        )
-
   -- If both are there, and no refusal is left.
 
   module _ (key : ℕ) (file : IsKeyOf c ppn name key) (result : Result (Unit {0}) CallError)
       (plain : (code : ErrorCode) → IsErrOf result (Refused code) → ⊥) (place : ℕ) where
-    pub moved_homeless : (IsErrOf {T = ℕ} {E = CallError} (Ok place) (Refused NoDirectory)
-        ↔ (find nat_cmp to_ppn c.known.master.entries ≡ None))
-        → (IsErrOf result (Refused NoDirectory) ↔ IsHomeless c ppn name to_ppn)
-    moved_homeless says = (
-      λ said. absurd (plain NoDirectory said),
-      λ any. absurd (⊎_elim (λ absent. key_housed key file absent) (λ has. let no = says.1 has.1 in cc) any),
-    )
-
     pub moved_lacking : IsErrOf result (Refused NotFound) ↔ IsLacking c ppn name
     moved_lacking = (
       λ said. absurd (plain NotFound said),
@@ -316,13 +255,6 @@ pub memory_plain : (code : ErrorCode) → IsErrOf {T = Unit {0}} (Err NoMemory) 
 memory_plain code said = let a : NoMemory ≡ Refused code = error_is NoMemory _ said in cc
 
 -- Within one directory.
-
--- what is found first isn't found only later
-not_behind : (e : SpecMasterEntry) (es : List SpecMasterEntry) (k : ℕ) (v : ℕ × ℕ) → Some e ≡ Some (k, v)
-    → find nat_cmp k (e ∷ es) ≡ None → ⊥
-not_behind e es k v is none =
-    let key = ap (λ (x : SpecMasterEntry). x.0) (some_same is) in
-    some_none (sym (find_first nat_cmp_total e es) ∙ ap (λ (q : ℕ). find nat_cmp q (e ∷ es)) key ∙ none)
 
 pub within_exists : (c : MemoryMap) (ppn : ℕ) (name : FileName) (to_ppn : ℕ) (to : FileName) → to_ppn ≡ ppn
     → (result : Result (Unit {0}) CallError) → (IsErrOf result (Refused NameExists) ↔ IsBeside c ppn name to)

@@ -20,11 +20,6 @@ use Rattle.volume.specs.Common.{IsKnownVersion, AreFilesRead, IsFaultOfFile, IsF
 use Rattle.volume.proofs.common.Lookups.{viewed_more, all_of_map, all_both, all_each, all_push, all_to_map}
 use Rattle.volume.proofs.common.Lookups.{zip_behind, total-push, total-map, found_in_front}
 
-pub no_files : (layout : ℕ) (contents : Contents) (ppn : ℕ) (marks : ℕ → ℕ)
-    → AreFilesRead layout contents ppn [] [] marks marks
-no_files layout contents ppn marks =
-    record { found = []; named = refl; whole = tt; known = tt; marked = λ n. omega arith }
-
 -- one file more
 pub more_files : (layout : ℕ) (contents : Contents) (ppn : ℕ) (entries : List SpecFileEntry)
     (versions : List CurrentVersion)

@@ -6,10 +6,9 @@ use Rattle.std.specs.Cmp.{nat_cmp_total}
 use Rattle.std.specs.FinMap.{nat_cmp-IsAntisymmetric}
 use Rattle.std.specs.FinMap.Entries.{find}
 use Rattle.blockdisk.specs.Common.{Contents}
-use Rattle.spec_image.specs.Common.{EachOnce, times, total, from_entries, head_or_zero, IsHome, fixed, Node}
-use Rattle.spec_image.specs.Common.{SpecMasterEntry, master_words, IsMasterEntry, numbers, items, first_of, file_words}
-use Rattle.spec_image.specs.Common.{StoredDirectory, DiskMap, entry_of, reaches, reaches_in_directory, IsMapped}
-use Rattle.spec_image.specs.Common.{found_map, IsWrongTable}
+use Rattle.spec_image.specs.Common.{EachOnce, times, total, from_entries, head_or_zero, IsHome, fixed, SpecMasterEntry}
+use Rattle.spec_image.specs.Common.{master_words, IsMasterEntry, numbers, items, first_of, file_words, StoredDirectory}
+use Rattle.spec_image.specs.Common.{DiskMap, entry_of, reaches, reaches_in_directory, IsMapped, found_map, IsWrongTable}
 use Rattle.spec_image.proofs.Common.{head-numbers, some_same, EachOnce-from_map, mapped-from_entries}
 use Rattle.spec_image.proofs.Common.{get-from_entries, map_mapped, map_reaches, map_stands}
 use Rattle.alloctab.specs.Common.{digit_at, digit, flag_at, TableState}
@@ -23,9 +22,6 @@ use Rattle.volume.proofs.VolumeStart.FoundDirectories.{zip_at, mapped_at, all_at
 module _ (size : ℕ) (contents : Contents) (layout first : ℕ) (master : ChainState SpecMasterEntry)
     (directories : List CurrentDirectory) (marks : ℕ
     → ℕ) (r : IsMapFound size contents layout first master directories marks) where
-  nodes : List (Node SpecMasterEntry)
-  nodes = nodes_of master.blocks master.entries
-
   abbrev pub map_found : DiskMap
   map_found = found_map layout (nodes_of master.blocks master.entries) r.read.found
 

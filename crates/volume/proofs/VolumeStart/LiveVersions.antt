@@ -9,11 +9,10 @@ use Rattle.spec_image.proofs.Common.{some_none}
 use Rattle.alloctab.specs.Common.{holds}
 use Rattle.volume.specs.declared.live.LiveVersion.{LiveVersion}
 use Rattle.volume.specs.Common.{CurrentMap, CurrentDirectory, blocks_reached, cost_of_known, IsWholeMap, IsBooked}
-use Rattle.volume.specs.Common.{MemoryMap, slot, pending_at, IsKeyed, IsFirstRead, AreStanding, pinned_reaches}
-use Rattle.volume.specs.Common.{pinned_cost, current_reaches, entry_reaches, pending_reaches, pending_cost, creates}
-use Rattle.volume.specs.Common.{growths, cost_beyond, AreWaiting, IsWholeMemory}
+use Rattle.volume.specs.Common.{MemoryMap, pending_at, IsKeyed, IsFirstRead, AreStanding, pinned_reaches, pinned_cost}
+use Rattle.volume.specs.Common.{current_reaches, entry_reaches, pending_reaches, pending_cost, creates, growths}
+use Rattle.volume.specs.Common.{cost_beyond, AreWaiting, IsWholeMemory}
 use Rattle.volume.proofs.common.Answers.{map_few}
-use Rattle.volume.proofs.common.LiveLookups.{standing_at}
 
 replicate_none : (n i : ℕ) → slice_index (replicate n 0) i ≡ 0
 replicate_none n i = ⊎_elim (λ below. get_or-replicate n i 0 0 below)
@@ -52,10 +51,6 @@ none_beyond c read none =
     let held = none_costs c.live read in
     let waits = ap (total pending_cost) none in
     omega arith
-
-first_at : (live : List (Option LiveVersion)) (key : ℕ) (v : LiveVersion)
-    → AllByRecursion (λ o. IfSome o IsFirstRead) live → slot live key ≡ Some v → IsFirstRead v
-first_at live key v all is = standing_at IsFirstRead live key v all is
 
 pub kept_whole : (size : ℕ) (k : CurrentMap) (c : MemoryMap) → IsWholeMap size k → IsBooked size k → c.known ≡ k
     → AllZip (IsKeyed c.live) c.known.directories c.keys → AllByRecursion (λ o. IfSome o IsFirstRead) c.live

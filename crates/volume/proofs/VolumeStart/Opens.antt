@@ -1,11 +1,11 @@
 -- A disk that is opened: what is handed on from its parts.
 use Rattle.std.proofs.Common.{◌≡◌, inl, inr, ⊎_elim, ℕ, ◌+◌, ◌≤◌, Bool, false, List, length, replicate, Result, Err}
-use Rattle.std.proofs.Common.{IfErr, sym, ap, subst, ◌∙◌, arith}
+use Rattle.std.proofs.Common.{IfErr, ap, subst, ◌∙◌, arith}
 use Rattle.std.proofs.lemmas.Bool.Decides.{nat_tests}
 use Rattle.std.proofs.lemmas.List.{get_or_past}
 use Rattle.std.specs.List.{AllByRecursion}
 use Rattle.std.specs.Ordering.{nat_cmp}
-use Rattle.blockdisk.specs.Common.{Contents, DiskState, MayLeave, Keeps, keeps_still, passes_weaker}
+use Rattle.blockdisk.specs.Common.{Contents, DiskState, Keeps, keeps_still}
 use Rattle.changeset.specs.Common.{OnlyReads}
 use Rattle.spec_image.specs.Common.{IsVolumeSize, space_start, table_blocks, fixed, InSpace, IsMasterEntryOf}
 use Rattle.spec_image.specs.Common.{IsWrongTable}
@@ -79,14 +79,6 @@ right_bits size contents reached t u same right = record {
     undamaged = right.read.undamaged;
   };
   right = λ n. ap (λ (bits : List Bool). digit_at bits n) same ∙ right.right n;
-}
-
-pub keeps_of : (s s' : DiskState) → OnlyReads s s' → Keeps s s'
-keeps_of s s' reads = record {
-  contents = reads.still.contents;
-  is_open = reads.is_open;
-  time = passes_weaker s s' (MayLeave s) (MayLeave s') reads.still.time
-      (λ c left n closed. left n (sym (reads.is_open n) ∙ closed) ∙ sym (reads.still.contents n));
 }
 
 -- What was read is whole: its table has the bits that the reached blocks require.

@@ -1,6 +1,6 @@
 -- Lists of blocks whose bits are set or cleared, or that are held, one after the other.
 use Rattle.std.proofs.Common.{◌≡◌, ⊎_elim, ℕ, ◌+◌, ◌-◌, ◌/◌, ◌<◌, ◌≤◌, ◌^◌, Bool, true, false, List, [], ◌∷◌, ◌++◌}
-use Rattle.std.proofs.Common.{length, get_or, slice_index, slice_set, take, drop, refl, sym, ap, subst, ◌∙◌, arith}
+use Rattle.std.proofs.Common.{length, get_or, slice_set, take, drop, refl, sym, ap, subst, ◌∙◌, arith}
 use Rattle.std.proofs.lemmas.Bool.{cases_eq, cases_lt}
 use Rattle.std.proofs.lemmas.List.{take_more, take-append-drop, get_or_past}
 use Rattle.changeset.specs.Common.{times_head, times_tail}
@@ -135,16 +135,6 @@ puts_in_use_then t u v xs ys first second = record {
   bits = λ n. omega (arith, times-append n xs ys, first.bits n, second.bits n);
   held = λ n. omega (arith, times-append n xs ys, first.held n, second.held n);
 }
-
--- set, and one hold released
-pub puts_in_use_all : (t u v : TableState) (blocks : List ℕ) → SetsBits t u blocks → v ≡ record u { held = v.held }
-    → IsTable v → ((n : ℕ) → holds v n + times n blocks ≡ holds u n) → PutsInUse t v blocks
-puts_in_use_all t u v blocks sets is sound less = subst (λ w. PutsInUse t w blocks) (sym is) (record {
-  marks = marks_counts t u v.held sets.marks (subst IsTable is sound);
-  booked = sets.booked;
-  bits = sets.bits;
-  held = λ n. less n ∙ ap (λ (l : List ℕ). slice_index l n) sets.held;
-})
 
 -- one block
 pub puts_in_use_one : (t : TableState) (n : ℕ) → IsTable t → n < t.size → bit t n ≡ 0 → 0 < holds t n

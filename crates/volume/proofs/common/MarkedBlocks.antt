@@ -1,12 +1,11 @@
 -- Blocks that are marked one after the other.
-use Rattle.std.proofs.Common.{◌≡◌, ℕ, zero, suc, ◌+◌, ◌<◌, ◌≤◌, Result, Ok, Err, OnOk, Bool, true, false, List, []}
-use Rattle.std.proofs.Common.{◌∷◌, ◌++◌, length, get_or, slice_set, take, drop, refl, sym, ap, subst, ◌∙◌, arith}
-use Rattle.std.proofs.Common.{⊎_elim}
+use Rattle.std.proofs.Common.{◌≡◌, ℕ, zero, suc, ◌+◌, ◌<◌, ◌≤◌, Result, Ok, Err, OnOk, Bool, true, false, List, [], ◌∷◌}
+use Rattle.std.proofs.Common.{◌++◌, length, get_or, slice_set, take, drop, refl, sym, ap, ◌∙◌, arith, ⊎_elim}
 use Rattle.std.specs.List.{AllByRecursion}
 use Rattle.std.proofs.lemmas.Bool.{cases_eq}
 use Rattle.std.proofs.lemmas.List.{take_more, take-append-drop, get_or-set_same, get_or-set_other}
 use Rattle.spec_image.specs.Common.{times}
-use Rattle.spec_image.proofs.Common.{times-append, all_append}
+use Rattle.spec_image.proofs.Common.{times-append}
 use Rattle.changeset.specs.Common.{times_head, times_tail}
 use Rattle.alloctab.specs.Common.{digit, digit_at, flag_at}
 
@@ -50,11 +49,6 @@ pub all_at : (P : ℕ → Type 0) (xs : List ℕ) (i : ℕ) → AllByRecursion P
 all_at P [] i all below = absurd (omega arith)
 all_at P (x ∷ xs) zero all below = all.0
 all_at P (x ∷ xs) (suc i) all below = all_at P xs i all.1 (omega arith)
-
-pub all_more : (P : ℕ → Type 0) (xs : List ℕ) (i : ℕ) → i < length xs → AllByRecursion P (take i xs) → P (get_or xs i 0)
-    → AllByRecursion P (take (i + 1) xs)
-all_more P xs i below all here = subst (AllByRecursion P) (sym (take_more xs i 0 below))
-    (all_append P (take i xs) (get_or xs i 0 ∷ []) all (here, tt))
 
 -- The blocks of a version: the prime block, the ribs, and the data blocks.
 

@@ -22,10 +22,6 @@ use Rattle.volume.specs.Common.{Marks, taken, released, put_in_use, Uses, with_b
 
 -- Released.
 
--- a block that was taken is held
-pub taken_held : (t : TableState) (n : ℕ) → IsTable t → n < t.size → 0 < holds (taken t n) n
-taken_held t n sound inside = let e = holds-with_held_same t n (holds t n + 1) sound inside in omega arith
-
 -- holding a block as often as it was held is no change
 held_back : (t : TableState) (n x count : ℕ) → count ≡ holds t n → with_held (with_held t n x) n count ≡ t
 held_back t n x count is =
@@ -41,9 +37,6 @@ pub gives_back : (t t' t'' : TableState) (n : ℕ) → IsTable t → n < t.size 
     → t'' ≡ t
 gives_back t t' t'' n sound inside took gave = gave ∙ ap (λ (u : TableState). released u n) took
     ∙ released_taken t n sound inside
-
-pub gives_held : (t t' : TableState) (n : ℕ) → IsTable t → n < t.size → t' ≡ taken t n → 0 < holds t' n
-gives_held t t' n sound inside took = subst (λ (u : TableState). 0 < holds u n) (sym took) (taken_held t n sound inside)
 
 -- Brought into use.
 
@@ -117,15 +110,6 @@ changed_inside u i sound is = ⊎_elim (λ below. omega (arith, sound.changed_ar
 
 module _ (t u t' : TableState) (ns : List ℕ) (before after : List Put) (uses : Uses t u ns) (is : t'
     ≡ record u { changed = replicate (table_blocks u.size) false }) where
-  pub takes_blocks : TakesBlocks t t' ns
-  takes_blocks = subst (λ (v : TableState). TakesBlocks t v ns) (sym is) (record {
-    size = uses.size;
-    held = uses.held;
-    booked = uses.booked;
-    changed = ap (λ (n : ℕ). replicate (table_blocks n) false) uses.size;
-    bits = uses.bits;
-  })
-
   bits_are : (n : ℕ) → bit u n ≡ bit t' n
   bits_are n = ap (λ (v : TableState). bit v n) (sym is)
 
@@ -198,12 +182,6 @@ pub gives_two : (t : TableState) (n k : ℕ) (o : Option ℕ) (t' v w : TableSta
 gives_two t n k o t' v w is sound takes first second =
     let two = second_of t n k o t' is sound takes in
     gives_back t v w n sound takes.0 (gives_back (taken t n) t' v k two.1 two.0 two.2 first) second
-
-pub held_two : (t : TableState) (n k : ℕ) (o : Option ℕ) (t' : TableState) → o ≡ Some k → IsTable t
-    → Takes t (n ∷ option_to_list o) t' → (k < t'.size) × (0 < holds t' k)
-held_two t n k o t' is sound takes =
-    let two = second_of t n k o t' is sound takes in
-    (subst (λ (u : TableState). k < u.size) (sym two.2) two.0, gives_held (taken t n) t' k two.1 two.0 two.2)
 
 -- brought into use
 pub uses_one : (t : TableState) (n : ℕ) (o : Option ℕ) (t' v w : TableState) → o ≡ None → IsTable t

@@ -1,13 +1,12 @@
 -- Blocks 0 to 2 stay: no call writes them, and none puts them.
 use Rattle.std.proofs.Common.{◌≡◌, ◌⊎◌, ⊎_elim, inl, ℕ, ◌≤◌, List, refl, ◌∙◌, arith}
-use Rattle.std.specs.List.{AllByRecursion}
 use Rattle.words36.specs.declared.names.FileName.{FileName}
 use Rattle.blockdisk.specs.Common.{Contents, DiskState, MayLeave, Near, Modifies, LeavesOnly, leaves_start, leaves_on}
 use Rattle.blockdisk.specs.Common.{leaves_weaker, modifies_near}
-use Rattle.changeset.specs.Common.{IsGateOrLog, IsPutIn, some_or_none}
+use Rattle.changeset.specs.Common.{IsGateOrLog, IsPutIn}
 use Rattle.spec_image.specs.declared.put.Put.{Put}
-use Rattle.spec_image.specs.Common.{InSpace, times}
-use Rattle.spec_image.proofs.Common.{fixed_below, each_times}
+use Rattle.spec_image.specs.Common.{InSpace}
+use Rattle.spec_image.proofs.Common.{fixed_below}
 use Rattle.alloctab.specs.Common.{bit}
 use Rattle.volume.specs.Common.{HasHomesFrom, KeepsHomes, CurrentMap, CurrentVersion, IsWholeMap}
 use Rattle.volume.specs.Common.{IsMovedWithin}
@@ -50,16 +49,6 @@ homes_stay In s s' out modified n low = modified.contents n (out n low)
 pub past_homes : (size : ℕ) (puts : List Put) → ((n : ℕ) → n ≤ 2 → IsPutIn puts n → ⊥) → (n : ℕ) → n ≤ 2
     → IsGateOrLog size n ⊎ IsPutIn puts n → ⊥
 past_homes size puts low n small = ⊎_elim (λ log. let from = log.0 in omega arith) (low n small)
-
--- So does the free space,
-pub space_past : (size n : ℕ) → n ≤ 2 → InSpace size n → ⊥
-space_past size n low there = let from = there.from in omega arith
-
-pub out_of : (size : ℕ) (blocks : List ℕ) → AllByRecursion (InSpace size) blocks → (n : ℕ) → n ≤ 2
-    → times n blocks ≡ 0
-out_of size blocks inside n low = ⊎_elim
-    (λ there. absurd (space_past size n low (each_times (InSpace size) blocks n inside there)))
-    (λ none. none) (some_or_none (times n blocks))
 
 -- and a clear bit is one of it.
 pub clear_past : (size : ℕ) (k : CurrentMap) → IsWholeMap size k → (n : ℕ) → n ≤ 2 → bit k.table n ≡ 0 → ⊥

@@ -17,8 +17,8 @@ loop-file-init g c = (
 )
 
 pub save_one-requires-clause-fits : goal.save_one-requires-clause-fits
-save_one-requires-clause-fits g c = fits_at (g.D.Disk.state c.loop-file.disk).size c.args.files.now c.loop-file.file-index
-    c.file-item.result c.loop-file-test.true c.file-item.is
+save_one-requires-clause-fits g c = fits_at (g.D.Disk.state c.loop-file.disk).size c.args.files.now
+    c.loop-file.file-index c.file-item.result c.loop-file-test.true c.file-item.is
     (all_fit _ _ c.args.files.now c.loop-file.invariant.1 c.requires.fit)
 
 pub loop-file-preserved : goal.loop-file-preserved

@@ -1,4 +1,4 @@
-use Rattle.std.proofs.Common.{arith, ◌∙◌}
+use Rattle.std.proofs.Common.{arith}
 use Rattle.usercore.proofs.ListLaws.{lone_found}
 use Rattle.usercore.proofs.user_core.Core.lone_area.Goals as goal
 

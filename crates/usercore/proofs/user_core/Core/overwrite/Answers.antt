@@ -1,4 +1,4 @@
-use Rattle.std.proofs.Common.{◌≡◌, ◌∙◌, ◌+◌, length, subst, sym, arith, ap}
+use Rattle.std.proofs.Common.{◌∙◌, length, subst, sym, arith, ap}
 use Rattle.spec_machine.specs.Common.{after_writes, placed}
 use Rattle.usercore.specs.Common.{IsCore}
 use Rattle.usercore.proofs.WriteLaws.{overwritten, core_placed}
