@@ -2,10 +2,11 @@
 
 PREFIX ?= /usr/local
 
-.PHONY: help try build run test program-tests wrong-bodies install
+.PHONY: help try quick build run test program-tests wrong-bodies install
 
 help:
 	@echo 'make try      a first session with the program, unproved: a minute'
+	@echo 'make quick    what can be checked without a proof: layout, names, edits, and the tests of what changed'
 	@echo 'make build    prove and build the program, as bin/filser'
 	@echo 'make run      the same, and then a first run in a fresh folder'
 	@echo 'make test     the gate: prove every crate from nothing, run its tests, try the wrong bodies of must-fail/, and'
@@ -19,12 +20,12 @@ help:
 try:
 	@tools/first-session
 
-# The program that rt ci leaves is the one that it built from nothing. It proves as many things side by side as there are
-# processors; left to itself it waits for more memory than proofs take (docs/TRAPS.md).
+quick:
+	tools/quick
+
+# The program that rt ci leaves is the one that it built from nothing.
 test:
-	RT_JOBS=$${RT_JOBS:-$$(nproc)} tools/timed rt ci
-	$(MAKE) program-tests
-	tools/test-wrong-bodies
+	tools/gate
 
 # Many edits by one check, beginning with what earlier checks kept: the first time every crate is proved too.
 wrong-bodies:
@@ -38,9 +39,9 @@ program-tests:
 
 # The first time every crate below the program is proved too; what was proved is kept below crates/*/out.
 build:
-	@echo 'This proves the program and all crates below it, and builds it: half an hour or more the first time, on four'
+	@echo 'This proves the program and all crates below it, and builds it: up to half an hour the first time, on four'
 	@echo 'processors, and later only what has changed. "so far: N of M functions checked" speaks of one crate.'
-	cd crates/filser && rt run -- --version
+	tools/build
 	mkdir -p bin
 	cp crates/filser/out/filser bin/filser
 
