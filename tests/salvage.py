@@ -361,6 +361,36 @@ def logs(tries):
     tries.so("check refuses it", tries.run(["check", "F.IMG"]).stdout == b"?Bad log\n")
 
 
+def silence(tries):
+    """Tests that nothing is reported only of an image that a start accepts: if the table isn't that of the files, if a
+    file is in no directory, and if all is lost."""
+    fresh = tries.make("S.IMG")
+    master, told = fresh.words(1)[5], f"out: ?Bad table block {fresh.table}"
+
+    def changed(block, words):
+        image = Image(tries.path("S.IMG"))
+        image.data = bytearray(fresh.data)
+        image.set_words(block, words)
+        return image
+
+    image = changed(fresh.table, [0] * 128)
+    tries.salvage("a table of zeros", image, set(WHOLE) | {told}, 1, saved=ALL)
+    image.set_words(master, [0] * 128)
+    tries.salvage("a table and a master directory of zeros", image, [told], 1, saved={})
+    directory = fresh.directories()[OTHER]
+    image = changed(directory, [0] * 128)
+    tries.salvage("a file in no directory", image, set(WHOLE) | {told}, 1, saved=ALL)
+    table = fresh.words(fresh.table)
+    for number in range(fresh.size):
+        words = list(table)
+        words[number // 36] ^= 1 << 35 - number % 36
+        changed(fresh.table, words).save()
+        done = tries.run(["salvage", "S.IMG", "list", "--list"])
+        lines = done.stdout.decode().splitlines()
+        tries.so(f"bit {number} of the table: {lines}, status {done.returncode}",
+                 done.returncode == 1 and f"list: ?Bad table block {fresh.table}" in lines)
+
+
 def odd_images(tries):
     """Tests images that are truncated, empty, or missing."""
     image = tries.make("G.IMG")
@@ -405,8 +435,10 @@ def spoiled_images(tries, count):
         tries.so(f"image {number}: each line has its answer",
                  all(text.endswith(" OK") or ": ?" in text for text in lines))
         checked = tries.run(["check", "H.IMG"])
+        tries.so(f"image {number}: status {done.returncode}, and {checked.returncode} of a check",
+                 (done.returncode == 0) == (checked.returncode == 0))
         if checked.returncode == 0:
-            tries.so(f"image {number} stands: {lines}", done.returncode == 0 and len(lines) == 4)
+            tries.so(f"image {number} stands: {lines}", len(lines) == 4)
     tries.so("files are given", len(given) == 3)
 
 
@@ -416,7 +448,7 @@ def main():
     with tempfile.TemporaryDirectory() as folder:
         tries = Tries(program, folder)
         for part in (whole_image, damaged_blocks, losses_told, tangled_image, shared_blocks, deleted_files, logs,
-                     odd_images):
+                     silence, odd_images):
             part(tries)
         spoiled_images(tries, count)
     print(f"salvage: {tries.count - tries.failed} passed, {tries.failed} failed")

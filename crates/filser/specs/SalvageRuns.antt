@@ -1,9 +1,10 @@
 -- What became of an image whose whole files were to be written to files of the host.
-use Rattle.std.specs.Prelude.{◌≡◌, ◌⊎◌, ◌≤◌, ℕ, Bool, List, Option, Result}
+use Rattle.std.specs.Prelude.{◌≡◌, ◌⊎◌, ◌≤◌, ℕ, Bool, List, [], Option, Result}
 use Rattle.blockdisk.specs.Common.{DiskState, Still, one_more, Memory, held, memory_state}
+use Rattle.changeset.specs.Common.{OnlyReads}
 use Rattle.imagefile.specs.Common.{begun_image, Unseen}
 use Rattle.imagefile.specs.declared.form.Form.{Form}
-use Rattle.spec_image.specs.Common.{File, Files, SpecHome, IsHome, IsVolumeSize, Stands}
+use Rattle.spec_image.specs.Common.{File, Files, SpecHome, IsHome, IsVolumeSize, SettledStands, Stands}
 use Rattle.volume.specs.declared.error.VolumeError.{VolumeError}
 use Rattle.commands.specs.declared.answer.Tally.{Tally}
 use Rattle.commands.specs.declared.error.SessionError.{SessionError}
@@ -46,6 +47,11 @@ pub record AreFound (facts : FileFacts) (task : ExportTask) (sink full : Option 
   pub layout_is : (home : SpecHome) → IsHome (memory_state copy).size (held copy.blocks) home → layout ≡ home.layout
   pub no_layout : ((home : SpecHome) → IsHome (memory_state copy).size (held copy.blocks) home → ⊥) → layout ≡ 2
   pub surveyed : IsSurveyed (memory_state copy).size layout (held copy.blocks) files findings
+  -- nothing was found wrong only with a copy that stands for files
+  pub silent : findings ≡ [] → (stored : Files File)
+      × SettledStands (memory_state copy).size (held copy.blocks) stored
+  -- the words were read from the very copy
+  pub read : OnlyReads (memory_state copy) (memory_state middle)
   pub saved : IsSalvageRun facts memory_state task (head_findings lost unread) files findings sink full middle last
       result
   pub ends : IsEnding status result

@@ -136,3 +136,35 @@ survey_moved size size' size'' layout contents contents' contents'' named unname
     tree.read scanned_here.read apart in
     surveyed size layout contents named unnamed files first second last tree scanned_here added_here taken_here
     more_here
+
+-- More may be reported.
+pub survey_more : (size layout : ℕ) (contents : Contents) (files : List SavedFile) (old new : List Finding)
+    → IsSurveyed size layout contents files old → AreAdded size layout contents old new
+    → IsSurveyed size layout contents files new
+survey_more size layout contents files old new is added = record {
+  whole = is.whole;
+  once = is.once;
+  undeleted = is.undeleted;
+  stand = stand_added size layout contents old new added is.stand;
+  named = λ ppn name prime named. ⊎_elim (λ there. inl there) (λ loss. inr (named_loss ppn name loss))
+      (is.named ppn name prime named);
+  unnamed = λ file inside read used free. ⊎_elim (λ there. inl there)
+      (λ lost. inr (more (cost.Unnamed file.stored.prime.ppn file.stored.prime.file) lost))
+      (is.unnamed file inside read used free);
+}
+  where
+    more : (costs : Cost) → IsLostBy old costs → IsLostBy new costs
+    more costs = lost_added size layout contents old new added costs
+
+    named_loss : (ppn : ℕ) (name : FileName) → IsNamedLoss old ppn name → IsNamedLoss new ppn name
+    named_loss ppn name loss = ⊎_elim (λ lost. inl (more (cost.File ppn name) lost))
+        (λ rest. inr (⊎_elim (λ lost. inl (more (cost.Directory ppn) lost))
+        (λ lost. inr (more cost.Directories lost)) rest)) loss
+
+-- They were added on the disk as it came to that step.
+pub survey_more_moved : (size size' layout : ℕ) (contents contents' : Contents) (files : List SavedFile)
+    (old new : List Finding) → size' ≡ size → contents' ≡ contents → IsSurveyed size layout contents files old
+    → AreAdded size' layout contents' old new → IsSurveyed size layout contents files new
+survey_more_moved size size' layout contents contents' files old new sizes same is added =
+    survey_more size layout contents files old new is
+    (moved (λ n c. AreAdded n layout c old new) size size' contents contents' sizes same added)

@@ -4,7 +4,7 @@ pub use Rattle.salvage.specs.Saved.{AreApart, FitsDisk, IsAmong, IsNamedRead, Is
 pub use Rattle.salvage.specs.Saved.{place_in}
 pub use Rattle.salvage.specs.BlockCounts.{CountTo}
 pub use Rattle.salvage.specs.Findings.{Concerns, ConcernsUnnamed, IsFaultAt, IsFaultOf, IsFaultOfChain}
-pub use Rattle.salvage.specs.Findings.{IsFaultOfDirectory, IsFaultOfMaster, IsFinding}
+pub use Rattle.salvage.specs.Findings.{IsFaultOfDirectory, IsFaultOfMaster, IsFaultOfStart, IsFinding}
 pub use Rattle.salvage.specs.Surveys.{AreAllSaved, IsLostBy, IsNamedBlock, IsNamedLoss, IsSavedAs, IsSurveyed}
 pub use Rattle.salvage.specs.Surveys.{IsUndeleted, MayBeUsed}
 pub use Rattle.salvage.specs.Trees.{AreAdded, AreTaken, IsScanned, IsTree}

@@ -8,10 +8,10 @@ use Rattle.spec_image.specs.Common.{IsDirectoryNamed}
 use Rattle.spec_image.specs.Common.{IsFileNamed}
 use Rattle.alloctab.specs.Common.{IsBadTableBlock}
 use Rattle.directory.specs.Common.{IsTwiceInChain}
-use Rattle.volume.specs.Common.{IsBadFileChain, IsDamagedData, IsOtherPlace, home_in}
+use Rattle.volume.specs.Common.{IsBadFileChain, IsDamagedData, IsOtherPlace, home_in, SettledRefuses}
 use Rattle.volume.specs.declared.error.VolumeError.{VolumeError}
 use Rattle.volume.specs.declared.error.VolumeError.TheVariants.{NotVolume, BadHome, BadDirectory, BadRetrieval}
-use Rattle.volume.specs.declared.error.VolumeError.TheVariants.{BlockTwice, TableWrong, BadData}
+use Rattle.volume.specs.declared.error.VolumeError.TheVariants.{BlockTwice, TableWrong, BadData, Device, NoMemory}
 use Rattle.salvage.specs.Saved.{AreApart, IsNamedRead, IsRead, blocks_of, claims, place_in}
 use Rattle.salvage.specs.declared.saved.SavedFile.{SavedFile}
 use Rattle.salvage.specs.declared.finding.Cost.{Cost}
@@ -107,10 +107,14 @@ IsFaultOfMaster size layout contents fault = ⊥
 
 -- All of them.
 
--- The fault is there, and costs no file.
+-- A block of the table isn't valid in itself.
 abbrev pub IsFaultOfTable : ℕ → Contents → VolumeError → Type 0
 IsFaultOfTable size contents (TableWrong n) = IsBadTableBlock size contents n
 IsFaultOfTable size contents fault = ⊥
+
+-- A start refuses the contents for this fault, whatever their gate.
+abbrev pub IsFaultOfStart : ℕ → Contents → VolumeError → Type 0
+IsFaultOfStart size contents fault = (fault ≡ Device → ⊥) × (fault ≡ NoMemory → ⊥) × SettledRefuses size contents fault
 
 -- The fault is in these contents, and costs this.
 abbrev pub IsFaultAt : ℕ → ℕ → Contents → VolumeError → Cost → Type 0
@@ -119,7 +123,8 @@ IsFaultAt size layout contents fault (cost.Unnamed ppn name) = IsFaultOfUnnamed 
     fault
 IsFaultAt size layout contents fault (cost.Directory ppn) = IsFaultOfDirectory size layout contents ppn fault
 IsFaultAt size layout contents fault cost.Directories = IsFaultOfMaster size layout contents fault
-IsFaultAt size layout contents fault cost.Nothing = IsFaultOfTable size contents fault
+IsFaultAt size layout contents fault cost.Nothing = IsFaultOfTable size contents fault ⊎ IsFaultOfStart size contents
+    fault
 
 abbrev pub IsFinding : ℕ → ℕ → Contents → Finding → Type 0
 IsFinding size layout contents finding = IsFaultAt size layout contents finding.fault finding.costs

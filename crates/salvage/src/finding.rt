@@ -13,7 +13,7 @@ pub enum Cost {
     Directory(Ppn),
     /// The names of all directories.
     Directories,
-    /// No file.
+    /// No file that is known: the allocation table isn't valid, or isn't that of the files.
     Nothing,
 }
 

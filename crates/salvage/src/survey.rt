@@ -1,19 +1,23 @@
 //! The survey of a disk: the files that are whole, and what is wrong.
-ghost use Rattle.std.specs.Prelude.{◌≡◌, ◌↔◌, IfOk, IsErrOf};
+ghost use Rattle.std.specs.Prelude.{◌≡◌, ◌↔◌, ℕ, [], IfOk, IsErrOf, OnOk};
 ghost use Rattle.std.specs.List.{AllByRecursion};
 ghost use Rattle.blockdisk.specs.Common.{SameDisk, one_more};
 ghost use Rattle.changeset.specs.Common.{OnlyReads};
 ghost use Rattle.spec_image.specs.Common.{File, Files, SpecHome, IsHome, layout_number, IsVolumeSize, SettledStands};
-ghost use Rattle.salvage.specs.Common.{FitsDisk, AreAllSaved, IsSurveyed};
+ghost use Rattle.salvage.specs.Common.{FitsDisk, AreAdded, AreAllSaved, IsSurveyed};
 ghost use Rattle.salvage.specs.declared.error.SalvageError.TheVariants.{Device, NotVolume};
+ghost use Rattle.volume.specs.declared.error.VolumeError.TheVariants.{Device as VolumeDevice};
+ghost use Rattle.volume.specs.declared.error.VolumeError.TheVariants.{NoMemory as VolumeNoMemory};
 
+use crate::lists::push_finding;
 use crate::scan::scan;
 use crate::take::take;
 use crate::tree::{Tree, read_tree};
-use crate::{Finding, SalvageError, SavedFile};
+use crate::{Cost, Finding, SalvageError, SavedFile};
 use blockdisk::Disk;
 use spec_image::layout::{Layout, is_volume_size};
 use std::alloc::Global;
+use volume::{VolumeError, read_map};
 
 /// What a survey of a disk finds.
 #[derive(Drop)]
@@ -26,12 +30,60 @@ pub struct Survey {
     pub findings: Vec<Finding>,
 }
 
+/// Returns the fault of the disk for which a start refuses it, or else why nothing is known of it.
+fn fault_of(error: VolumeError) -> Result<VolumeError, SalvageError>
+    ensures same { IfOk result (λ fault. fault ≡ error) }
+    ensures fault { IfOk result (λ fault. (fault ≡ VolumeDevice → ⊥) × (fault ≡ VolumeNoMemory → ⊥)) }
+    ensures device { IsErrOf result Device ↔ (error ≡ VolumeDevice) }
+    ensures range { IsErrOf result NotVolume → ⊥ }
+{
+    match error {
+        VolumeError::Device => Err(SalvageError::Device),
+        VolumeError::NoMemory => Err(SalvageError::NoMemory),
+        fault => Ok(fault),
+    }
+}
+
+/// Reads a disk of which nothing was reported as a start does, and reports what that would refuse: so nothing is
+/// reported only of a disk that stands for files.
+fn confirm<D: Disk>(
+    alloc: Global,
+    disk: &mut D,
+    findings: &mut Vec<Finding>,
+) -> Result<(), SalvageError>
+    ensures silent { (D.state disk.new).honest
+        → OnOk result (findings.new.items ≡ [] → (files : Files File)
+        × SettledStands (D.state disk.old).size (D.state disk.old).contents files) }
+    ensures added { (D.state disk.new).honest → (layout : ℕ)
+        → OnOk result (AreAdded (D.state disk.old).size layout (D.state disk.old).contents findings.old.items
+        findings.new.items) }
+    ensures range { IsErrOf result NotVolume → ⊥ }
+    ensures reads { (D.state disk.new).honest → OnlyReads (D.state disk.old) (D.state disk.new) }
+    ensures same { SameDisk (D.state disk.old) (D.state disk.new) }
+    ensures failed { IsErrOf result Device → (D.state disk.new).failures ≡ one_more (D.state disk.old).failures }
+    ensures served { (IsErrOf result Device → ⊥) → (D.state disk.new).failures ≡ (D.state disk.old).failures }
+{
+    if !findings.is_empty() {
+        return Ok(());
+    }
+    match read_map(alloc, disk) {
+        Ok(_map) => Ok(()),
+        Err(error) => {
+            let fault = fault_of(error)?;
+            push_finding(findings, fault, Cost::Nothing)
+        }
+    }
+}
+
 /// Finds the files of a volume that are whole.
 fn survey_volume<D: Disk>(alloc: Global, disk: &mut D) -> Result<Survey, SalvageError>
     requires { IsVolumeSize (D.state disk.old).size }
     ensures surveyed { (D.state disk.new).honest
         → IfOk result (λ survey. IsSurveyed (D.state disk.old).size (layout_number survey.layout)
         (D.state disk.old).contents survey.files.items survey.findings.items) }
+    ensures silent { (D.state disk.new).honest
+        → IfOk result (λ survey. survey.findings.items ≡ [] → (files : Files File)
+        × SettledStands (D.state disk.old).size (D.state disk.old).contents files) }
     ensures layout { (D.state disk.new).honest → (home : SpecHome)
         → IsHome (D.state disk.old).size (D.state disk.old).contents home
         → IfOk result (λ survey. layout_number survey.layout ≡ home.layout) }
@@ -53,6 +105,7 @@ fn survey_volume<D: Disk>(alloc: Global, disk: &mut D) -> Result<Survey, Salvage
     } = tree;
     let unnamed = scan(alloc, disk, layout, named.as_slice(), &mut findings)?;
     let files = take(alloc, disk, named, unnamed, &mut findings)?;
+    confirm(alloc, disk, &mut findings)?;
     Ok(Survey {
         layout,
         files,
@@ -61,7 +114,8 @@ fn survey_volume<D: Disk>(alloc: Global, disk: &mut D) -> Result<Survey, Salvage
 }
 
 /// Finds the files of a disk that are whole, whatever else is wrong with it. Nothing is written. The contents are taken
-/// as they are: for a disk whose gate may be open, `Copied` has them as a start would find them.
+/// as they are: for a disk whose gate may be open, `Copied` has them as a start would find them. Nothing is reported
+/// only of a disk that a start accepts.
 ///
 /// # Errors
 ///
@@ -74,6 +128,10 @@ pub fn survey_disk<D: Disk>(alloc: Global, disk: &mut D) -> Result<Survey, Salva
     ensures found { (D.state disk.new).honest → (files : Files File)
         → SettledStands (D.state disk.old).size (D.state disk.old).contents files
         → IfOk result (λ survey. AreAllSaved (D.state disk.old).contents survey.files.items files) }
+    // Nothing is reported only of a disk that stands for files.
+    ensures silent { (D.state disk.new).honest
+        → IfOk result (λ survey. survey.findings.items ≡ [] → (files : Files File)
+        × SettledStands (D.state disk.old).size (D.state disk.old).contents files) }
     // The layout of the home copy, or layout 2 if neither copy is valid.
     ensures layout { (D.state disk.new).honest → (home : SpecHome)
         → IsHome (D.state disk.old).size (D.state disk.old).contents home

@@ -16,6 +16,8 @@ returns-in-Ok-clause-ran g c =
         layout_is = p.layout tt;
         no_layout = p.no_layout tt;
         surveyed = p.surveyed tt;
+        silent = p.silent tt;
+        read = p.reads tt;
         saved = c.save_survey-saved.ensures;
         ends = c.ending-status.ensures.ends;
       },
