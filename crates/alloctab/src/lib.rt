@@ -22,6 +22,7 @@ mod reached;
 mod table;
 mod words;
 
+pub use bits::{has_bit_past, is_set};
 pub use error::TableError;
 pub use lanes::{count_clear, first_clear};
 pub use reached::Reached;

@@ -54,4 +54,5 @@ pub use file::FileEntry;
 pub use keys::Keys;
 pub use laws::chain_stands;
 pub use master::MasterEntry;
+pub use parse::is_directory_block;
 pub use prealloc::Prealloc;
