@@ -4,8 +4,9 @@
 usage: tests/salvage.py PROGRAM [COUNT]
 
 An image is damaged block by block, by an independent reader of the layout: what is whole comes out byte for byte, each
-fault is reported with the file that it costs, and no byte of the image changes. COUNT images (200) are spoiled at
-random: the program ends with a status of its own, and what it reports as OK are the bytes of a file that was put.
+fault is reported with the file that it costs, and no byte of the image changes. COUNT images (2000) are spoiled at
+random: the program ends with a status of its own, and the status is 0 exactly if a check accepts the image. As many
+have only their structure damaged: then each file in its place has the bytes that were put.
 Prints a line for each failed check, and one line at the end.
 """
 
@@ -148,13 +149,33 @@ class Tries:
         for folder, _, names in os.walk(self.path(out)):
             for name in names:
                 with open(os.path.join(folder, name), "rb") as file:
-                    found[f"{os.path.basename(folder)}/{name}"] = file.read()
+                    found[os.path.relpath(os.path.join(folder, name), self.path(out))] = file.read()
         if saved is not None:
             self.so(f"{what}: {sorted(found)} came out", found == saved)
 
 
-def line(name, owner="10,20", text=None):
-    return f"out/{owner}/{name}: {text or ENCODED[name] + ' OK'}"
+def line(name, owner="10,20", text=None, apart=""):
+    return f"out/{apart}{owner}/{name}: {text or ENCODED[name] + ' OK'}"
+
+
+def numbered(name, prime):
+    """Returns the name that a file gets if no directory names it."""
+    stem, dot, extension = name.partition(".")
+    return f"{stem}%{prime}{dot}{extension}"
+
+
+def unnamed(image, *places):
+    """Returns the lines and the files that come out if no directory names these files, or all, of an image."""
+    lines, files = set(), {}
+    for place, data in ALL.items():
+        if places and place not in places:
+            continue
+        owner, name = place.split("/")
+        stem, _, extension = name.partition(".")
+        prime = image.files(PPN if owner == "10,20" else OTHER)[name_of(stem, extension)]
+        lines.add(f"out/unnamed/{owner}/{numbered(name, prime)}: {ENCODED[name]} OK")
+        files[f"unnamed/{owner}/{numbered(name, prime)}"] = data
+    return lines, files
 
 
 ALL = {f"10,20/{name}": data for name, data in GIVEN.items()} | {"10,21/FOO.TXT": TEXT}
@@ -213,19 +234,23 @@ def damaged_blocks(tries):
     wanted = others | {line("FOO.TXT", text=f"?Bad retrieval block {foo}")}
     tries.salvage("a prime block", spoiled(foo), wanted, 1, saved=without("10,20/FOO.TXT"))
     directory = fresh.directories()[PPN]
-    tries.salvage("a directory", spoiled(directory), set(WHOLE) | {f"out/10,20: ?Bad directory block {directory}"}, 1,
-                  saved=ALL)
+    lines, files = unnamed(fresh, "10,20/DATA.BIN", "10,20/FOO.TXT", "10,20/S")
+    tries.salvage("a directory", spoiled(directory), lines | {WHOLE[3], f"out/10,20: ?Bad directory block {directory}"},
+                  1, saved=files | {"10,21/FOO.TXT": TEXT})
     tries.salvage("another directory is asked for", spoiled(directory), {WHOLE[3]}, 0, "10,21",
                   saved={"10,21/FOO.TXT": TEXT})
     master = fresh.words(1)[5]
-    tries.salvage("the master directory", spoiled(master), set(WHOLE) | {f"out: ?Bad directory block {master}"}, 1,
-                  saved=ALL)
+    lines, files = unnamed(fresh)
+    tries.salvage("the master directory", spoiled(master), lines | {f"out: ?Bad directory block {master}"}, 1,
+                  saved=files)
     tries.salvage("the first home copy", spoiled(1), set(WHOLE), 0, saved=ALL)
-    tries.salvage("both home copies", spoiled(1, 2), set(WHOLE) | {"out: ?Not a volume"}, 1, saved=ALL)
+    tries.salvage("both home copies", spoiled(1, 2), lines | {"out: ?Not a volume"}, 1, saved=files)
     tries.salvage("the table", spoiled(fresh.table), set(WHOLE) | {f"out: ?Bad table block {fresh.table}"}, 1, saved=ALL)
+    lost = f"out/unnamed/10,20/{numbered('FOO.TXT', foo)}"
+    lines = {text for text in lines if not text.startswith(lost)}
+    files = {path: found for path, found in files.items() if f"out/{path}" != lost}
     tries.salvage("nearly all of it", spoiled(1, 2, master, directory, data[0]),
-                  others | {"out: ?Not a volume", line("FOO.TXT", text=f"?Bad data block {data[0]}")}, 1,
-                  saved=without("10,20/FOO.TXT"))
+                  lines | {"out: ?Not a volume", f"{lost}: ?Bad data block {data[0]}"}, 1, saved=files)
     for command in ("check", "list"):
         done = tries.run([command, "B.IMG"])
         tries.so(f"{command} refuses it: {done.stdout!r}", done.stdout == b"?Not a volume\n" and done.returncode == 3)
@@ -303,8 +328,8 @@ def tangled_image(tries):
 
 
 def shared_blocks(tries):
-    """Tests that a block that is in two files costs both; one that no directory names costs no file that a directory
-    names."""
+    """Tests that a block that is in two files makes both doubtful; one that no directory names costs no file that a
+    directory names."""
     fresh = tries.make("C.IMG")
     primes = fresh.files(PPN)
     foo, small = primes[name_of("FOO", "TXT")], primes[name_of("S", "")]
@@ -313,8 +338,11 @@ def shared_blocks(tries):
     words[16] = 1 << 18 | block
     fresh.set_words(small, words)
     twice = f"?Block {block} reached twice"
-    wanted = {line("DATA.BIN"), line("FOO.TXT", text=twice), line("S", text=twice), WHOLE[3]}
-    tries.salvage("a block of two files", fresh, wanted, 1, saved=without("10,20/FOO.TXT", "10,20/S"))
+    wanted = {line("DATA.BIN"), line("FOO.TXT", text=twice), line("S", text=twice), WHOLE[3],
+              line("FOO.TXT", apart="doubtful/"), line("S", apart="doubtful/")}
+    tries.salvage("a block of two files", fresh, wanted, 1,
+                  saved=without("10,20/FOO.TXT", "10,20/S") | {"doubtful/10,20/FOO.TXT": TEXT,
+                                                               "doubtful/10,20/S": TEXT[:5]})
     # The contents of a file aren't taken for a file: here its words are a prime block that claims another file's block.
     image = tries.make("D.IMG")
     other = image.files(OTHER)[name_of("FOO", "TXT")]
@@ -337,9 +365,89 @@ def deleted_files(tries):
     tries.run(["put", "E.IMG", "10,20", "S"], b"NEWER")
     image = Image(tries.path("E.IMG"))
     image.damage(image.directories()[PPN])
-    fault = {text for text in (f"out/10,20: ?Bad directory block {Image(tries.path('E.IMG')).directories()[PPN]}",)}
-    wanted = {line("DATA.BIN"), line("S"), WHOLE[3]} | fault
-    tries.salvage("deleted files", image, wanted, 1, saved=without("10,20/FOO.TXT") | {"10,20/S": b"NEWER"})
+    fault = {f"out/10,20: ?Bad directory block {Image(tries.path('E.IMG')).directories()[PPN]}"}
+    primes = Image(tries.path("E.IMG")).files(PPN)
+    data, small = (numbered(name, primes[name_of(*parts)])
+                   for name, parts in (("DATA.BIN", ("DATA", "BIN")), ("S", ("S", ""))))
+    wanted = {f"out/unnamed/10,20/{data}: bytes OK", f"out/unnamed/10,20/{small}: text OK", WHOLE[3]} | fault
+    tries.salvage("deleted files", image, wanted, 1,
+                  saved={f"unnamed/10,20/{data}": BYTES, f"unnamed/10,20/{small}": b"NEWER", "10,21/FOO.TXT": TEXT})
+
+
+def pointers(tries):
+    """Tests that a file with a block that isn't its own is doubtful, and that it is written apart."""
+    fresh = tries.make("R.IMG")
+    primes = fresh.files(PPN)
+    small, foo = primes[name_of("S", "")], primes[name_of("FOO", "TXT")]
+    master, directory = fresh.words(1)[5], fresh.directories()[OTHER]
+
+    def pointed(block):
+        image = Image(tries.path("R.IMG"))
+        image.data = bytearray(fresh.data)
+        words = image.words(small)
+        words[16] = 1 << 18 | block
+        image.set_words(small, words)
+        return image
+
+    others = {text for text in WHOLE if text != line("S")}
+    free = max(n for n in range(fresh.space, fresh.size) if not any(fresh.words(n)))
+    for block, fault in ((free, f"?Block {free} is free"), (master, f"?Block {master} reached twice"),
+                         (directory, f"?Block {directory} reached twice"), (small, f"?Block {small} reached twice"),
+                         (fresh.table, f"?Bad retrieval block {small}"), (fresh.size, f"?Bad retrieval block {small}")):
+        image = pointed(block)
+        image.save()
+        done = tries.run(["salvage", "R.IMG", f"pointed{block}"])
+        lines = set(done.stdout.decode().replace(f"pointed{block}", "out").splitlines())
+        wanted = others | {line("S", text=fault)}
+        if "retrieval" in fault:  # its prime block is found by the search too
+            wanted.add(f"out/unnamed/10,20/{numbered('S', small)}: {fault}")
+        apart = {text for text in lines if text.startswith("out/doubtful/10,20/S: ")}
+        tries.so(f"a pointer to block {block}: {lines}",
+                 lines - apart == wanted and len(apart) == ("retrieval" not in fault) and done.returncode == 1)
+        tries.so(f"block {block}: the file isn't in its place",
+                 not os.path.exists(tries.path(f"pointed{block}", "10,20", "S")))
+    # A prime block without its file has a line, though no directory names it.
+    image = pointed(fresh.size)
+    image.set_words(image.directories()[PPN], [0] * 128)
+    lines, files = unnamed(fresh, "10,20/DATA.BIN", "10,20/FOO.TXT")
+    lost = f"out/unnamed/10,20/{numbered('S', small)}: ?Bad retrieval block {small}"
+    tries.salvage("a prime block without its file", image, lines | {lost, WHOLE[3]}, 1,
+                  saved=files | {"10,21/FOO.TXT": TEXT})
+    # One that claims all blocks denies none of the others.
+    image = Image(tries.path("R.IMG"))
+    image.data = bytearray(fresh.data)
+    claims = image.words(small)
+    blocks = [n for n in range(fresh.space, fresh.size) if n != small]
+    claims[5], claims[6] = 128 * len(blocks), 1
+    claims[16:18] = [(small - fresh.space) << 18 | fresh.space, (fresh.size - small - 1) << 18 | small + 1]
+    claims[6] = 2
+    image.set_words(small, claims)
+    image.damage(master)
+    image.data[master * BLOCK:(master + 1) * BLOCK] = bytes(BLOCK)
+    image.save()
+    done = tries.run(["salvage", "R.IMG", "claimed"])
+    lines = set(done.stdout.decode().replace("claimed", "out").splitlines())
+    wanted, _ = unnamed(fresh, "10,20/DATA.BIN", "10,20/FOO.TXT", "10,21/FOO.TXT")
+    tries.so(f"a file that claims all blocks: {lines}", wanted <= lines and done.returncode == 1)
+    tries.so(f"a prime block of it is {foo}", foo != small)
+
+
+def old_versions(tries):
+    """Tests that an old version doesn't hide today's: without a directory and a table both come out, side by side."""
+    image = tries.make("O.IMG")
+    old = image.files(PPN)[name_of("S", "")]
+    tries.run(["put", "O.IMG", "10,20", "S"], b"NEWER")
+    image = Image(tries.path("O.IMG"))
+    new, directory = image.files(PPN)[name_of("S", "")], image.directories()[PPN]
+    image.damage(directory)
+    image.damage(image.table)
+    image.save()
+    done = tries.run(["salvage", "O.IMG", "old"])
+    lines = done.stdout.decode().splitlines()
+    for prime, data in ((old, SMALL), (new, b"NEWER")):
+        path = tries.path("old", "unnamed", "10,20", numbered("S", prime))
+        tries.so(f"version {prime}: {lines}", os.path.exists(path) and open(path, "rb").read() == data)
+    tries.so(f"two versions, status {done.returncode}", old != new and done.returncode == 1)
 
 
 def logs(tries):
@@ -376,10 +484,13 @@ def silence(tries):
     image = changed(fresh.table, [0] * 128)
     tries.salvage("a table of zeros", image, set(WHOLE) | {told}, 1, saved=ALL)
     image.set_words(master, [0] * 128)
-    tries.salvage("a table and a master directory of zeros", image, [told], 1, saved={})
+    lines, files = unnamed(fresh)
+    tries.salvage("a table and a master directory of zeros", image, lines | {told}, 1, saved=files)
     directory = fresh.directories()[OTHER]
     image = changed(directory, [0] * 128)
-    tries.salvage("a file in no directory", image, set(WHOLE) | {told}, 1, saved=ALL)
+    lines, files = unnamed(fresh, "10,21/FOO.TXT")
+    tries.salvage("a file in no directory", image, set(WHOLE[:3]) | lines | {told}, 1,
+                  saved=without("10,21/FOO.TXT") | files)
     table = fresh.words(fresh.table)
     for number in range(fresh.size):
         words = list(table)
@@ -387,8 +498,11 @@ def silence(tries):
         changed(fresh.table, words).save()
         done = tries.run(["salvage", "S.IMG", "list", "--list"])
         lines = done.stdout.decode().splitlines()
+        faults = [text for text in lines if "?" in text]
         tries.so(f"bit {number} of the table: {lines}, status {done.returncode}",
-                 done.returncode == 1 and f"list: ?Bad table block {fresh.table}" in lines)
+                 done.returncode == 1 and len(faults) == 1
+                 and (faults[0] == f"list: ?Bad table block {fresh.table}"
+                      or faults[0].endswith(f": ?Block {number} is free")))
 
 
 def odd_images(tries):
@@ -397,11 +511,12 @@ def odd_images(tries):
     last = max(n for prime in image.files(PPN).values() for n in (prime, *image.data_blocks(prime)))
     last = max(last, *(n for prime in image.files(OTHER).values() for n in (prime, *image.data_blocks(prime))))
     image.data = image.data[:max(64, last + 1) * BLOCK]
-    tries.salvage("an image that is cut off", image, set(WHOLE) | {"out: ?Bad home blocks"}, 1, saved=ALL)
+    lines, files = unnamed(image)
+    tries.salvage("an image that is cut off", image, lines | {"out: ?Bad home blocks"}, 1, saved=files)
     image.data = bytearray(10 * BLOCK)
     tries.salvage("ten blocks", image, ["?Not a volume"], 3, saved={})
     image.data = bytearray(64 * BLOCK)
-    tries.salvage("zeros", image, ["out: ?Not a volume"], 1, saved={})
+    tries.salvage("zeros", image, ["out: ?Not a volume", "out: ?Bad table block 14"], 1, saved={})
     done = tries.run(["salvage", "NONE.IMG", "none"])
     tries.so(f"no image: {done.stdout!r}", done.stdout == b"?Device fault\n" and done.returncode == 4)
     tries.so("no folder is made for it", not os.path.exists(tries.path("none")))
@@ -442,15 +557,71 @@ def spoiled_images(tries, count):
     tries.so("files are given", len(given) == 3)
 
 
+def damaged_structures(tries, count):
+    """Tests images of which only the structure is damaged: home copies, table, directories and retrieval blocks are
+    zeroed, filled or exchanged, and bits of the table and of pointers flipped. Each file in its place has the bytes
+    that were put, unless a fault is reported that hides whose a block is: of the table, or of the retrieval blocks of
+    another file. Something is reported if a file isn't there."""
+    chance = random.Random(1971)
+    fresh = {name: tries.make(name, 80, *options) for name, options in
+             (("U.IMG", ()), ("V.IMG", ("--layout", "2")))}
+    for number in range(count):
+        name, whole = chance.choice(list(fresh.items()))
+        image = Image(tries.path(name))
+        image.data = bytearray(whole.data)
+        primes = [*whole.files(PPN).values(), *whole.files(OTHER).values()]
+        structure = [1, 2, whole.table, whole.words(1)[5], *whole.directories().values(), *primes]
+        for _ in range(chance.randrange(1, 4)):
+            block, way = chance.choice(structure), chance.randrange(5)
+            if way == 0:
+                image.set_words(block, [0] * 128)
+            elif way == 1:
+                image.damage(block)
+            elif way == 2:
+                other = chance.choice(structure)
+                words = image.words(block)
+                image.data[block * BLOCK:(block + 1) * BLOCK] = image.data[other * BLOCK:(other + 1) * BLOCK]
+                image.set_words(other, words) if max(words) < 1 << 36 else image.damage(other)
+            elif way == 3 and max(image.words(whole.table)) < 1 << 36:
+                words, bit = image.words(whole.table), chance.randrange(whole.size)
+                words[bit // 36] ^= 1 << 35 - bit % 36
+                image.set_words(whole.table, words)
+            else:
+                block = chance.choice(primes)
+                words = image.words(block)
+                if max(words) < 1 << 36:
+                    words[16] ^= 1 << chance.randrange(36)
+                    image.set_words(block, words)
+        image.save()
+        out = f"structure{number}"
+        done = tries.run(["salvage", name, out])
+        lines = done.stdout.decode().splitlines()
+        hidden = [text for text in lines if ": ?Bad table block" in text or ": ?Bad retrieval block" in text]
+        placed = {}
+        for place, data in ALL.items():
+            path = tries.path(out, *place.split("/"))
+            if os.path.exists(path):
+                with open(path, "rb") as file:
+                    placed[place] = file.read()
+                tries.so(f"structure {number}: {place} in its place, {lines}", placed[place] == data or hidden)
+        said = any(": ?" in text for text in lines)
+        tries.so(f"structure {number}: {lines}, status {done.returncode}",
+                 done.returncode == (1 if said else 0) and (said or len(placed) == len(ALL)))
+        checked = tries.run(["check", name])
+        tries.so(f"structure {number}: status {done.returncode}, and {checked.returncode} of a check",
+                 (done.returncode == 0) == (checked.returncode == 0))
+
+
 def main():
     program = os.path.abspath(sys.argv[1])
-    count = int(sys.argv[2]) if len(sys.argv) > 2 else 200
+    count = int(sys.argv[2]) if len(sys.argv) > 2 else 2000
     with tempfile.TemporaryDirectory() as folder:
         tries = Tries(program, folder)
-        for part in (whole_image, damaged_blocks, losses_told, tangled_image, shared_blocks, deleted_files, logs,
-                     silence, odd_images):
+        for part in (whole_image, damaged_blocks, losses_told, tangled_image, shared_blocks, pointers, old_versions,
+                     deleted_files, logs, silence, odd_images):
             part(tries)
         spoiled_images(tries, count)
+        damaged_structures(tries, count)
     print(f"salvage: {tries.count - tries.failed} passed, {tries.failed} failed")
     return 1 if tries.failed else 0
 

@@ -4,7 +4,7 @@ use Rattle.std.proofs.Common.{drop, length, get_or, map}
 use Rattle.std.proofs.lemmas.List.{drop_more, drop_all, length-map}
 use Rattle.commands.specs.declared.answer.Tally.{Tally}
 use Rattle.commands.specs.declared.error.SessionError.{SessionError}
-use Rattle.collection.specs.Common.{EachDone, added, none_counted}
+use Rattle.collection.specs.Common.{EachDone, Then, added, none_counted}
 
 module _ {X S : Type 0} (step : X → Option (List ℕ) → Option (List ℕ) → S → S → Result Tally SessionError → Type 0)
     (xs : List X) (sink : Option (List ℕ)) (old : S) where
@@ -37,6 +37,17 @@ module _ {X S : Type 0} (step : X → Option (List ℕ) → Option (List ℕ) �
   done_all n tally middle now h p = p middle now (Ok tally)
       (subst (λ (l : List X). EachDone step l tally middle middle now now (Ok tally)) (sym (drop_all n xs h))
       (refl, refl, refl))
+
+-- Of two steps both were done, or the second one ended the run.
+module _ {S : Type 0} (first next : Option (List ℕ) → Option (List ℕ) → S → S → Result Tally SessionError → Type 0)
+    (sink middle full : Option (List ℕ)) (old mid new : S) (one : Tally) (p : first sink middle old mid (Ok one)) where
+  pub both_done : (two sum : Tally) → sum ≡ added one two → next middle full mid new (Ok two)
+      → Then first next sink full old new (Ok sum)
+  both_done two sum is q = (Ok one, middle, mid, p, (Ok two, q, ap Ok is))
+
+  pub second_cut : (error : SessionError) → next middle full mid new (Err error)
+      → Then first next sink full old new (Err error)
+  second_cut error q = (Ok one, middle, mid, p, (Err error, q, refl))
 
 pub past_map : {A X : Type 0} (f : A → X) (xs : List A) (n : ℕ) → length xs ≤ n → length (map f xs) ≤ n
 past_map f xs n h = subst (λ k. k ≤ n) (sym (length-map xs f)) h

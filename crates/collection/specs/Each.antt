@@ -27,6 +27,16 @@ EachDone {S = S} step (x ∷ xs) tally sink full old new result =
     × MatchResult one (λ counted. EachDone step xs (added tally counted) middle full mid new result)
     (λ error. (full ≡ middle) × (new ≡ mid) × (result ≡ Err error))
 
+-- One step was done and then another, and both were counted; if the first one ended the run, it alone was done.
+abbrev pub Then : {S : Type 0} → (Option (List ℕ) → Option (List ℕ) → S → S → Result Tally SessionError → Type 0)
+    → (Option (List ℕ) → Option (List ℕ) → S → S → Result Tally SessionError → Type 0)
+    → Option (List ℕ) → Option (List ℕ) → S → S → Result Tally SessionError → Type 0
+Then {S = S} first next sink full old new result =
+    (one : Result Tally SessionError) × (middle : Option (List ℕ)) × (mid : S) × first sink middle old mid one
+    × MatchResult one (λ counted. (two : Result Tally SessionError) × next middle full mid new two
+    × MatchResult two (λ more. result ≡ Ok (added counted more)) (λ error. result ≡ Err error))
+    (λ error. (full ≡ middle) × (new ≡ mid) × (result ≡ Err error))
+
 -- The service went from one value to another by some acts, moment by moment.
 pub record Goes {S : Type 0} (machine : S → Machine) (old new : S) : Type 0 where
   pub acts : List Act

@@ -1,6 +1,7 @@
 -- The names of files of the host on a volume, and of files of a volume on the host.
 use Rattle.std.specs.Prelude.{◌≡◌, ◌⊎◌, ◌/◌, ◌%◌, ◌+◌, ◌==◌, ℕ, zero, suc, Bool, true, nat_lt, if◌then◌else◌, List}
 use Rattle.std.specs.Prelude.{[], ◌∷◌, ◌++◌, ◌||◌, map, flat_map, Option, Some, None, codes, option_map}
+use Rattle.std.specs.Fmt.{decimal}
 use Rattle.std.specs.Path.{path_file_name, path_file_stem, path_extension}
 use Rattle.words36.specs.Common.{characters}
 use Rattle.words36.specs.declared.names.FileName.{FileName}
@@ -68,3 +69,22 @@ folder_of folder owner = folder ++ codes "/" ++ owner_text owner
 
 abbrev pub path_of : List ℕ → ℕ → FileName → List ℕ
 path_of folder owner file = folder_of folder owner ++ codes "/" ++ host_name file
+
+-- Files that are kept apart from those in their place.
+
+-- the folder for files with a block that may not be theirs
+abbrev pub doubtful_folder : List ℕ → List ℕ
+doubtful_folder folder = folder ++ codes "/doubtful"
+
+-- the folder for files that no directory names
+abbrev pub unnamed_folder : List ℕ → List ℕ
+unnamed_folder folder = folder ++ codes "/unnamed"
+
+-- The path of a file that no directory names: FOLDER/10,20/FOO%1234.TXT, with % and the number of its prime block in
+-- decimal behind the name, since several of these may have one name.
+abbrev pub numbered_name : FileName → ℕ → List ℕ
+numbered_name file prime = flat_map escaped (trimmed (characters file.name)) ++ 37 ∷ decimal prime
+    ++ extended (trimmed (extension_text file.ext))
+
+abbrev pub numbered_path : List ℕ → ℕ → FileName → ℕ → List ℕ
+numbered_path folder owner file prime = folder_of folder owner ++ codes "/" ++ numbered_name file prime

@@ -1,12 +1,13 @@
 -- The files that a survey of a disk found, which become files of the host, and its faults, which have a line each.
 use Rattle.std.specs.Prelude.{◌≡◌, ◌⊎◌, ℕ, true, false, List, Option, Some, None, Result, Ok, Err, IfOk, IsSomeAnd}
-use Rattle.std.specs.Prelude.{Bool, IsErrOf, MatchResult, not, ◌==◌, [], ◌∷◌, ◌++◌, codes, if◌then◌else◌, length}
+use Rattle.std.specs.Prelude.{Bool, IsErrOf, not, ◌==◌, [], ◌∷◌, ◌++◌, codes, if◌then◌else◌, length}
 use Rattle.std.specs.Fmt.{decimal}
 use Rattle.std.specs.List.{AllByRecursion}
 use Rattle.std.specs.declared.alloc.AllocError.{AllocError}
 use Rattle.std.specs.declared.io.Error.{Error}
 use Rattle.blockdisk.specs.Common.{DiskState, IsWholeBlock, SameDisk, one_more}
 use Rattle.changeset.specs.Common.{OnlyReads}
+use Rattle.words36.specs.declared.names.FileName.{FileName}
 use Rattle.spec_image.specs.Common.{HasBody}
 use Rattle.retrieval.specs.Common.{mode_number}
 use Rattle.commands.specs.Common.{IsExport}
@@ -15,6 +16,8 @@ use Rattle.commands.specs.declared.error.SessionError.{SessionError}
 use Rattle.commands.specs.declared.error.SessionError.TheVariants.{NoMemory}
 use Rattle.commands.specs.declared.export_file.Exported.{Exported}
 use Rattle.salvage.specs.declared.finding.Cost.{Cost}
+use Rattle.salvage.specs.declared.finding.Defect.{Defect}
+use Rattle.salvage.specs.declared.finding.Defect.TheVariants.{Start, FreeBlock}
 use Rattle.salvage.specs.declared.finding.Finding.{Finding}
 use Rattle.salvage.specs.declared.error.SalvageError.{SalvageError}
 use Rattle.salvage.specs.declared.saved.SavedFile.{SavedFile}
@@ -22,15 +25,40 @@ use Rattle.volume.specs.declared.error.VolumeError.{VolumeError}
 use Rattle.volume.specs.declared.error.VolumeError.TheVariants.{NotVolume, BadHome, BadLog, BadDirectory}
 use Rattle.volume.specs.declared.error.VolumeError.TheVariants.{BadRetrieval, BlockTwice, TableWrong, Device, Failed}
 use Rattle.volume.specs.declared.error.VolumeError.TheVariants.{BadData}
-use Rattle.collection.specs.Each.{EachDone, added, none_counted}
-use Rattle.collection.specs.Export.{IsListed, IsStored}
+use Rattle.collection.specs.Each.{EachDone, Then, none_counted}
+use Rattle.collection.specs.Export.{IsListed, IsStored, MayFill}
 use Rattle.collection.specs.HostFacts.{FileFacts}
 use Rattle.collection.specs.Lines.{IsRefusedLine, IsUnnamed}
-use Rattle.collection.specs.HostNames.{folder_of, path_of}
+use Rattle.collection.specs.HostNames.{folder_of, path_of, numbered_path, doubtful_folder, unnamed_folder}
 use Rattle.collection.specs.declared.task.ExportTask.{ExportTask}
 use Rattle.salvage.specs.declared.finding.Cost.TheVariants as cost
 use Rattle.salvage.specs.declared.error.SalvageError.TheVariants as salvage
 use Rattle.volume.specs.declared.error.VolumeError.TheVariants as volume
+
+-- What a salvage may do with its folder.
+
+-- A folder for files that no directory names may be made, the folders of directories in it, and files in these.
+pub record MayNumber (facts : FileFacts) (folder : List ℕ) : Type 0 where
+  pub itself : facts.may_make_folder folder
+  pub directory : (owner : ℕ) → facts.may_make_folder (folder_of folder owner)
+  pub file : (owner : ℕ) (name : FileName) (prime : ℕ) → facts.may_store (numbered_path folder owner name prime)
+
+-- Files of one kind may be saved in this folder, under their names, or with the numbers of their prime blocks.
+abbrev pub MaySave : FileFacts → List ℕ → Bool → Type 0
+MaySave facts folder false = MayFill facts folder
+MaySave facts folder true = MayNumber facts folder
+
+-- A folder may be filled, and so may the two folders in it for files that are kept apart.
+pub record MayFillApart (facts : FileFacts) (folder : List ℕ) : Type 0 where
+  pub placed : MayFill facts folder
+  pub doubtful : MayFill facts (doubtful_folder folder)
+  pub unnamed : MayNumber facts (unnamed_folder folder)
+
+-- A salvage may do this with its folder, unless it only lists paths: then it makes nothing.
+abbrev pub MayRescue : FileFacts → ExportTask → Type 0
+MayRescue facts task = task.lists ≡ false → MayFillApart facts task.folder.now
+
+-- Files.
 
 -- the words that were read, as a list
 abbrev pub words_read : {V E : Type 0} → (V → List ℕ) → Result (Option V) E → Result (Option (List ℕ)) E
@@ -86,17 +114,20 @@ pub record IsPassedOver {D : Type 0} (sink full : Option (List ℕ)) (old new : 
   pub unwritten : full ≡ sink
   pub counted : result ≡ Ok none_counted
 
--- What became of a file of a directory that is wanted.
-abbrev pub IsWantedDone : {D : Type 0} → FileFacts → (D → DiskState) → ExportTask → SavedFile → Option (List ℕ)
-    → Option (List ℕ) → D → D → Result Tally SessionError → Type 0
-IsWantedDone facts state task file sink full old new result =
-    ((task.lists ≡ false) × facts.folder (folder_of task.folder.now file.stored.prime.ppn) (Ok tt)
-    × IsSavedAt facts state task (path_of task.folder.now file.stored.prime.ppn file.stored.prime.file) file sink full
-    old new result)
-    ⊎ ((task.lists ≡ false)
-    × HasNoFolder facts (folder_of task.folder.now file.stored.prime.ppn) sink full old new result)
-    ⊎ ((task.lists ≡ true) × IsListed (path_of task.folder.now file.stored.prime.ppn file.stored.prime.file) sink full
-    old new result)
+-- the path of a file in this folder: under its name, or with the number of its prime block
+abbrev pub saved_path : List ℕ → Bool → SavedFile → List ℕ
+saved_path folder false file = path_of folder file.stored.prime.ppn file.stored.prime.file
+saved_path folder true file = numbered_path folder file.stored.prime.ppn file.stored.prime.file file.at
+
+-- What became of a file of a directory that is wanted, by the folder for files of its kind, and by whether their names
+-- have the numbers of prime blocks.
+abbrev pub IsWantedDone : {D : Type 0} → FileFacts → (D → DiskState) → ExportTask → List ℕ → Bool → SavedFile
+    → Option (List ℕ) → Option (List ℕ) → D → D → Result Tally SessionError → Type 0
+IsWantedDone facts state task folder numbered file sink full old new result =
+    ((task.lists ≡ false) × facts.folder (folder_of folder file.stored.prime.ppn) (Ok tt)
+    × IsSavedAt facts state task (saved_path folder numbered file) file sink full old new result)
+    ⊎ ((task.lists ≡ false) × HasNoFolder facts (folder_of folder file.stored.prime.ppn) sink full old new result)
+    ⊎ ((task.lists ≡ true) × IsListed (saved_path folder numbered file) sink full old new result)
     ⊎ IsUnnamed sink full old new result
 
 -- a file of this directory is wanted
@@ -105,19 +136,28 @@ IsWanted None ppn = Unit {0}
 IsWanted (Some owner) ppn = owner ≡ ppn
 
 -- What became of one file.
-abbrev pub IsFileDone : {D : Type 0} → FileFacts → (D → DiskState) → ExportTask → SavedFile → Option (List ℕ)
-    → Option (List ℕ) → D → D → Result Tally SessionError → Type 0
-IsFileDone facts state task file sink full old new result =
-    (IsWanted task.owner file.stored.prime.ppn × IsWantedDone facts state task file sink full old new result)
+abbrev pub IsFileDone : {D : Type 0} → FileFacts → (D → DiskState) → ExportTask → List ℕ → Bool → SavedFile
+    → Option (List ℕ) → Option (List ℕ) → D → D → Result Tally SessionError → Type 0
+IsFileDone facts state task folder numbered file sink full old new result =
+    (IsWanted task.owner file.stored.prime.ppn
+    × IsWantedDone facts state task folder numbered file sink full old new result)
     ⊎ ((IsWanted task.owner file.stored.prime.ppn → ⊥) × IsPassedOver sink full old new result)
 
--- What became of these files: unless paths are only listed, the folder for all directories is made first.
-abbrev pub AreFilesSaved : {D : Type 0} → FileFacts → (D → DiskState) → ExportTask → List SavedFile → Option (List ℕ)
-    → Option (List ℕ) → D → D → Result Tally SessionError → Type 0
-AreFilesSaved facts state task files sink full old new result =
-    (((task.lists ≡ true) ⊎ facts.folder task.folder.now (Ok tt))
-    × EachDone (IsFileDone facts state task) files none_counted sink full old new result)
-    ⊎ ((task.lists ≡ false) × HasNoFolder facts task.folder.now sink full old new result)
+-- What became of files of one kind: unless paths are only listed, the folder for all directories is made first.
+abbrev pub AreFilesSaved : {D : Type 0} → FileFacts → (D → DiskState) → ExportTask → List ℕ → Bool → List SavedFile
+    → Option (List ℕ) → Option (List ℕ) → D → D → Result Tally SessionError → Type 0
+AreFilesSaved facts state task folder numbered files sink full old new result =
+    (((task.lists ≡ true) ⊎ facts.folder folder (Ok tt))
+    × EachDone (IsFileDone facts state task folder numbered) files none_counted sink full old new result)
+    ⊎ ((task.lists ≡ false) × HasNoFolder facts folder sink full old new result)
+
+-- The same of files that are kept apart, whose folder isn't made if there are none.
+abbrev pub AreApartSaved : {D : Type 0} → FileFacts → (D → DiskState) → ExportTask → List ℕ → Bool → List SavedFile
+    → Option (List ℕ) → Option (List ℕ) → D → D → Result Tally SessionError → Type 0
+AreApartSaved facts state task folder numbered [] sink full old new result = IsPassedOver sink full old new result
+AreApartSaved facts state task folder numbered (file ∷ files) sink full old new result =
+    AreFilesSaved facts state task folder numbered (file ∷ files) sink full old new result
+    ⊎ IsUnnamed sink full old new result
 
 -- Faults.
 
@@ -138,7 +178,7 @@ fault_text Failed = codes "?Device fault"
 -- the path that what is lost would have had
 abbrev pub path_of_cost : List ℕ → Cost → List ℕ
 path_of_cost folder (cost.File ppn name) = path_of folder ppn name
-path_of_cost folder (cost.Unnamed ppn name) = path_of folder ppn name
+path_of_cost folder (cost.Unnamed ppn name prime) = numbered_path (unnamed_folder folder) ppn name prime
 path_of_cost folder (cost.Directory ppn) = folder_of folder ppn
 path_of_cost folder cost.Directories = folder
 path_of_cost folder cost.Nothing = folder
@@ -146,14 +186,19 @@ path_of_cost folder cost.Nothing = folder
 -- what is lost is of a directory that is wanted, or of none
 abbrev pub IsWantedCost : Option ℕ → Cost → Type 0
 IsWantedCost owner (cost.File ppn name) = IsWanted owner ppn
-IsWantedCost owner (cost.Unnamed ppn name) = IsWanted owner ppn
+IsWantedCost owner (cost.Unnamed ppn name prime) = IsWanted owner ppn
 IsWantedCost owner (cost.Directory ppn) = IsWanted owner ppn
 IsWantedCost owner cost.Directories = Unit {0}
 IsWantedCost owner cost.Nothing = Unit {0}
 
+-- the text of what is wrong
+abbrev pub defect_text : Defect → List ℕ
+defect_text (Start fault) = fault_text fault
+defect_text (FreeBlock block) = codes "?Block " ++ decimal block ++ codes " is free"
+
 -- the device failed, which counts for more than other faults
-abbrev pub is_device : VolumeError → Bool
-is_device Device = true
+abbrev pub is_device : Defect → Bool
+is_device (Start Device) = true
 is_device fault = false
 
 -- The line of a fault was written, if it is wanted.
@@ -161,28 +206,32 @@ abbrev pub IsFindingDone : ExportTask → Finding → Option (List ℕ) → Opti
     → Result Tally SessionError → Type 0
 IsFindingDone task finding sink full old new result =
     (IsWantedCost task.owner finding.costs × IsRefusedLine (path_of_cost task.folder.now finding.costs)
-    (fault_text finding.fault) (is_device finding.fault) sink full result)
+    (defect_text finding.fault) (is_device finding.fault) sink full result)
     ⊎ ((IsWantedCost task.owner finding.costs → ⊥) × IsPassedOver sink full old new result)
     ⊎ IsUnnamed sink full old new result
 
 -- the finding of a fault that costs no file, if there is such a fault
 abbrev pub fault_if : Bool → VolumeError → List Finding
-fault_if stands fault = if stands then record { fault = fault; costs = cost.Nothing } ∷ [] else []
+fault_if stands fault = if stands then record { fault = Start fault; costs = cost.Nothing } ∷ [] else []
 
 -- the first findings: for a log that isn't valid though the gate is open, and for blocks that couldn't be read
 abbrev pub head_findings : Bool → ℕ → List Finding
 head_findings lost unread = fault_if lost BadLog ++ fault_if (not (unread == 0)) Device
 
--- The whole run: the findings of the copy, the files, and the faults. What ends the run ends it at once.
+-- The lines of these faults were written, and nothing else was done.
+abbrev pub AreFindingsDone : {D : Type 0} → ExportTask → List Finding → Option (List ℕ) → Option (List ℕ) → D → D
+    → Result Tally SessionError → Type 0
+AreFindingsDone task findings sink full old new result =
+    (new ≡ old) × EachDone (IsFindingDone task) findings none_counted sink full tt tt result
+
+-- The whole run: the findings of the copy, the files in their place, the doubtful ones, those that no directory names,
+-- and the faults. What ends the run ends it at once.
 abbrev pub IsSalvageRun : {D : Type 0} → FileFacts → (D → DiskState) → ExportTask → List Finding → List SavedFile
-    → List Finding → Option (List ℕ) → Option (List ℕ) → D → D → Result Tally SessionError → Type 0
-IsSalvageRun facts state task head files findings sink full old new result =
-    (first : Result Tally SessionError) × (told : Option (List ℕ))
-    × EachDone (IsFindingDone task) head none_counted sink told tt tt first
-    × MatchResult first (λ counted. (saved : Result Tally SessionError) × (stored : Option (List ℕ))
-    × AreFilesSaved facts state task files told stored old new saved
-    × MatchResult saved (λ more. (last : Result Tally SessionError)
-    × EachDone (IsFindingDone task) findings none_counted stored full tt tt last
-    × MatchResult last (λ most. result ≡ Ok (added (added counted more) most)) (λ error. result ≡ Err error))
-    (λ error. (full ≡ stored) × (result ≡ Err error)))
-    (λ error. (full ≡ told) × (new ≡ old) × (result ≡ Err error))
+    → List SavedFile → List SavedFile → List Finding → Option (List ℕ) → Option (List ℕ) → D → D
+    → Result Tally SessionError → Type 0
+IsSalvageRun facts state task head files doubtful unnamed findings sink full old new result =
+    Then (AreFindingsDone task head)
+    (Then (AreFilesSaved facts state task task.folder.now false files)
+    (Then (AreApartSaved facts state task (doubtful_folder task.folder.now) false doubtful)
+    (Then (AreApartSaved facts state task (unnamed_folder task.folder.now) true unnamed)
+    (AreFindingsDone task findings)))) sink full old new result

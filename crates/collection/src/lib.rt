@@ -15,9 +15,10 @@
 //!    to be listed, no call is made for a file. No clause states what else the host isn't asked to do. (`IsExportRun`)
 //! 5. Both work by calls of job 1: what a crash leaves is stated as for a session, and the failure count rises by one
 //!    for each call that is answered Device, and for nothing else. (`Goes`)
-//! 6. `save_survey` takes the files that a survey of a disk found, in their order, and then its faults. Each has one
-//!    line: what the host stored at the path of a file are bytes that spell its words, with the moment when it was
-//!    written; a fault is reported with the path of what it costs. (`IsSalvageRun`)
+//! 6. `save_survey` takes the files that a survey of a disk found, in their order: those in their place, the doubtful
+//!    ones, and those that no directory names, in a folder for each kind; and then its faults. Each has one line: what
+//!    the host stored at the path of a file are bytes that spell its words, with the moment when it was written; a
+//!    fault is reported with the path of what it costs. (`IsSalvageRun`)
 //! 7. The statements about the host hold for any host that reports what it read and stored. (`HostFiles`) No clause is
 //!    about lines for people, by which nothing is decided.
 #![tactic(auto)]

@@ -1,8 +1,8 @@
 //! The paths of files of the host that are made.
 ghost use Rattle.std.specs.Prelude.{◌≡◌, ◌++◌, ◌∷◌, ◌<◌, [], All, IfOk, OnOk, flat_map, string_bytes};
-ghost use Rattle.spec_language.specs.Common.{owner_text};
-ghost use Rattle.collection.specs.Common.{escaped, folder_of as folder_text, hexadecimal, host_name};
-ghost use Rattle.collection.specs.HostNames.{path_of as path_text};
+ghost use Rattle.spec_language.specs.Common.{owner_text, extension_text, trimmed};
+ghost use Rattle.collection.specs.Common.{escaped, extended, folder_of as folder_text, hexadecimal, host_name};
+ghost use Rattle.collection.specs.HostNames.{doubtful_folder, numbered_path, path_of as path_text, unnamed_folder};
 
 use crate::host_names::is_plain;
 use commands::{extension_text, trimmed};
@@ -71,12 +71,12 @@ fn push_part(text: &mut String, part: &[u8]) -> Result<(), AllocError>
     Ok(())
 }
 
-/// Appends the name of a file of the host, as `FOO.TXT`.
+/// Appends the extension of a file of the host, if it has one: `.TXT`.
 #[tactic(auto, using(crate::proofs::NameLaws::extended_some))]
-fn push_name(text: &mut String, name: FileName) -> Result<(), AllocError>
-    ensures { OnOk result (string_bytes text.new ≡ string_bytes text.old ++ host_name name) }
+fn push_extension(text: &mut String, name: FileName) -> Result<(), AllocError>
+    ensures { OnOk result (string_bytes text.new ≡ string_bytes text.old
+        ++ extended (trimmed (extension_text name.ext))) }
 {
-    push_part(text, trimmed(&text_of(name.name)))?;
     let extension = extension_text(name.ext);
     let extension = trimmed(&extension);
     if !extension.is_empty() {
@@ -84,6 +84,14 @@ fn push_name(text: &mut String, name: FileName) -> Result<(), AllocError>
         push_part(text, extension)?;
     }
     Ok(())
+}
+
+/// Appends the name of a file of the host, as `FOO.TXT`.
+fn push_name(text: &mut String, name: FileName) -> Result<(), AllocError>
+    ensures { OnOk result (string_bytes text.new ≡ string_bytes text.old ++ host_name name) }
+{
+    push_part(text, trimmed(&text_of(name.name)))?;
+    push_extension(text, name)
 }
 
 /// Returns the path of a file of the host: FOLDER/10,20/FOO.TXT.
@@ -99,4 +107,36 @@ pub(crate) fn path_of(
     push_character(&mut path, b'/')?;
     push_name(&mut path, name)?;
     Ok(path)
+}
+
+/// Returns the path of a file that no directory names, with the number of its prime block: FOLDER/10,20/FOO%1234.TXT.
+pub(crate) fn numbered_path(
+    alloc: Global,
+    folder: &str,
+    owner: Ppn,
+    name: FileName,
+    prime: u32,
+) -> Result<String, AllocError>
+    ensures { IfOk result (λ path. string_bytes path ≡ numbered_path folder.now owner name prime) }
+{
+    let mut path = folder_of(alloc, folder, owner)?;
+    push_character(&mut path, b'/')?;
+    push_part(&mut path, trimmed(&text_of(name.name)))?;
+    let mut path = format!(in alloc; "{path}%{prime}")?;
+    push_extension(&mut path, name)?;
+    Ok(path)
+}
+
+/// Returns the folder for files with a block that may not be theirs: FOLDER/doubtful.
+pub(crate) fn doubtful_folder(alloc: Global, folder: &str) -> Result<String, AllocError>
+    ensures { IfOk result (λ path. string_bytes path ≡ doubtful_folder folder.now) }
+{
+    format!(in alloc; "{folder}/doubtful")
+}
+
+/// Returns the folder for files that no directory names: FOLDER/unnamed.
+pub(crate) fn unnamed_folder(alloc: Global, folder: &str) -> Result<String, AllocError>
+    ensures { IfOk result (λ path. string_bytes path ≡ unnamed_folder folder.now) }
+{
+    format!(in alloc; "{folder}/unnamed")
 }

@@ -1,27 +1,40 @@
 //! The rescue of the files that a survey of a damaged disk found, to new files of the host.
-ghost use Rattle.std.specs.Prelude.{◌≡◌, ◌↔◌, IfOk, IsErrOf, IsTrue, length, string_bytes};
+ghost use Rattle.std.specs.Prelude.{◌≡◌, ◌↔◌, true, false, IfOk, IsErrOf, IsTrue, length, string_bytes};
 ghost use Rattle.std.specs.List.{AllByRecursion};
 ghost use Rattle.blockdisk.specs.Common.{memory_state};
 ghost use Rattle.salvage.specs.Common.{FitsDisk};
-ghost use Rattle.collection.specs.Common.{EachDone, none_counted, AreFilesSaved, IsFileDone, IsFindingDone};
-ghost use Rattle.collection.specs.Common.{IsReadStored, IsSalvageRun, IsSavedAt, IsWanted, IsWantedCost};
-ghost use Rattle.collection.specs.Common.{IsWantedDone, MayExport, fault_text, head_findings, is_device, path_of_cost};
-ghost use Rattle.collection.specs.Common.{words_read};
+ghost use Rattle.collection.specs.Common.{EachDone, Then, none_counted, AreApartSaved, AreFilesSaved};
+ghost use Rattle.collection.specs.Common.{AreFindingsDone, IsFileDone, IsFindingDone, IsReadStored, IsSalvageRun};
+ghost use Rattle.collection.specs.Common.{IsSavedAt, IsWanted, IsWantedCost, IsWantedDone, MayRescue, MaySave};
+ghost use Rattle.collection.specs.Common.{defect_text, doubtful_folder as doubtful_text, fault_text, head_findings};
+ghost use Rattle.collection.specs.Common.{is_device, numbered_path as numbered_text, path_of_cost, saved_path};
+ghost use Rattle.collection.specs.Common.{unnamed_folder as unnamed_text, words_read};
 ghost use Rattle.salvage.specs.declared.error.SalvageError.TheVariants.{NotVolume};
 ghost use Rattle.salvage.specs.declared.finding.Cost.TheVariants as cost;
+ghost use Rattle.salvage.specs.declared.finding.Defect.TheVariants as defect;
 
 use crate::exports::store;
 use crate::lines::{added, say_path, turn_down};
-use crate::paths::{folder_of, path_of};
+use crate::paths::{doubtful_folder, folder_of, numbered_path, path_of, unnamed_folder};
 use crate::report::report;
 use crate::{ExportTask, HostFiles};
 use blockdisk::Disk;
 use commands::{SessionError, Tally, export_words};
-use salvage::{Copied, Cost, Finding, SalvageError, SavedFile, Survey, read_words};
+use salvage::{Copied, Cost, Defect, Finding, SalvageError, SavedFile, Survey, read_words};
 use std::alloc::{AllocError, Global};
 use std::io::Write;
 use volume::VolumeError;
-use words36::{Ppn, Word};
+use words36::{FileName, Ppn, Word};
+
+/// Where files of one kind become files of the host.
+#[derive(Clone, Copy)]
+struct Target<'a> {
+    task: &'a ExportTask<'a>,
+    /// The folder in which the folder of each directory is made.
+    folder: &'a str,
+    /// Whether the name of each file has the number of its prime block.
+    numbered: bool,
+}
 
 /// A file that will become one of the host, at a path.
 #[derive(Clone, Copy)]
@@ -86,26 +99,42 @@ fn save<H: HostFiles, W: Write, E: Write, D: Disk>(
     store_read(host, alloc, saving, read, writer, errors)
 }
 
+/// Returns the path of the file of the host that a file becomes.
+fn saved_path(alloc: Global, target: &Target<'_>, file: &SavedFile) -> Result<String, AllocError>
+    ensures { IfOk result (λ path. string_bytes path
+        ≡ saved_path target.now.folder.now target.now.numbered file.now) }
+{
+    let folder = target.folder;
+    let prime = &file.stored.prime;
+    if target.numbered {
+        numbered_path(alloc, folder, prime.ppn, prime.file, file.at)
+    } else {
+        path_of(alloc, folder, prime.ppn, prime.file)
+    }
+}
+
 /// Makes the folder of a file, and then a file of the host from it, or only lists its path.
+#[tactic(auto, using(crate::proofs::SaveLaws::saves_directory, crate::proofs::SaveLaws::saves_file))]
 fn save_wanted<H: HostFiles, W: Write, E: Write, D: Disk>(
     host: &H,
     alloc: Global,
-    task: &ExportTask<'_>,
+    target: &Target<'_>,
     file: &SavedFile,
     disk: &mut D,
     writer: &mut W,
     errors: &mut E,
 ) -> Result<Tally, SessionError>
     requires fits { FitsDisk (D.state disk.old).size file.now }
-    requires allowed { MayExport (H.files host.now) task.now }
-    ensures { IsWantedDone (H.files host.now) D.state task.now file.now (W.contents writer.old) (W.contents writer.new)
-        disk.old disk.new result }
+    requires allowed { target.now.task.now.lists ≡ false
+        → MaySave (H.files host.now) target.now.folder.now target.now.numbered }
+    ensures { IsWantedDone (H.files host.now) D.state target.now.task.now target.now.folder.now target.now.numbered
+        file.now (W.contents writer.old) (W.contents writer.new) disk.old disk.new result }
 {
-    let prime = &file.stored.prime;
-    let Ok(folder) = folder_of(alloc, task.folder, prime.ppn) else {
+    let task = target.task;
+    let Ok(folder) = folder_of(alloc, target.folder, file.stored.prime.ppn) else {
         return Err(SessionError::NoMemory);
     };
-    let Ok(path) = path_of(alloc, task.folder, prime.ppn, prime.file) else {
+    let Ok(path) = saved_path(alloc, target, file) else {
         return Err(SessionError::NoMemory);
     };
     let (folder, path) = (folder.as_str(), path.as_str());
@@ -140,19 +169,20 @@ fn is_wanted(wanted: Option<Ppn>, owner: Ppn) -> bool
 fn save_one<H: HostFiles, W: Write, E: Write, D: Disk>(
     host: &H,
     alloc: Global,
-    task: &ExportTask<'_>,
+    target: &Target<'_>,
     file: &SavedFile,
     disk: &mut D,
     writer: &mut W,
     errors: &mut E,
 ) -> Result<Tally, SessionError>
     requires fits { FitsDisk (D.state disk.old).size file.now }
-    requires allowed { MayExport (H.files host.now) task.now }
-    ensures { IsFileDone (H.files host.now) D.state task.now file.now (W.contents writer.old) (W.contents writer.new)
-        disk.old disk.new result }
+    requires allowed { target.now.task.now.lists ≡ false
+        → MaySave (H.files host.now) target.now.folder.now target.now.numbered }
+    ensures { IsFileDone (H.files host.now) D.state target.now.task.now target.now.folder.now target.now.numbered
+        file.now (W.contents writer.old) (W.contents writer.new) disk.old disk.new result }
 {
-    if is_wanted(task.owner, file.stored.prime.ppn) {
-        save_wanted(host, alloc, task, file, disk, writer, errors)
+    if is_wanted(target.task.owner, file.stored.prime.ppn) {
+        save_wanted(host, alloc, target, file, disk, writer, errors)
     } else {
         Ok(Tally::none())
     }
@@ -162,27 +192,56 @@ fn save_one<H: HostFiles, W: Write, E: Write, D: Disk>(
 fn save_each<H: HostFiles, W: Write, E: Write, D: Disk>(
     host: &H,
     alloc: Global,
-    task: &ExportTask<'_>,
+    target: &Target<'_>,
     files: &[SavedFile],
     disk: &mut D,
     writer: &mut W,
     errors: &mut E,
 ) -> Result<Tally, SessionError>
     requires fit { AllByRecursion (FitsDisk (D.state disk.old).size) files.now }
-    requires allowed { MayExport (H.files host.now) task.now }
-    ensures { EachDone (IsFileDone (H.files host.now) D.state task.now) files.now none_counted (W.contents writer.old)
-        (W.contents writer.new) disk.old disk.new result }
+    requires allowed { target.now.task.now.lists ≡ false
+        → MaySave (H.files host.now) target.now.folder.now target.now.numbered }
+    ensures { EachDone (IsFileDone (H.files host.now) D.state target.now.task.now target.now.folder.now
+        target.now.numbered) files.now none_counted (W.contents writer.old) (W.contents writer.new) disk.old disk.new
+        result }
 {
     let mut tally = Tally::none();
     for file in files {
-        let one = save_one(host, alloc, task, file, disk, writer, errors)?;
+        let one = save_one(host, alloc, target, file, disk, writer, errors)?;
         tally = added(tally, one);
     }
     Ok(tally)
 }
 
 /// Makes the folder for all directories, unless paths are only listed, and saves these files.
+#[tactic(auto, using(crate::proofs::SaveLaws::saves_itself))]
 fn save_files<H: HostFiles, W: Write, E: Write, D: Disk>(
+    host: &H,
+    alloc: Global,
+    target: &Target<'_>,
+    files: &[SavedFile],
+    disk: &mut D,
+    writer: &mut W,
+    errors: &mut E,
+) -> Result<Tally, SessionError>
+    requires fit { AllByRecursion (FitsDisk (D.state disk.old).size) files.now }
+    requires allowed { target.now.task.now.lists ≡ false
+        → MaySave (H.files host.now) target.now.folder.now target.now.numbered }
+    ensures { AreFilesSaved (H.files host.now) D.state target.now.task.now target.now.folder.now target.now.numbered
+        files.now (W.contents writer.old) (W.contents writer.new) disk.old disk.new result }
+{
+    let folder = target.folder;
+    if !target.task.lists
+        && let Err(error) = host.make_folder(folder)
+    {
+        report(errors, folder, &error);
+        return turn_down(alloc, writer, folder, "?Can't make folder", false);
+    }
+    save_each(host, alloc, target, files, disk, writer, errors)
+}
+
+/// Saves the files with a block that may not be theirs, if there are any.
+fn save_doubtful<H: HostFiles, W: Write, E: Write, D: Disk>(
     host: &H,
     alloc: Global,
     task: &ExportTask<'_>,
@@ -192,17 +251,51 @@ fn save_files<H: HostFiles, W: Write, E: Write, D: Disk>(
     errors: &mut E,
 ) -> Result<Tally, SessionError>
     requires fit { AllByRecursion (FitsDisk (D.state disk.old).size) files.now }
-    requires allowed { MayExport (H.files host.now) task.now }
-    ensures { AreFilesSaved (H.files host.now) D.state task.now files.now (W.contents writer.old)
-        (W.contents writer.new) disk.old disk.new result }
+    requires allowed { MayRescue (H.files host.now) task.now }
+    ensures { AreApartSaved (H.files host.now) D.state task.now (doubtful_text task.now.folder.now) false files.now
+        (W.contents writer.old) (W.contents writer.new) disk.old disk.new result }
 {
-    if !task.lists
-        && let Err(error) = host.make_folder(task.folder)
-    {
-        report(errors, task.folder, &error);
-        return turn_down(alloc, writer, task.folder, "?Can't make folder", false);
+    if files.is_empty() {
+        return Ok(Tally::none());
     }
-    save_each(host, alloc, task, files, disk, writer, errors)
+    let Ok(folder) = doubtful_folder(alloc, task.folder) else {
+        return Err(SessionError::NoMemory);
+    };
+    let target = Target {
+        task,
+        folder: folder.as_str(),
+        numbered: false,
+    };
+    save_files(host, alloc, &target, files, disk, writer, errors)
+}
+
+/// Saves the files that no directory names, if there are any.
+fn save_unnamed<H: HostFiles, W: Write, E: Write, D: Disk>(
+    host: &H,
+    alloc: Global,
+    task: &ExportTask<'_>,
+    files: &[SavedFile],
+    disk: &mut D,
+    writer: &mut W,
+    errors: &mut E,
+) -> Result<Tally, SessionError>
+    requires fit { AllByRecursion (FitsDisk (D.state disk.old).size) files.now }
+    requires allowed { MayRescue (H.files host.now) task.now }
+    ensures { AreApartSaved (H.files host.now) D.state task.now (unnamed_text task.now.folder.now) true files.now
+        (W.contents writer.old) (W.contents writer.new) disk.old disk.new result }
+{
+    if files.is_empty() {
+        return Ok(Tally::none());
+    }
+    let Ok(folder) = unnamed_folder(alloc, task.folder) else {
+        return Err(SessionError::NoMemory);
+    };
+    let target = Target {
+        task,
+        folder: folder.as_str(),
+        numbered: true,
+    };
+    save_files(host, alloc, &target, files, disk, writer, errors)
 }
 
 /// Returns the text of a fault, which is that of a start that it stops.
@@ -223,14 +316,38 @@ fn fault_text(alloc: Global, fault: VolumeError) -> Result<String, AllocError>
     }
 }
 
+/// Returns the text of what is wrong.
+fn defect_text(alloc: Global, fault: Defect) -> Result<String, AllocError>
+    ensures { IfOk result (λ text. string_bytes text ≡ defect_text fault) }
+{
+    match fault {
+        Defect::Start(fault) => fault_text(alloc, fault),
+        Defect::FreeBlock(block) => format!(in alloc; "?Block {block} is free"),
+    }
+}
+
+/// Returns the path of a file that no directory names.
+fn path_of_unnamed(
+    alloc: Global,
+    folder: &str,
+    owner: Ppn,
+    name: FileName,
+    prime: u32,
+) -> Result<String, AllocError>
+    ensures { IfOk result (λ path. string_bytes path
+        ≡ numbered_text (unnamed_text folder.now) owner name prime) }
+{
+    let folder = unnamed_folder(alloc, folder)?;
+    numbered_path(alloc, folder.as_str(), owner, name, prime)
+}
+
 /// Returns the path that what a fault costs would have had.
 fn path_of_cost(alloc: Global, folder: &str, costs: Cost) -> Result<String, AllocError>
     ensures { IfOk result (λ path. string_bytes path ≡ path_of_cost folder.now costs) }
 {
     match costs {
-        Cost::File(owner, name) | Cost::Unnamed(owner, name) => {
-            path_of(alloc, folder, owner, name)
-        }
+        Cost::File(owner, name) => path_of(alloc, folder, owner, name),
+        Cost::Unnamed(owner, name, prime) => path_of_unnamed(alloc, folder, owner, name, prime),
         Cost::Directory(owner) => folder_of(alloc, folder, owner),
         Cost::Directories | Cost::Nothing => format!(in alloc; "{folder}"),
     }
@@ -241,7 +358,7 @@ fn is_wanted_cost(wanted: Option<Ppn>, costs: Cost) -> bool
     ensures { IsTrue result ↔ IsWantedCost wanted costs }
 {
     match costs {
-        Cost::File(owner, _) | Cost::Unnamed(owner, _) | Cost::Directory(owner) => {
+        Cost::File(owner, _) | Cost::Unnamed(owner, _, _) | Cost::Directory(owner) => {
             is_wanted(wanted, owner)
         }
         Cost::Directories | Cost::Nothing => true,
@@ -249,21 +366,21 @@ fn is_wanted_cost(wanted: Option<Ppn>, costs: Cost) -> bool
 }
 
 /// Returns whether the device failed, which counts for more than other faults.
-fn is_device(fault: VolumeError) -> bool
+fn is_device(fault: Defect) -> bool
     ensures { result ≡ is_device fault }
 {
     match fault {
-        VolumeError::Device => true,
+        Defect::Start(VolumeError::Device) => true,
         _ => false,
     }
 }
 
 /// Returns the finding of a fault that costs no file.
 fn costing_nothing(fault: VolumeError) -> Finding
-    ensures { result ≡ record { fault = fault; costs = cost.Nothing } }
+    ensures { result ≡ record { fault = defect.Start fault; costs = cost.Nothing } }
 {
     Finding {
-        fault,
+        fault: Defect::Start(fault),
         costs: Cost::Nothing,
     }
 }
@@ -283,7 +400,7 @@ fn report_finding<W: Write>(
     let Ok(path) = path_of_cost(alloc, task.folder, finding.costs) else {
         return Err(SessionError::NoMemory);
     };
-    let Ok(text) = fault_text(alloc, finding.fault) else {
+    let Ok(text) = defect_text(alloc, finding.fault) else {
         return Err(SessionError::NoMemory);
     };
     let broke = is_device(finding.fault);
@@ -328,10 +445,92 @@ fn report_copy<W: Write>(
     report_findings(alloc, task, &faults[first..end], writer)
 }
 
+/// Saves the files that no directory names, and writes the lines of the faults.
+fn save_last<H: HostFiles, W: Write, E: Write, D: Disk>(
+    host: &H,
+    alloc: Global,
+    task: &ExportTask<'_>,
+    found: &Survey,
+    disk: &mut D,
+    writer: &mut W,
+    errors: &mut E,
+) -> Result<Tally, SessionError>
+    requires fit { AllByRecursion (FitsDisk (D.state disk.old).size) found.now.unnamed.items }
+    requires allowed { MayRescue (H.files host.now) task.now }
+    ensures { Then (AreApartSaved (H.files host.now) D.state task.now (unnamed_text task.now.folder.now) true
+        found.now.unnamed.items) (AreFindingsDone task.now found.now.findings.items) (W.contents writer.old)
+        (W.contents writer.new) disk.old disk.new result }
+{
+    let files = found.unnamed.as_slice();
+    let saved = save_unnamed(host, alloc, task, files, disk, writer, errors)?;
+    let told = report_findings(alloc, task, found.findings.as_slice(), writer)?;
+    Ok(added(saved, told))
+}
+
+/// Saves the doubtful files, and then those that no directory names, and writes the lines of the faults.
+fn save_apart<H: HostFiles, W: Write, E: Write, D: Disk>(
+    host: &H,
+    alloc: Global,
+    task: &ExportTask<'_>,
+    found: &Survey,
+    disk: &mut D,
+    writer: &mut W,
+    errors: &mut E,
+) -> Result<Tally, SessionError>
+    requires fit { AllByRecursion (FitsDisk (D.state disk.old).size) found.now.doubtful.items }
+    requires fit_unnamed { AllByRecursion (FitsDisk (D.state disk.old).size) found.now.unnamed.items }
+    requires allowed { MayRescue (H.files host.now) task.now }
+    ensures { Then (AreApartSaved (H.files host.now) D.state task.now (doubtful_text task.now.folder.now) false
+        found.now.doubtful.items)
+        (Then (AreApartSaved (H.files host.now) D.state task.now (unnamed_text task.now.folder.now) true
+        found.now.unnamed.items) (AreFindingsDone task.now found.now.findings.items)) (W.contents writer.old)
+        (W.contents writer.new) disk.old disk.new result }
+{
+    let files = found.doubtful.as_slice();
+    let saved = save_doubtful(host, alloc, task, files, disk, writer, errors)?;
+    let others = save_last(host, alloc, task, found, disk, writer, errors)?;
+    Ok(added(saved, others))
+}
+
+/// Saves the files in their place, and then the others, and writes the lines of the faults.
+fn save_found<H: HostFiles, W: Write, E: Write, D: Disk>(
+    host: &H,
+    alloc: Global,
+    task: &ExportTask<'_>,
+    found: &Survey,
+    disk: &mut D,
+    writer: &mut W,
+    errors: &mut E,
+) -> Result<Tally, SessionError>
+    requires fit { AllByRecursion (FitsDisk (D.state disk.old).size) found.now.files.items }
+    requires fit_doubtful { AllByRecursion (FitsDisk (D.state disk.old).size) found.now.doubtful.items }
+    requires fit_unnamed { AllByRecursion (FitsDisk (D.state disk.old).size) found.now.unnamed.items }
+    requires allowed { MayRescue (H.files host.now) task.now }
+    ensures { Then (AreFilesSaved (H.files host.now) D.state task.now task.now.folder.now false
+        found.now.files.items)
+        (Then (AreApartSaved (H.files host.now) D.state task.now (doubtful_text task.now.folder.now) false
+        found.now.doubtful.items)
+        (Then (AreApartSaved (H.files host.now) D.state task.now (unnamed_text task.now.folder.now) true
+        found.now.unnamed.items) (AreFindingsDone task.now found.now.findings.items))) (W.contents writer.old)
+        (W.contents writer.new) disk.old disk.new result }
+{
+    let target = Target {
+        task,
+        folder: task.folder,
+        numbered: false,
+    };
+    let files = found.files.as_slice();
+    let saved = save_files(host, alloc, &target, files, disk, writer, errors)?;
+    let others = save_apart(host, alloc, task, found, disk, writer, errors)?;
+    Ok(added(saved, others))
+}
+
 /// Makes a file of the host from each file that a survey of this copy found, at a path where there is none:
-/// FOLDER/10,20/FOO.TXT. A line is written for each file of a directory that is wanted, and for each fault with the
-/// path that what it costs would have had; none of these stops the others. A task that only lists reads no file and
-/// makes none: it writes the paths. Nothing is written to the copy.
+/// FOLDER/10,20/FOO.TXT for a file in its place, FOLDER/doubtful/10,20/FOO.TXT for one with a block that may not be
+/// its own, and FOLDER/unnamed/10,20/FOO%1234.TXT, with the number of its prime block, for one that no directory
+/// names. A line is written for each file of a directory that is wanted, and for each fault with the path that what it
+/// costs would have had; none of these stops the others. A task that only lists reads no file and makes none: it
+/// writes the paths. Nothing is written to the copy.
 ///
 /// # Errors
 ///
@@ -345,15 +544,16 @@ pub fn save_survey<H: HostFiles, W: Write, E: Write>(
     writer: &mut W,
     errors: &mut E,
 ) -> Result<Tally, SessionError>
-    requires fit { AllByRecursion (FitsDisk (length copied.old.disk.blocks)) found.now.files.items }
-    requires allowed { MayExport (H.files host.now) task.now }
+    requires fit { AllByRecursion (FitsDisk (length copied.old.disk.blocks)) found.now.files.items
+        × AllByRecursion (FitsDisk (length copied.old.disk.blocks)) found.now.doubtful.items
+        × AllByRecursion (FitsDisk (length copied.old.disk.blocks)) found.now.unnamed.items }
+    requires allowed { MayRescue (H.files host.now) task.now }
     ensures { IsSalvageRun (H.files host.now) memory_state task.now
-        (head_findings copied.old.has_bad_log copied.old.unread) found.now.files.items found.now.findings.items
-        (W.contents writer.old) (W.contents writer.new) copied.old.disk copied.new.disk result }
+        (head_findings copied.old.has_bad_log copied.old.unread) found.now.files.items found.now.doubtful.items
+        found.now.unnamed.items found.now.findings.items (W.contents writer.old) (W.contents writer.new)
+        copied.old.disk copied.new.disk result }
 {
     let first = report_copy(alloc, task, copied, writer)?;
-    let files = found.files.as_slice();
-    let saved = save_files(host, alloc, task, files, &mut copied.disk, writer, errors)?;
-    let told = report_findings(alloc, task, found.findings.as_slice(), writer)?;
-    Ok(added(added(first, saved), told))
+    let rest = save_found(host, alloc, task, found, &mut copied.disk, writer, errors)?;
+    Ok(added(first, rest))
 }

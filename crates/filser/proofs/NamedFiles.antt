@@ -2,7 +2,7 @@
 use Rattle.std.proofs.Common.{◌≡◌, inl, inr, refl, List, Option, Some, None, All, codes}
 use Rattle.std.specs.Prelude.{drop}
 use Rattle.clap.specs.Words.{Row, Text, subcommand_of}
-use Rattle.collection.specs.Common.{FileFacts, MayFill}
+use Rattle.collection.specs.Common.{FileFacts, MayFill, MayFillApart}
 use Rattle.arguments.specs.CommandLine.{command_line}
 use Rattle.arguments.proofs.NamedWords.{files_are_words, text_is_a_word}
 use Rattle.filser.specs.Common.{AllowsMoved, AllowsNamed, Asks, HoldsOfImages}
@@ -56,5 +56,6 @@ allows_moved files words (Some found) (Import image form task) is asks allows =
     files_are_words files.may_read words found _ is asks.3.paths allows.read
 allows_moved files words (Some found) (Export image form task) is asks allows = λ makes. text_is_a_word (MayFill files)
     words found (codes "FOLDER") task.folder.now is (inr (inr refl)) asks.3.folder allows.fill
-allows_moved files words (Some found) (Salvage image form task) is asks allows = λ makes. text_is_a_word (MayFill files)
-    words found (codes "FOLDER") task.folder.now is (inr (inr refl)) asks.3.folder allows.fill
+allows_moved files words (Some found) (Salvage image form task) is asks allows = λ makes.
+    text_is_a_word (MayFillApart files) words found (codes "FOLDER") task.folder.now is (inr (inr refl)) asks.3.folder
+    allows.rescue

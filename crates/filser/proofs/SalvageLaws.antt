@@ -42,6 +42,7 @@ module _ (form : Form) (u : Unseen) (d : DiskState) (began : BeganAs form u d) (
       → IsCopied facts task sink full begun end status
   copied_since facts task sink full end status was p = record {
     copy = p.copy;
+    last = p.last;
     unread = p.unread;
     lost = p.lost;
     copied = λ h. copy_since p.copy p.unread p.lost (was h) (p.copied h);
@@ -51,7 +52,8 @@ module _ (form : Form) (u : Unseen) (d : DiskState) (began : BeganAs form u d) (
         (λ found. inl (
           found.0,
           found.1,
-          λ h none stored stands. found.2 h none stored
+          found.2,
+          λ h none stored stands. found.3 h none stored
               (subst (λ (c : Contents). Stands d.size c stored) (sym (same form u d began sound (was h))) stands),
         ))
         (λ unsurveyed. inr unsurveyed) p.ran;

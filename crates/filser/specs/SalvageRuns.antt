@@ -8,11 +8,12 @@ use Rattle.spec_image.specs.Common.{File, Files, SpecHome, IsHome, IsVolumeSize,
 use Rattle.volume.specs.declared.error.VolumeError.{VolumeError}
 use Rattle.commands.specs.declared.answer.Tally.{Tally}
 use Rattle.commands.specs.declared.error.SessionError.{SessionError}
-use Rattle.salvage.specs.Common.{IsCopyOf, failed_by, AreAllSaved, IsSurveyed}
+use Rattle.salvage.specs.Common.{IsCopyOf, failed_by, AreTheFiles, IsSurveyed}
 use Rattle.salvage.specs.declared.error.SalvageError.{SalvageError}
 use Rattle.salvage.specs.declared.error.SalvageError.TheVariants.{NotVolume, Device, NoMemory}
 use Rattle.salvage.specs.declared.finding.Finding.{Finding}
 use Rattle.salvage.specs.declared.saved.SavedFile.{SavedFile}
+use Rattle.salvage.specs.declared.search.Search.TheVariants.{Used}
 use Rattle.collection.specs.Common.{FileFacts, IsSalvageRun, head_findings}
 use Rattle.collection.specs.declared.task.ExportTask.{ExportTask}
 use Rattle.filser.specs.Denials.{IsExplained}
@@ -35,47 +36,53 @@ start_error NotVolume = volume.NotVolume
 start_error Device = volume.Device
 start_error NoMemory = volume.NoMemory
 
--- A copy was surveyed, and what was found was written to files of the host and printed as lines.
-pub record AreFound (facts : FileFacts) (task : ExportTask) (sink full : Option (List ℕ)) (copy : Memory) (unread : ℕ)
-    (lost : Bool) (files : List SavedFile) (status : Status) : Type 0 where
+-- A copy was surveyed, and what was found was written to files of the host and printed as lines: the files in their
+-- place, the doubtful ones, and those that no directory names, at blocks that aren't free by the allocation table.
+pub record AreFound (facts : FileFacts) (task : ExportTask) (sink full : Option (List ℕ)) (copy last : Memory)
+    (unread : ℕ) (lost : Bool) (files doubtful : List SavedFile) (status : Status) : Type 0 where
   pub layout : ℕ
+  pub unnamed : List SavedFile
   pub findings : List Finding
   pub middle : Memory
-  pub last : Memory
   pub result : Result Tally SessionError
   -- the layout of the home copy, or layout 2 if neither copy is valid
   pub layout_is : (home : SpecHome) → IsHome (memory_state copy).size (held copy.blocks) home → layout ≡ home.layout
   pub no_layout : ((home : SpecHome) → IsHome (memory_state copy).size (held copy.blocks) home → ⊥) → layout ≡ 2
-  pub surveyed : IsSurveyed (memory_state copy).size layout (held copy.blocks) files findings
+  pub surveyed : IsSurveyed (memory_state copy).size layout (held copy.blocks) Used files doubtful unnamed findings
   -- nothing was found wrong only with a copy that stands for files
   pub silent : findings ≡ [] → (stored : Files File)
       × SettledStands (memory_state copy).size (held copy.blocks) stored
   -- the words were read from the very copy
   pub read : OnlyReads (memory_state copy) (memory_state middle)
-  pub saved : IsSalvageRun facts memory_state task (head_findings lost unread) files findings sink full middle last
-      result
+  pub saved : IsSalvageRun facts memory_state task (head_findings lost unread) files doubtful unnamed findings sink full
+      middle last result
   pub ends : IsEnding status result
 
--- No survey was made of a copy, as is printed: memory ran out, or the copy failed.
-pub record IsUnsurveyed (copy : Memory) (sink full : Option (List ℕ)) (status : Status) : Type 0 where
+-- No survey was made of a copy, which was read and is `last` now, as is printed: memory ran out, or the copy failed.
+pub record IsUnsurveyed (copy last : Memory) (sink full : Option (List ℕ)) (status : Status) : Type 0 where
   pub error : SalvageError
-  pub cause : (error ≡ NoMemory) ⊎ ((error ≡ Device) × (last : Memory) × (last.failures ≡ one_more copy.failures))
+  pub read : OnlyReads (memory_state copy) (memory_state last)
+  pub cause : ((error ≡ NoMemory) × (last.failures ≡ copy.failures))
+      ⊎ ((error ≡ Device) × (last.failures ≡ one_more copy.failures))
   pub said : IsLine sink full status (start_code (start_error error)) (start_text (start_error error))
 
--- The disk was copied, and this became of the copy. Each block that couldn't be read is a failure of the disk.
+-- The disk was copied, and this became of the copy, which is `last` at the end. Each block that couldn't be read is a
+-- failure of the disk.
 pub record IsCopied (facts : FileFacts) (task : ExportTask) (sink full : Option (List ℕ)) (begun end : DiskState)
     (status : Status) : Type 0 where
   pub copy : Memory
+  pub last : Memory
   pub unread : ℕ
   pub lost : Bool
   pub copied : end.honest → IsCopyOf begun copy unread lost
   pub few : unread ≤ begun.size
   pub failures : end.failures ≡ failed_by unread begun.failures
-  pub ran : ((files : List SavedFile) × AreFound facts task sink full copy unread lost files status
-      -- if all was read, and the disk stood for files, all of these were found
+  pub ran : ((files : List SavedFile) × (doubtful : List SavedFile)
+      × AreFound facts task sink full copy last unread lost files doubtful status
+      -- if all was read, and the disk stood for files, exactly these were found in their place, and none is doubtful
       × (end.honest → unread ≡ 0 → (stored : Files File) → Stands begun.size begun.contents stored
-      → AreAllSaved (held copy.blocks) files stored))
-      ⊎ IsUnsurveyed copy sink full status
+      → AreTheFiles (held copy.blocks) files stored × (doubtful ≡ [])))
+      ⊎ IsUnsurveyed copy last sink full status
 
 -- The disk wasn't copied, as is printed: it doesn't have a volume's size, and nothing was read; or memory ran out.
 pub record IsUncopied (begun end : DiskState) (sink full : Option (List ℕ)) (status : Status) : Type 0 where

@@ -7,7 +7,7 @@ use crate::Task;
 use crate::fault::report_no_memory;
 use blockdisk::{Disk, Fail, FuseDisk};
 use commands::extension_text;
-use salvage::{Copied, Cost, Finding, SalvageError, Survey, survey_disk};
+use salvage::{Copied, Cost, Finding, SalvageError, Search, Survey, survey_disk};
 use std::alloc::Global;
 use std::fmt::{self, Display, Formatter};
 use std::io::Write;
@@ -57,7 +57,7 @@ fn report_loss<E: Write>(errors: &mut E, finding: Finding) {
             let place = FilePlace { owner, name };
             writeln!(errors, "filser: {place}: {fault}")
         }
-        Cost::Unnamed(owner, name) => {
+        Cost::Unnamed(owner, name, _) => {
             let place = FilePlace { owner, name };
             writeln!(errors, "filser: {place}, in no directory: {fault}")
         }
@@ -103,7 +103,7 @@ fn search<D: Disk>(alloc: Global, disk: &mut D) -> Result<Survey, SalvageError>
         return Err(SalvageError::Device); // a disk that keeps blocks doesn't give the neighbours either
     }
     let mut copy = FuseDisk::new(copy, READS_PER_BLOCK * u64::from(size), Fail::All);
-    survey_disk(alloc, &mut copy)
+    survey_disk(alloc, &mut copy, Search::Used)
 }
 
 /// Reports which files the faults of a disk cost.

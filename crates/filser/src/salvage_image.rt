@@ -1,10 +1,10 @@
 //! `salvage`: what is whole on an image, written to files of the host.
-ghost use Rattle.std.specs.Prelude.{◌≡◌, ◌≢◌, ◌⊎◌, List, length};
+ghost use Rattle.std.specs.Prelude.{◌≡◌, ◌≢◌, ◌⊎◌, List, [], length};
 ghost use Rattle.blockdisk.specs.Common.{SameDisk, held};
 ghost use Rattle.imagefile.specs.Common.{assumed_in};
 ghost use Rattle.spec_image.specs.Common.{File as StoredFile, Files, IsVolumeSize, SettledStands};
-ghost use Rattle.collection.specs.Common.{MayExport};
-ghost use Rattle.salvage.specs.Common.{AreAllSaved};
+ghost use Rattle.collection.specs.Common.{MayRescue};
+ghost use Rattle.salvage.specs.Common.{AreTheFiles};
 ghost use Rattle.salvage.specs.declared.saved.SavedFile.{SavedFile};
 ghost use Rattle.filser.specs.Common.{AreFound, IsOnSalvaged, IsSalvagedFrom, IsUnsurveyed, start_error};
 ghost use Rattle.filser.specs.declared.status.Status.TheVariants.{BadArguments};
@@ -20,7 +20,7 @@ use crate::{
 };
 use blockdisk::Disk;
 use collection::save_survey;
-use salvage::{Copied, SalvageError, survey_disk};
+use salvage::{Copied, SalvageError, Search, survey_disk};
 use std::alloc::Global;
 use std::io::Write;
 use volume::VolumeError;
@@ -46,16 +46,17 @@ fn salvage_copy<H: Host, W: Write, E: Write>(
     errors: &mut E,
 ) -> Status
     requires size { IsVolumeSize (length copied.old.disk.blocks) }
-    requires allowed { MayExport (H.facts shelf.now.host.now).files task.now }
+    requires allowed { MayRescue (H.facts shelf.now.host.now).files task.now }
     ensures serving { result ≢ BadArguments }
-    ensures ran { ((files : List SavedFile) × AreFound (H.facts shelf.now.host.now).files task.now
-        (W.contents writer.old) (W.contents writer.new) copied.old.disk copied.old.unread copied.old.has_bad_log files
-        result
+    ensures ran { ((files : List SavedFile) × (doubtful : List SavedFile)
+        × AreFound (H.facts shelf.now.host.now).files task.now (W.contents writer.old) (W.contents writer.new)
+        copied.old.disk copied.new.disk copied.old.unread copied.old.has_bad_log files doubtful result
         × ((stored : Files StoredFile) → SettledStands (length copied.old.disk.blocks)
-        (held copied.old.disk.blocks) stored → AreAllSaved (held copied.old.disk.blocks) files stored))
-        ⊎ IsUnsurveyed copied.old.disk (W.contents writer.old) (W.contents writer.new) result }
+        (held copied.old.disk.blocks) stored
+        → AreTheFiles (held copied.old.disk.blocks) files stored × (doubtful ≡ [])))
+        ⊎ IsUnsurveyed copied.old.disk copied.new.disk (W.contents writer.old) (W.contents writer.new) result }
 {
-    match survey_disk(alloc, &mut copied.disk) {
+    match survey_disk(alloc, &mut copied.disk, Search::Used) {
         Ok(found) => {
             let saved = save_survey(shelf, alloc, task, &found, copied, writer, errors);
             let status = ending(saved);
@@ -75,7 +76,7 @@ fn salvage_from<H: Host, D: Disk, W: Write, E: Write>(
     writer: &mut W,
     errors: &mut E,
 ) -> Status
-    requires { MayExport (H.facts shelf.now.host.now).files task.now }
+    requires { MayRescue (H.facts shelf.now.host.now).files task.now }
     ensures serving { result ≢ BadArguments }
     ensures ran { IsSalvagedFrom (H.facts shelf.now.host.now).files task.now
         (W.contents writer.old) (W.contents writer.new) (D.state disk.old) (D.state disk.new) result }
@@ -98,7 +99,7 @@ pub(crate) fn salvage_image<H: Host, W: Write, E: Write>(
     writer: &mut W,
     errors: &mut E,
 ) -> (Status, ImageDisks)
-    requires { MayExport (H.facts shelf.now.host.now).files task.now }
+    requires { MayRescue (H.facts shelf.now.host.now).files task.now }
     ensures serving { result.0 ≢ BadArguments }
     ensures ran { IsOnSalvaged (H.facts shelf.now.host.now) (⟦<Run as Seen>⟧.views) image.now.path.now
         image.now.form task.now (assumed_in leave.supposed) (W.contents writer.old) (W.contents writer.new)

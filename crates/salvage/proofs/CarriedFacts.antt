@@ -15,6 +15,10 @@ pub on_ok : {T E P Q : Type 0} (result : Result T E) → (P → Q) → OnOk resu
 on_ok (Ok x) then holds = then holds
 on_ok (Err e) then holds = tt
 
+pub always : {T E P : Type 0} (result : Result T E) → P → OnOk result P
+always (Ok x) holds = holds
+always (Err e) holds = tt
+
 pub on_ok_both : {T E P Q R : Type 0} (result : Result T E) → (P → Q → R) → OnOk result P → OnOk result Q
     → OnOk result R
 on_ok_both (Ok x) then p q = then p q

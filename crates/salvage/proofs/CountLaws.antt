@@ -4,8 +4,8 @@ use Rattle.std.proofs.Common.{replicate, refl, sym, ap, subst, ◌∙◌, arith,
 use Rattle.std.specs.List.{AllByRecursion}
 use Rattle.std.proofs.lemmas.Bool.{cases_eq, cases_lt}
 use Rattle.std.proofs.lemmas.List.{take_more, take_all, get_or-replicate, get_or_past, length-replicate}
-use Rattle.spec_image.specs.Common.{times}
-use Rattle.spec_image.proofs.Common.{times-append, total-append}
+use Rattle.spec_image.specs.Common.{InSpace, times}
+use Rattle.spec_image.proofs.Common.{all_append, each_times, times-append, total-append}
 use Rattle.changeset.specs.Common.{times_tail}
 use Rattle.volume.proofs.common.MarkedBlocks.{times_parts}
 use Rattle.salvage.specs.Common.{CountTo, FitsDisk, blocks_of, claims}
@@ -55,6 +55,14 @@ fits_at size [] i file below is all = absurd (omega arith)
 fits_at size (x ∷ xs) zero file below is all = subst (FitsDisk size) (sym is) all.0
 fits_at size (x ∷ xs) (suc i) file below is all = fits_at size xs i file (omega arith) is all.1
 
+-- Each block of a file that fits lies in the free space.
+pub fits_inside : (size : ℕ) (file : SavedFile) (n : ℕ) → FitsDisk size file → 0 < times n (blocks_of file)
+    → InSpace size n
+fits_inside size file n fits among = each_times (InSpace size) (blocks_of file) n (
+  fits.at_inside,
+  all_append (InSpace size) file.stored.version.ribs file.stored.version.blocks fits.ribs_inside fits.blocks_inside,
+) among
+
 pub claims_more : (files : List SavedFile) (i : ℕ) (file : SavedFile) → i < length files → file ≡ get_or files i file
     → (m : ℕ) → claims (take (i + 1) files) m ≡ claims (take i files) m + times m (blocks_of file)
 claims_more files i file below is m =
@@ -103,12 +111,4 @@ pub first_counts : (size : ℕ) (zeros counts : List ℕ) (files seen : List Sav
 first_counts size zeros counts files seen is same adds m =
     let all = adds (λ n. 0) (zeros_count size zeros is) m in
     let e : claims seen m ≡ claims files m = ap (λ (l : List SavedFile). claims l m) same in
-    omega arith
-
-pub all_counts : (counts counts' : List ℕ) (files more seen : List SavedFile) → CountTo counts (claims files)
-    → seen ≡ more → Adds counts counts' (λ m. claims seen m) → CountTo counts' (claims (files ++ more))
-all_counts counts counts' files more seen counted same adds m =
-    let all = adds (claims files) counted m in
-    let e : claims seen m ≡ claims more m = ap (λ (l : List SavedFile). claims l m) same in
-    let sum = total-append (λ f. times m (blocks_of f)) files more in
     omega arith

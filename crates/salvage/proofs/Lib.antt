@@ -14,7 +14,12 @@ pub mod CountLaws
 pub mod JudgedFiles
 pub mod Faulty
 pub mod TakenFiles
+pub mod PrimesRead
 pub mod LookedAt
 pub mod WholeBodies
 pub mod SurveySteps
+pub mod StandingChains
 pub mod NothingLost
+pub mod WalkedChains
+pub mod FreeTables
+pub mod MarkedCounts

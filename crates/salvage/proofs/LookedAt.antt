@@ -1,106 +1,76 @@
--- Blocks that are checked one after the other, and the files that are there.
-use Rattle.std.proofs.Common.{◌≡◌, inl, inr, ⊎_elim, ℕ, ◌+◌, ◌<◌, ◌≤◌, ◌^◌, Bool, true, false, List, [], ◌∷◌, ◌++◌}
-use Rattle.std.proofs.Common.{map, Option, None, Some, IsSome, slice_index, refl, sym, ap, subst, ◌∙◌, arith}
+-- Blocks that are checked one after the other, and what is there.
+use Rattle.std.proofs.Common.{◌≡◌, ◌⊎◌, inl, inr, ⊎_elim, ℕ, ◌+◌, ◌<◌, Bool, List, [], ◌∷◌, ◌++◌, map, slice_index}
+use Rattle.std.proofs.Common.{refl, sym, ap, subst, ◌∙◌, arith}
 use Rattle.std.specs.List.{AllByRecursion}
 use Rattle.std.proofs.lemmas.Bool.{cases_eq}
-use Rattle.std.proofs.lemmas.List.{get_or_past}
+use Rattle.std.proofs.lemmas.List.{append_assoc}
+use Rattle.words36.specs.declared.names.FileName.{FileName}
 use Rattle.blockdisk.specs.Common.{Contents}
-use Rattle.spec_image.specs.Common.{InSpace, times, SpecPrime, IsRetrieved, table_start}
-use Rattle.spec_image.proofs.Common.{times-append, all_append, each_times}
+use Rattle.spec_image.specs.Common.{InSpace, Place, place_of, times}
+use Rattle.spec_image.proofs.Common.{times-append, all_append}
 use Rattle.changeset.specs.Common.{times_tail}
-use Rattle.alloctab.specs.Common.{digit, flag_at, IsBadTableBlock, IsTableOf, TableState, IsTable, bit}
-use Rattle.retrieval.specs.Common.{with_length, IsReadAs, IsStandingVersion}
-use Rattle.salvage.specs.Common.{CountTo, AreFound, IsCandidate, IsInUse, IsReadAt, IsTableRead, IsUnheld, AreApart}
-use Rattle.salvage.specs.Common.{IsAmong, IsRead, claims, place_in, MayBeUsed, IsScanned}
-use Rattle.salvage.specs.declared.saved.SavedFile.{SavedFile}
-use Rattle.salvage.proofs.Members.{contains_here, contains_left, contains_right, map_behind}
 use Rattle.directory.proofs.GatheredEntries.{all_of}
+use Rattle.salvage.specs.Common.{AreAdded, AreApart, AreFound, AreFree, CountTo, IsAmong, IsFinding, IsLostBy}
+use Rattle.salvage.specs.Common.{IsPrimeAt, IsRead, IsReadAt, IsScanned, IsSearched, IsWanted, claims}
+use Rattle.salvage.specs.declared.saved.SavedFile.{SavedFile}
+use Rattle.salvage.specs.declared.search.Search.{Search}
+use Rattle.salvage.specs.declared.search.Search.TheVariants.{Named, Used, Every}
+use Rattle.salvage.specs.declared.finding.Cost.{Cost}
+use Rattle.salvage.specs.declared.finding.Finding.{Finding}
+use Rattle.salvage.specs.declared.finding.Cost.TheVariants as cost
+use Rattle.salvage.proofs.Members.{contains_left, contains_right, map_behind}
 
--- One block.
+-- By the marks of the free blocks those are checked that are to be searched.
 
-module _ (size layout : ℕ) (contents : Contents) (n : ℕ) (inside : InSpace size n) (old : List SavedFile) where
-  standing : (file : SavedFile) → file.at ≡ n → IsRead size layout contents file
-      → IsStandingVersion size contents layout n (with_length file.stored.prime file.stored.version.words)
-      file.stored.version.ribs file.stored.version.blocks
-  standing file at read = record {
-    retrieved = subst (λ (k : ℕ). IsRetrieved layout contents
-        (with_length file.stored.prime file.stored.version.words) k file.stored.version.ribs
-        file.stored.version.blocks) at read.retrieved;
-    inside = λ m among. each_times (InSpace size)
-        (n ∷ (file.stored.version.ribs ++ file.stored.version.blocks)) m (
-          inside,
-          all_append (InSpace size) file.stored.version.ribs file.stored.version.blocks read.ribs_inside
-              read.blocks_inside,
-        ) among;
-    ppn_fits = read.ppn_fits;
-    ext_fits = read.ext_fits;
-  }
+pub wanted : (search : Search) (size : ℕ) (contents : Contents) (free : List Bool) (n : ℕ) → n < size
+    → AreFree size contents free → IsSearched search size contents n → IsWanted search free n
+wanted Named size contents free n below are searched = searched
+wanted Used size contents free n below are searched = λ marked. searched ((are n below).0 marked)
+wanted Every size contents free n below are searched = tt
 
-  -- No version is there.
-  pub nothing_here : (old ≡ old ++ []) → ((p : SpecPrime) (ribs blocks : List ℕ)
-      → IsStandingVersion size contents layout n p ribs blocks → ⊥) → IsReadAt size layout contents n old old
-  nothing_here same none = record {
-    found = [];
-    new_is = same;
-    read = tt;
-    apart = λ m. omega arith;
-    here = tt;
-    all = λ file at read. absurd (none (with_length file.stored.prime file.stored.version.words)
-        file.stored.version.ribs file.stored.version.blocks (standing file at read));
-  }
+pub searched_by : (search : Search) (size : ℕ) (contents : Contents) (free : List Bool) (n : ℕ) → n < size
+    → AreFree size contents free → IsWanted search free n → IsSearched search size contents n
+searched_by Named size contents free n below are is = is
+searched_by Used size contents free n below are is = λ says. is ((are n below).1 says)
+searched_by Every size contents free n below are is = tt
 
-  -- One is, and was read.
-  pub one_here : (file : SavedFile) (new : List SavedFile) → new ≡ old ++ file ∷ [] → file.at ≡ n
-      → IsRead size layout contents file → ((p : SpecPrime) (ribs blocks : List ℕ)
-      → IsRetrieved layout contents p n ribs blocks → p.place.name.ext < 2 ^ 18
-      → IsReadAs p ribs blocks file.stored.prime file.stored.version) → IsReadAt size layout contents n old new
-  one_here file new is at read reads = record {
-    found = file ∷ [];
-    new_is = is;
-    read = (read, tt);
-    apart = λ m. one m;
-    here = (at, tt);
-    all = λ other there is_read.
-        let s = standing other there is_read in
-        let as_read = reads (with_length other.stored.prime other.stored.version.words) other.stored.version.ribs
-        other.stored.version.blocks s.retrieved s.ext_fits in
-        record {
-          file = file;
-          among = contains_here file [];
-          at_is = at;
-          place_is = ap (λ (p : SpecPrime). p.place) as_read.prime_is;
-        };
-  }
-    where
-      one : (m : ℕ) → times m (file.at ∷ []) ≤ 1
-      one m = grind arith
+-- Files and findings with more behind or before them.
 
--- The table.
+among_before : (files more : List SavedFile) (place : Place) (prime : ℕ) → IsAmong files place prime
+    → IsAmong (files ++ more) place prime
+among_before files more place prime is = record {
+  file = is.file;
+  among = contains_left is.file files more is.among;
+  at_is = is.at_is;
+  place_is = is.place_is;
+}
 
-past_table : (size : ℕ) (contents : Contents) (table : TableState) (t : ℕ) → IsTableOf size contents (bit table)
-    → table.size ≡ size → IsTable table → IsBadTableBlock size contents t → ⊥
-past_table size contents table t of same sound bad = ⊎_elim
-    (λ damaged. let some : IsSome (contents (table_start size + bad.i)) = of.undamaged bad.i bad.in_table in
-    let none : contents (table_start size + bad.i) ≡ None = ap contents (sym bad.block) ∙ damaged in cc)
-    (λ set. let none : bit table set.0 ≡ 0 = ap digit (get_or_past table.bits set.0 _
-    (let a = set.1 in omega (arith, sound.bits_are, same))) in
-    let some : bit table set.0 ≡ 1 = of.bits_are set.0 ∙ set.3 in omega arith) bad.wrong
+among_behind : (files more : List SavedFile) (place : Place) (prime : ℕ) → IsAmong more place prime
+    → IsAmong (files ++ more) place prime
+among_behind files more place prime is = record {
+  file = is.file;
+  among = contains_right is.file files more is.among;
+  at_is = is.at_is;
+  place_is = is.place_is;
+}
 
-pub may_be_used : (size : ℕ) (contents : Contents) (table : Option TableState) (n : ℕ)
-    → IsTableRead size contents table → IsUnheld size table → MayBeUsed size contents n → IsInUse table n
-may_be_used size contents None n read unheld used = tt
-may_be_used size contents (Some table) n read unheld used = ⊎_elim
-    (λ set clear. let is = read.bits_are n in omega arith)
-    (λ bad. absurd (past_table size contents table bad.0 read unheld.0 unheld.1 bad.1)) used
+lost_before : (findings more : List Finding) (costs : Cost) → IsLostBy findings costs
+    → IsLostBy (findings ++ more) costs
+lost_before findings more costs is = record {
+  fault = is.fault;
+  among = contains_left (record { fault = is.fault; costs = costs }) findings more is.among;
+}
 
-pub in_use : (size : ℕ) (contents : Contents) (table : Option TableState) (n : ℕ)
-    → IsTableRead size contents table → IsInUse table n → MayBeUsed size contents n
-in_use size contents None n read set = inr read
-in_use size contents (Some table) n read set = inl (sym (read.bits_are n) ∙ one (flag_at table.bits n) set)
-  where
-    one : (flag : Bool) → (digit flag ≡ 0 → ⊥) → digit flag ≡ 1
-    one true some = refl
-    one false some = absurd (some refl)
+lost_behind : (findings more : List Finding) (costs : Cost) → IsLostBy more costs
+    → IsLostBy (findings ++ more) costs
+lost_behind findings more costs is = record {
+  fault = is.fault;
+  among = contains_right (record { fault = is.fault; costs = costs }) findings more is.among;
+}
+
+either : {A B C D : Type 0} → (A → C) → (B → D) → A ⊎ B → C ⊎ D
+either f g (inl a) = inl (f a)
+either f g (inr b) = inr (g b)
 
 -- After the blocks before it.
 
@@ -112,46 +82,62 @@ none_at m (x ∷ xs) others =
     let here = times_tail m x.at (map (λ (file : SavedFile). file.at) xs) (λ same. others.0 (sym same)) in
     here ∙ rest
 
-module _ (size layout : ℕ) (contents : Contents) (counts : List ℕ) (files : List SavedFile) (n : ℕ)
-    (found : AreFound size layout contents counts files n) where
+module _ (size layout : ℕ) (contents : Contents) (search : Search) (counts : List ℕ) (files : List SavedFile)
+    (findings told : List Finding) (n : ℕ)
+    (found : AreFound size layout contents search counts files findings told n) where
   earlier_more : AllByRecursion (λ file. file.at < n + 1) files
   earlier_more = all_of (λ file. file.at < n) (λ file. file.at < n + 1) files (λ file less. omega arith)
       found.earlier
 
-  pub found_passed : (table : Option TableState) → IsTableRead size contents table → IsUnheld size table
-      → (IsCandidate table counts n → ⊥) → AreFound size layout contents counts files (n + 1)
-  found_passed table read unheld not = record {
+  found_passed : (IsSearched search size contents n → slice_index counts n ≡ 0 → ⊥)
+      → AreFound size layout contents search counts files findings told (n + 1)
+  found_passed not = record {
     read = found.read;
     apart = found.apart;
     earlier = earlier_more;
-    elsewhere = found.elsewhere;
-    used = found.used;
-    all = λ file inside before is used uncounted. ⊎_elim
-        (λ same. absurd (not (
-          subst (λ (k : ℕ). slice_index counts k ≡ 0) same uncounted,
-          may_be_used size contents table n read unheld
-              (subst (λ (k : ℕ). MayBeUsed size contents k) same used),
-        )))
-        (λ other. found.all file inside (omega arith) is used uncounted) (cases_eq file.at n);
+    at = found.at;
+    added = found.added;
+    told_is = found.told_is;
+    stand = found.stand;
+    all = λ prime ppn name inside before searched uncounted says. ⊎_elim
+        (λ same. absurd (not (subst (λ (k : ℕ). IsSearched search size contents k) same searched)
+        (subst (λ (k : ℕ). slice_index counts k ≡ 0) same uncounted)))
+        (λ other. found.all prime ppn name inside (omega arith) searched uncounted says) (cases_eq prime n);
   }
 
-  pub found_more : (new : List SavedFile) → slice_index counts n ≡ 0 → MayBeUsed size contents n
-      → IsReadAt size layout contents n files new → AreFound size layout contents counts new (n + 1)
-  found_more new uncounted here at = subst (λ (l : List SavedFile). AreFound size layout contents counts l (n + 1))
+  pub passed_by : (free : List Bool) → n < size → AreFree size contents free
+      → ((slice_index counts n ≡ 0) × IsWanted search free n → ⊥)
+      → AreFound size layout contents search counts files findings told (n + 1)
+  passed_by free below are not = found_passed (λ searched uncounted.
+      not (uncounted, wanted search size contents free n below are searched))
+
+  pub found_more : (new : List SavedFile) (after : List Finding) → InSpace size n
+      → IsSearched search size contents n → slice_index counts n ≡ 0
+      → IsReadAt size layout contents n files new told after
+      → AreFound size layout contents search counts new findings after (n + 1)
+  found_more new after inside searched uncounted at =
+      subst (λ (l : List SavedFile). AreFound size layout contents search counts l findings after (n + 1))
       (sym at.new_is) (record {
         read = all_append (IsRead size layout contents) files at.found found.read at.read;
         apart = apart;
         earlier = all_append (λ file. file.at < n + 1) files at.found earlier_more
             (all_of (λ file. file.at ≡ n) (λ file. file.at < n + 1) at.found (λ file is. omega arith) at.here);
-        elsewhere = all_append (λ file. slice_index counts file.at ≡ 0) files at.found found.elsewhere
-            (all_of (λ file. file.at ≡ n) (λ file. slice_index counts file.at ≡ 0) at.found
-            (λ file is. ap (slice_index counts) is ∙ uncounted) at.here);
-        used = all_append (λ file. MayBeUsed size contents file.at) files at.found found.used
-            (all_of (λ file. file.at ≡ n) (λ file. MayBeUsed size contents file.at) at.found
-            (λ file is. subst (λ (k : ℕ). MayBeUsed size contents k) (sym is) here) at.here);
+        at = all_append (λ file. InSpace size file.at × IsSearched search size contents file.at
+            × (slice_index counts file.at ≡ 0)) files at.found found.at
+            (all_of (λ file. file.at ≡ n) (λ file. InSpace size file.at × IsSearched search size contents file.at
+            × (slice_index counts file.at ≡ 0)) at.found (λ file is. moved file.at is) at.here);
+        added = found.added ++ at.added;
+        told_is = at.told_is ∙ ap (λ (l : List Finding). l ++ at.added) found.told_is
+            ∙ append_assoc findings found.added at.added;
+        stand = all_append (IsFinding size layout contents) found.added at.added found.stand at.stand;
         all = all;
       })
     where
+      moved : (k : ℕ) → k ≡ n
+          → InSpace size k × IsSearched search size contents k × (slice_index counts k ≡ 0)
+      moved k is = subst (λ (m : ℕ). InSpace size m × IsSearched search size contents m × (slice_index counts m ≡ 0))
+          (sym is) (inside, searched, uncounted)
+
       apart : AreApart (files ++ at.found)
       apart m =
           let sum : times m (map (λ (file : SavedFile). file.at) (files ++ at.found))
@@ -167,65 +153,75 @@ module _ (size layout : ℕ) (contents : Contents) (counts : List ℕ) (files : 
           at.found (λ file here is. other (sym is ∙ here)) at.here) in let one = found.apart m in omega arith)
           (cases_eq m n)
 
-      all : (file : SavedFile) → InSpace size file.at → file.at < n + 1 → IsRead size layout contents file
-          → MayBeUsed size contents file.at → slice_index counts file.at ≡ 0
-          → IsAmong (files ++ at.found) (place_in file) file.at
-      all file inside before is used none = ⊎_elim
-          (λ same. let there = at.all file same is in record {
-            file = there.file;
-            among = contains_right there.file files at.found there.among;
-            at_is = there.at_is ∙ sym same;
-            place_is = there.place_is;
-          })
-          (λ other. let there = found.all file inside (omega arith) is used none in record {
-            file = there.file;
-            among = contains_left there.file files at.found there.among;
-            at_is = there.at_is;
-            place_is = there.place_is;
-          }) (cases_eq file.at n)
+      here : (ppn : ℕ) (name : FileName) → IsPrimeAt layout contents n (place_of ppn name)
+          → IsAmong (files ++ at.found) (place_of ppn name) n
+          ⊎ IsLostBy (found.added ++ at.added) (cost.Unnamed ppn name n)
+      here ppn name says = either (among_behind files at.found (place_of ppn name) n)
+          (lost_behind found.added at.added (cost.Unnamed ppn name n)) (at.all ppn name says)
+
+      all : (prime ppn : ℕ) (name : FileName) → InSpace size prime → prime < n + 1
+          → IsSearched search size contents prime → slice_index counts prime ≡ 0
+          → IsPrimeAt layout contents prime (place_of ppn name)
+          → IsAmong (files ++ at.found) (place_of ppn name) prime
+          ⊎ IsLostBy (found.added ++ at.added) (cost.Unnamed ppn name prime)
+      all prime ppn name within before is none says = ⊎_elim
+          (λ same. subst (λ (k : ℕ). IsAmong (files ++ at.found) (place_of ppn name) k
+          ⊎ IsLostBy (found.added ++ at.added) (cost.Unnamed ppn name k)) (sym same)
+          (here ppn name (subst (λ (k : ℕ). IsPrimeAt layout contents k (place_of ppn name)) same says)))
+          (λ other. either (among_before files at.found (place_of ppn name) prime)
+          (lost_before found.added at.added (cost.Unnamed ppn name prime))
+          (found.all prime ppn name within (omega arith) is none says)) (cases_eq prime n)
 
 -- All blocks were checked.
-pub all_scanned : (size layout : ℕ) (contents : Contents) (counts : List ℕ) (named files : List SavedFile)
-    → CountTo counts (claims named) → AreFound size layout contents counts files size
-    → IsScanned size layout contents named files
-all_scanned size layout contents counts named files counted found = record {
+
+pub all_scanned : (size layout : ℕ) (contents : Contents) (search : Search) (counts : List ℕ)
+    (named files : List SavedFile) (findings told : List Finding) → CountTo counts (claims named)
+    → AreFound size layout contents search counts files findings told size
+    → IsScanned size layout contents search named files told
+all_scanned size layout contents search counts named files findings told counted found = record {
   read = found.read;
   apart = found.apart;
-  elsewhere = all_of (λ file. slice_index counts file.at ≡ 0) (λ file. claims named file.at ≡ 0) files
-      (λ file is. let e = counted file.at in omega arith) found.elsewhere;
-  used = found.used;
-  all = λ file inside is used none. found.all file inside inside.below is used
-      (let e = counted file.at in omega arith);
+  at = all_of (λ file. InSpace size file.at × IsSearched search size contents file.at
+      × (slice_index counts file.at ≡ 0)) (λ file. InSpace size file.at × IsSearched search size contents file.at
+      × (claims named file.at ≡ 0)) files (λ file is. (is.0, is.1, unclaimed file.at is.2)) found.at;
+  all = λ prime ppn name inside searched none says. either (λ among. among)
+      (λ lost. subst (λ (l : List Finding). IsLostBy l (cost.Unnamed ppn name prime)) (sym found.told_is)
+      (lost_behind findings found.added (cost.Unnamed ppn name prime) lost))
+      (found.all prime ppn name inside inside.below searched (uncounted prime none) says);
 }
+  where
+    unclaimed : (n : ℕ) → slice_index counts n ≡ 0 → claims named n ≡ 0
+    unclaimed n is = let e = counted n in omega arith
+
+    uncounted : (n : ℕ) → claims named n ≡ 0 → slice_index counts n ≡ 0
+    uncounted n is = let e = counted n in omega arith
+
+pub all_added : (size layout : ℕ) (contents : Contents) (search : Search) (counts : List ℕ)
+    (files : List SavedFile) (findings told : List Finding) (n : ℕ)
+    → AreFound size layout contents search counts files findings told n
+    → AreAdded size layout contents findings told
+all_added size layout contents search counts files findings told n found =
+    record { added = found.added; new_is = found.told_is; stand = found.stand }
 
 -- The same along a disk that was only read.
 
-pub found_along : (size size' layout : ℕ) (contents contents' : Contents) (counts : List ℕ) (table : Option TableState)
-    (files new : List SavedFile) (n : ℕ) → size' ≡ size → contents' ≡ contents
-    → (IsTableRead size' contents' table → AreFound size' layout contents' counts files n
-    → AreFound size' layout contents' counts new (n + 1))
-    → IsTableRead size contents table → AreFound size layout contents counts files n
-    → AreFound size layout contents counts new (n + 1)
-found_along size size' layout contents contents' counts table files new n same same' step = subst
-    (λ (d : Contents). IsTableRead size d table → AreFound size layout d counts files n
-    → AreFound size layout d counts new (n + 1)) same'
-    (subst (λ (z : ℕ). IsTableRead z contents' table → AreFound z layout contents' counts files n
-    → AreFound z layout contents' counts new (n + 1)) same step)
+pub found_along : (size size' layout : ℕ) (contents contents' : Contents) (search : Search) (free : List Bool)
+    (counts : List ℕ) (files new : List SavedFile) (findings told after : List Finding) (n : ℕ) → size' ≡ size
+    → contents' ≡ contents
+    → ((begun : List Finding) → AreFree size' contents' free
+    → AreFound size' layout contents' search counts files begun told n
+    → AreFound size' layout contents' search counts new begun after (n + 1))
+    → AreFree size contents free → AreFound size layout contents search counts files findings told n
+    → AreFound size layout contents search counts new findings after (n + 1)
+found_along size size' layout contents contents' search free counts files new findings told after n same same' step =
+    subst (λ (d : Contents). AreFree size d free → AreFound size layout d search counts files findings told n
+    → AreFound size layout d search counts new findings after (n + 1)) same'
+    (subst (λ (z : ℕ). AreFree z contents' free → AreFound z layout contents' search counts files findings told n
+    → AreFound z layout contents' search counts new findings after (n + 1)) same (step findings))
 
-pub found_end : (size layout : ℕ) (contents : Contents) (counts : List ℕ) (files : List SavedFile) (n : ℕ)
-    → n ≡ size → AreFound size layout contents counts files n → AreFound size layout contents counts files size
-found_end size layout contents counts files n same = subst (AreFound size layout contents counts files) same
-
-pub scanned_along : (size size' layout : ℕ) (contents contents' : Contents) (counts : List ℕ)
-    (named files : List SavedFile) → size' ≡ size → contents' ≡ contents
-    → CountTo counts (claims named) → AreFound size' layout contents' counts files size'
-    → IsScanned size layout contents named files
-scanned_along size size' layout contents contents' counts named files same same' counted found = all_scanned size
-    layout contents counts named files counted
-    (subst (λ (d : Contents). AreFound size layout d counts files size) same'
-    (subst (λ (z : ℕ). AreFound z layout contents' counts files z) same found))
-
-pub table_along : (size size' : ℕ) (contents contents' : Contents) (table : Option TableState) → size' ≡ size
-    → contents' ≡ contents → IsTableRead size contents table → IsTableRead size' contents' table
-table_along size size' contents contents' table same same' read = subst (λ (z : ℕ). IsTableRead z contents' table)
-    (sym same) (subst (λ (d : Contents). IsTableRead size d table) (sym same') read)
+pub found_end : (size layout : ℕ) (contents : Contents) (search : Search) (counts : List ℕ) (files : List SavedFile)
+    (findings told : List Finding) (n : ℕ) → n ≡ size
+    → AreFound size layout contents search counts files findings told n
+    → AreFound size layout contents search counts files findings told size
+found_end size layout contents search counts files findings told n same =
+    subst (AreFound size layout contents search counts files findings told) same

@@ -1,11 +1,8 @@
 -- What is in a list of files or findings.
-use Rattle.std.proofs.Common.{◌≡◌, ◌⊎◌, inl, inr, ⊎_elim, ℕ, zero, suc, ◌+◌, ◌<◌, List, [], ◌∷◌, ◌++◌, length}
-use Rattle.std.proofs.Common.{Contains, slice_index_or, map, refl, sym, ap, subst, ◌∙◌, arith, append-nil}
+use Rattle.std.proofs.Common.{◌≡◌, ◌⊎◌, inl, inr, ⊎_elim, ℕ, zero, suc, ◌<◌, List, [], ◌∷◌, ◌++◌, length}
+use Rattle.std.proofs.Common.{Contains, slice_index_or, map, refl, sym, ap, subst, arith, append-nil}
 use Rattle.std.specs.List.{AllByRecursion}
-use Rattle.spec_image.specs.Common.{times}
-use Rattle.spec_image.proofs.Common.{times-append}
 use Rattle.directory.proofs.GatheredEntries.{all_of}
-use Rattle.salvage.specs.Common.{AreApart}
 use Rattle.salvage.specs.declared.saved.SavedFile.{SavedFile}
 
 pub contains_here : {X : Type 0} (x : X) (xs : List X) → Contains (x ∷ xs) x
@@ -63,12 +60,3 @@ pub map_behind : (xs ys : List SavedFile) → map (λ (file : SavedFile). file.a
     ≡ map (λ (file : SavedFile). file.at) xs ++ map (λ (file : SavedFile). file.at) ys
 map_behind [] ys = refl
 map_behind (x ∷ xs) ys = ap (λ (ns : List ℕ). x.at ∷ ns) (map_behind xs ys)
-
-pub apart_left : (xs ys : List SavedFile) → AreApart (xs ++ ys) → AreApart xs
-apart_left xs ys apart m =
-    let all = apart m in
-    let sum : times m (map (λ (file : SavedFile). file.at) (xs ++ ys))
-    ≡ times m (map (λ (file : SavedFile). file.at) xs) + times m (map (λ (file : SavedFile). file.at) ys)
-    = ap (times m) (map_behind xs ys)
-    ∙ times-append m (map (λ (file : SavedFile). file.at) xs) (map (λ (file : SavedFile). file.at) ys) in
-    omega arith

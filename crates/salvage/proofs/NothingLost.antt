@@ -1,6 +1,6 @@
 -- If contents stand for files, no finding costs one of these, and what was saved is the file.
-use Rattle.std.proofs.Common.{◌≡◌, inl, inr, ⊎_elim, ℕ, zero, suc, ◌+◌, ◌<◌, ◌≤◌, List, [], ◌∷◌, ◌++◌, Some, refl}
-use Rattle.std.proofs.Common.{sym, ap, subst, ◌∙◌, arith, nat_cmp, option_map, Result, Ok, Err, IfOk}
+use Rattle.std.proofs.Common.{◌≡◌, ◌⊎◌, inl, inr, ⊎_elim, ℕ, zero, suc, ◌+◌, ◌<◌, ◌≤◌, List, [], ◌∷◌, ◌++◌, Some, refl}
+use Rattle.std.proofs.Common.{sym, ap, subst, ◌∙◌, arith, nat_cmp, option_map, Result, Ok, Err, IfOk, Contains}
 use Rattle.std.proofs.lemmas.Bool.{cases_eq}
 use Rattle.std.specs.Cmp.{nat_cmp_total}
 use Rattle.std.specs.FinMap.{nat_cmp-IsAntisymmetric}
@@ -10,7 +10,8 @@ use Rattle.blockdisk.specs.Common.{Contents}
 use Rattle.spec_image.specs.Common.{head_or_zero, Node, numbers, first_of, items, IsSpelled, master_words, file_words}
 use Rattle.spec_image.specs.Common.{IsBadRetrieval, File, Files, Directory, Place, name_cmp, SpecHome, IsHome}
 use Rattle.spec_image.specs.Common.{layout_number, FinMap, get, times, prime_of, IsRetrieved, HasBody, StoredFile}
-use Rattle.spec_image.specs.Common.{StoredDirectory, DiskMap, HasMap, SettledStands, directory_of, place_of, entry_of}
+use Rattle.spec_image.specs.Common.{StoredDirectory, DiskMap, HasMap, SettledStands, directory_of, files_of}
+use Rattle.spec_image.specs.Common.{place_of, entry_of}
 use Rattle.spec_image.specs.Common.{home_of, reaches, reaches_in_directory, reaches_in_file, LeadsAlong}
 use Rattle.spec_image.specs.Common.{IsDirectoryNamed, IsFileNamed}
 use Rattle.spec_image.proofs.Common.{head-numbers, once, directory_part, file_part, image, zero_free, IsMappedFile}
@@ -23,15 +24,22 @@ use Rattle.volume.specs.declared.error.VolumeError.{VolumeError}
 use Rattle.volume.specs.declared.error.VolumeError.TheVariants.{NotVolume, BadHome, BadLog, BadDirectory}
 use Rattle.volume.specs.declared.error.VolumeError.TheVariants.{BadRetrieval, BlockTwice, TableWrong, Device}
 use Rattle.volume.specs.declared.error.VolumeError.TheVariants.{NoMemory, Failed, BadData}
+use Rattle.directory.proofs.GatheredEntries.{all_of}
 use Rattle.salvage.specs.Common.{Concerns, IsFaultAt, IsFaultOf, IsFaultOfChain, IsFaultOfDirectory, IsFaultOfMaster}
-use Rattle.salvage.specs.Common.{IsFinding, AreApart, IsAmong, IsNamedRead, IsWholeFile, blocks_of, claims, place_in}
-use Rattle.salvage.specs.Common.{AreAllSaved, IsLostBy, IsNamedLoss, IsSavedAs, IsSurveyed}
+use Rattle.salvage.specs.Common.{AreApart, AreTheFiles, IsAmong, IsDamaged, IsDirectoryLoss, IsFileSaved, IsFinding}
+use Rattle.salvage.specs.Common.{IsInPlace, IsLostBy, IsNamedRead, IsSavedAs, IsStartFault, IsSurveyed, IsTold}
+use Rattle.salvage.specs.Common.{IsWholeFile, blocks_of, claims, place_in}
+use Rattle.salvage.specs.Findings.{HasBlock}
 use Rattle.salvage.specs.declared.saved.SavedFile.{SavedFile}
+use Rattle.salvage.specs.declared.search.Search.{Search}
 use Rattle.salvage.specs.declared.survey.Survey.{Survey}
 use Rattle.salvage.specs.declared.finding.Cost.{Cost}
+use Rattle.salvage.specs.declared.finding.Defect.{Defect}
+use Rattle.salvage.specs.declared.finding.Defect.TheVariants.{Start, FreeBlock}
 use Rattle.salvage.specs.declared.finding.Finding.{Finding}
 use Rattle.salvage.proofs.CarriedFacts.{element_has}
 use Rattle.salvage.proofs.SavedFiles.{blocks_at}
+use Rattle.salvage.proofs.StandingChains.{no_chain_block, no_free_block}
 use Rattle.spec_image.specs.Faults as faults
 use Rattle.salvage.specs.declared.finding.Cost.TheVariants as cost
 
@@ -197,28 +205,51 @@ module _ (size : ℕ) (contents : Contents) (m : DiskMap) (s : HasMap size conte
 
   -- There is no finding that costs a named file.
 
-  no_file_fault : (layout : ℕ) (place : Place) (fault : VolumeError) → IsFaultOf size layout contents place fault → ⊥
+  -- what is at the prime block of a named file is the map's file, with this block
+  block_reached : (layout : ℕ) (place : Place) (prime n : ℕ)
+      (is : IsMappedFile size contents m layout place prime) → HasBlock layout contents place prime n
+      → 0 < reaches_in_file n is.file
+  block_reached layout place prime n is has =
+      let own : IsRetrieved layout contents (prime_of place is.file.file) prime is.file.extensions is.file.blocks =
+      subst (λ (l : ℕ). IsRetrieved l contents (prime_of place is.file.file) prime is.file.extensions is.file.blocks)
+      (sym is.layout_is)
+      (subst (λ (k : ℕ).
+      IsRetrieved m.layout contents (prime_of place is.file.file) k is.file.extensions is.file.blocks)
+      is.prime_is is.version.retrieved) in
+      let same = retrieved_same layout contents has.p (prime_of place is.file.file) prime has.extensions
+      is.file.extensions has.blocks is.file.blocks has.retrieved own (ap (λ (p : Place). p.name.ext) has.place_is) in
+      subst (λ (k : ℕ). 0 < times n (k ∷ (is.file.extensions ++ is.file.blocks))) (sym is.prime_is)
+      (subst (λ (l : List ℕ). 0 < times n (prime ∷ (is.file.extensions ++ l))) same.2
+      (subst (λ (l : List ℕ). 0 < times n (prime ∷ (l ++ has.blocks))) same.1 has.among))
+
+  no_file_fault : (layout : ℕ) (place : Place) (fault : Defect) → IsFaultOf size layout contents place fault → ⊥
   no_file_fault layout place fault met = by fault met.concerns
     where
-      by : (e : VolumeError) → Concerns size layout contents place met.prime e → ⊥
-      by NotVolume is = is
-      by BadHome is = is
-      by BadLog is = is
-      by (BadDirectory n) is = is
-      by (BadRetrieval n) is = no_fault size contents m s (faults.StartFault.BadRetrieval n) (
+      there : IsMappedFile size contents m layout place met.prime
+      there = file_named size contents m s layout place met.prime met.named
+
+      by : (e : Defect) → Concerns size layout contents place met.prime e → ⊥
+      by (Start NotVolume) is = is
+      by (Start BadHome) is = is
+      by (Start BadLog) is = is
+      by (Start (BadDirectory n)) is = is
+      by (Start (BadRetrieval n)) is = no_fault size contents m s (faults.StartFault.BadRetrieval n) (
         is.0,
         ⊎_elim (λ bad. IsBadRetrieval.of_version layout place met.prime met.named bad)
             (λ other. IsBadRetrieval.of_another_place layout place
             (subst (λ (p : ℕ). IsFileNamed size contents layout place p) (sym other.0) met.named)
             (subst (λ (p : ℕ). IsOtherPlace layout contents place p) (sym other.0) other.1)) is.1,
       )
-      by (BlockTwice n) is = let two = is.1.twice in
-          let few = claimed_once layout is.1.files is.1.named is.1.apart n in omega arith
-      by (TableWrong n) is = is
-      by Device is = is
-      by NoMemory is = is
-      by Failed is = is
-      by (BadData n) is = no_fault size contents m s (faults.StartFault.BadData n) (
+      by (Start (BlockTwice n)) is = ⊎_elim
+          (λ files. let two = files.twice in
+          let few = claimed_once layout files.files files.named files.apart n in omega arith)
+          (λ chain. no_chain_block size contents m s layout place.ppn there.directory place.name there.file n
+          there.directory_is there.file_is (block_reached layout place met.prime n there is.0) chain) is.1
+      by (Start (TableWrong n)) is = is
+      by (Start Device) is = is
+      by (Start NoMemory) is = is
+      by (Start Failed) is = is
+      by (Start (BadData n)) is = no_fault size contents m s (faults.StartFault.BadData n) (
         is.0,
         record {
           layout = layout;
@@ -234,6 +265,10 @@ module _ (size : ℕ) (contents : Contents) (m : DiskMap) (s : HasMap size conte
           damaged = is.1.damaged;
         },
       )
+      by (FreeBlock n) is =
+          let some = block_reached layout place met.prime n there is.0 in
+          no_free_block size contents m s place.ppn there.directory place.name there.file n there.directory_is
+          there.file_is some (there.inside n some).below is.1
 
   no_directory_fault : (layout ppn : ℕ) (fault : VolumeError) → IsFaultOfDirectory size layout contents ppn fault → ⊥
   no_directory_fault layout ppn fault met = by fault met.concerns
@@ -313,80 +348,158 @@ module _ (size : ℕ) (contents : Contents) (m : DiskMap) (s : HasMap size conte
   no_master_fault layout Failed is = is
   no_master_fault layout (BadData n) is = is
 
-  no_loss : (layout : ℕ) (findings : List Finding) (ppn : ℕ) (name : FileName)
-      → AllByRecursion (IsFinding size layout contents) findings → IsNamedLoss findings ppn name → ⊥
-  no_loss layout findings ppn name stand loss = ⊎_elim
-      (λ lost. no_file_fault layout (place_of ppn name) lost.fault (at (cost.File ppn name) lost))
-      (λ rest. ⊎_elim (λ lost. no_directory_fault layout ppn lost.fault (at (cost.Directory ppn) lost))
-      (λ lost. no_master_fault layout lost.fault (at cost.Directories lost)) rest) loss
-    where
-      at : (costs : Cost) (lost : IsLostBy findings costs) → IsFaultAt size layout contents lost.fault costs
-      at costs lost = element_has (IsFinding size layout contents) findings
-          (record { fault = lost.fault; costs = costs }) stand lost.among
+  no_start_fault : (P : VolumeError → Type 0) → ((e : VolumeError) → P e → ⊥) → (fault : Defect)
+      → IsStartFault P fault → ⊥
+  no_start_fault P none (Start e) is = none e is
+  no_start_fault P none (FreeBlock n) is = is
 
-  -- The files of the map are saved.
-  file_saved : (layout : ℕ) (saved : List SavedFile) (findings : List Finding)
-      → IsSurveyed size layout contents saved findings → m.layout ≡ layout
-      → (ppn : ℕ) (d : StoredDirectory) (name : FileName) (f : StoredFile) → get m.directories ppn ≡ Some d
-      → get d.files name ≡ Some f → IsSavedAs contents saved (place_of ppn name) f.file
-  file_saved layout saved findings survey same ppn d name f at has =
-      ⊎_elim found (λ loss. absurd (no_loss layout findings ppn name survey.stand loss))
-      (survey.named ppn name f.prime named)
-    where
-      place : Place
-      place = place_of ppn name
+  finding_at : (layout : ℕ) (findings : List Finding) (costs : Cost)
+      → AllByRecursion (IsFinding size layout contents) findings → (lost : IsLostBy findings costs)
+      → IsFaultAt size layout contents lost.fault costs
+  finding_at layout findings costs stand lost = element_has (IsFinding size layout contents) findings
+      (record { fault = lost.fault; costs = costs }) stand lost.among
 
-      named : IsFileNamed size contents layout place f.prime
-      named = subst (λ (l : ℕ). IsFileNamed size contents l place f.prime) same (file_there ppn d name f at has)
+  no_told : (layout : ℕ) (findings : List Finding) (ppn : ℕ) (name : FileName)
+      → AllByRecursion (IsFinding size layout contents) findings → IsLostBy findings (cost.File ppn name) → ⊥
+  no_told layout findings ppn name stand lost = no_file_fault layout (place_of ppn name) lost.fault
+      (finding_at layout findings (cost.File ppn name) stand lost)
 
-      version : IsRetrieved layout contents (prime_of place f.file) f.prime f.extensions f.blocks
-      version = subst (λ (l : ℕ). IsRetrieved l contents (prime_of place f.file) f.prime f.extensions f.blocks) same
-          ((s.mapped.directories ppn d at).files name f has).retrieved
+  no_directory_loss : (layout : ℕ) (findings : List Finding) (ppn : ℕ)
+      → AllByRecursion (IsFinding size layout contents) findings → IsDirectoryLoss findings ppn → ⊥
+  no_directory_loss layout findings ppn stand loss = ⊎_elim
+      (λ lost. no_start_fault (IsFaultOfDirectory size layout contents ppn) (no_directory_fault layout ppn) lost.fault
+      (finding_at layout findings (cost.Directory ppn) stand lost))
+      (λ lost. no_start_fault (IsFaultOfMaster size layout contents) (no_master_fault layout) lost.fault
+      (finding_at layout findings cost.Directories stand lost)) loss
 
-      found : IsAmong saved place f.prime → IsSavedAs contents saved place f.file
-      found is =
-          let whole = element_has (IsWholeFile size layout contents) saved is.file survey.whole is.among in
-          let stored = is.file.stored in
-          let own : IsRetrieved layout contents (with_length stored.prime stored.version.words) f.prime
-          stored.version.ribs stored.version.blocks = subst (λ (n : ℕ). IsRetrieved layout contents
-          (with_length stored.prime stored.version.words) n stored.version.ribs stored.version.blocks) is.at_is
-          whole.read.retrieved in
-          let equal = retrieved_same layout contents (prime_of place f.file)
-          (with_length stored.prime stored.version.words) f.prime f.extensions stored.version.ribs f.blocks
-          stored.version.blocks version own (ap (λ (p : Place). p.name.ext) (sym is.place_is)) in
-          record {
-            saved = is.file;
-            among = is.among;
-            facts = equal.0;
-            body = subst (λ (ns : List ℕ). HasBody contents ns f.file.body) equal.2
-                ((s.mapped.directories ppn d at).files name f has).body;
-          }
+  -- A survey of these contents.
+  module _ (layout : ℕ) (search : Search) (saved doubtful unnamed : List SavedFile) (findings : List Finding)
+      (survey : IsSurveyed size layout contents search saved doubtful unnamed findings) where
+    -- each named file is in its place
+    placed : (ppn : ℕ) (name : FileName) (prime : ℕ) → IsFileNamed size contents layout (place_of ppn name) prime
+        → IsAmong saved (place_of ppn name) prime
+    placed ppn name prime named = ⊎_elim found
+        (λ lost. absurd (⊎_elim
+        (λ unread. no_told layout findings ppn name survey.stand (record {
+          fault = Start (BadRetrieval unread.block);
+          among = unread.among;
+        }))
+        (no_directory_loss layout findings ppn survey.stand) lost))
+        (survey.read_all ppn name prime named)
+      where
+        found : IsAmong survey.read (place_of ppn name) prime → IsAmong saved (place_of ppn name) prime
+        found is = ⊎_elim
+            (λ there. record { file = is.file; among = there; at_is = is.at_is; place_is = is.place_is })
+            (λ other. absurd (no_told layout findings is.file.stored.prime.ppn is.file.stored.prime.file survey.stand
+            other.1))
+            (element_has
+            (λ file. Contains saved file ⊎ ((Contains doubtful file ⊎ IsDamaged contents file) × IsTold findings file))
+            survey.read is.file survey.judged is.among)
 
--- Each file of contents that stand is saved.
-pub all_saved : (size layout : ℕ) (contents : Contents) (files : Files File) (saved : List SavedFile)
-    (findings : List Finding) → IsSurveyed size layout contents saved findings
+    -- The files of the map are saved.
+    file_saved : m.layout ≡ layout
+        → (ppn : ℕ) (d : StoredDirectory) (name : FileName) (f : StoredFile) → get m.directories ppn ≡ Some d
+        → get d.files name ≡ Some f → IsSavedAs contents saved (place_of ppn name) f.file
+    file_saved same ppn d name f at has = found (placed ppn name f.prime named)
+      where
+        place : Place
+        place = place_of ppn name
+
+        named : IsFileNamed size contents layout place f.prime
+        named = subst (λ (l : ℕ). IsFileNamed size contents l place f.prime) same (file_there ppn d name f at has)
+
+        version : IsRetrieved layout contents (prime_of place f.file) f.prime f.extensions f.blocks
+        version = subst (λ (l : ℕ). IsRetrieved l contents (prime_of place f.file) f.prime f.extensions f.blocks) same
+            ((s.mapped.directories ppn d at).files name f has).retrieved
+
+        found : IsAmong saved place f.prime → IsSavedAs contents saved place f.file
+        found is =
+            let read = (element_has (IsInPlace size layout contents survey.read) saved is.file survey.placed
+            is.among).named.read in
+            let stored = is.file.stored in
+            let own : IsRetrieved layout contents (with_length stored.prime stored.version.words) f.prime
+            stored.version.ribs stored.version.blocks = subst (λ (n : ℕ). IsRetrieved layout contents
+            (with_length stored.prime stored.version.words) n stored.version.ribs stored.version.blocks) is.at_is
+            read.retrieved in
+            let equal = retrieved_same layout contents (prime_of place f.file)
+            (with_length stored.prime stored.version.words) f.prime f.extensions stored.version.ribs f.blocks
+            stored.version.blocks version own (ap (λ (p : Place). p.name.ext) (sym is.place_is)) in
+            record {
+              saved = is.file;
+              among = is.among;
+              facts = equal.0;
+              body = subst (λ (ns : List ℕ). HasBody contents ns f.file.body) equal.2
+                  ((s.mapped.directories ppn d at).files name f has).body;
+            }
+
+    -- What is in its place is a file of the map.
+    saved_stored : (files : Files File) → files_of m ≡ files → (file : SavedFile)
+        → IsInPlace size layout contents survey.read file → IsFileSaved contents files file
+    saved_stored files are file is =
+        let read = read_is_mapped layout file is.named in
+        let d = read.mapped.directory in
+        let f = read.mapped.file in
+        record {
+          directory = directory_of d;
+          directory_is = ap (λ (z : Files File). get z file.stored.prime.ppn) (sym are)
+              ∙ get-map_values nat_cmp_total directory_of m.directories file.stored.prime.ppn
+              ∙ ap (option_map directory_of) read.mapped.directory_is;
+          file = f.file;
+          file_is = get-map_values name_total (λ (x : StoredFile). x.file) d.files file.stored.prime.file
+              ∙ ap (option_map (λ (x : StoredFile). x.file)) read.mapped.file_is;
+          facts = sym read.facts;
+          body = subst (λ (ns : List ℕ). HasBody contents ns f.file.body) (sym read.blocks) read.mapped.version.body;
+        }
+
+    -- Nothing is doubtful.
+    none_doubtful : doubtful ≡ []
+    none_doubtful = by doubtful survey.doubted
+      where
+        by : (l : List SavedFile) → AllByRecursion (λ file. Contains survey.read file
+            × IsWholeFile size layout contents file × IsTold findings file) l → l ≡ []
+        by [] all = refl
+        by (x ∷ xs) all = absurd (no_told layout findings x.stored.prime.ppn x.stored.prime.file survey.stand all.0.2)
+
+-- The files of contents that stand are saved, each in its place, and no others.
+pub all_saved : (size layout : ℕ) (contents : Contents) (files : Files File) (search : Search)
+    (saved doubtful unnamed : List SavedFile)
+    (findings : List Finding) → IsSurveyed size layout contents search saved doubtful unnamed findings
     → ((home : SpecHome) → IsHome size contents home → layout ≡ home.layout)
-    → SettledStands size contents files → AreAllSaved contents saved files
-all_saved size layout contents files saved findings survey layout_is stands ppn directory name file at has =
-    let m = stands.0 in
-    let s = stands.1 in
-    let d = image directory_of (get m.directories ppn) directory
-    (sym (get-map_values nat_cmp_total directory_of m.directories ppn)
-    ∙ ap (λ (z : Files File). get z ppn) stands.2 ∙ at) in
-    let f = image (λ (x : StoredFile). x.file) (get d.0.files name) file
-    (sym (get-map_values name_total (λ (x : StoredFile). x.file) d.0.files name)
-    ∙ ap (λ (z : Directory File). get z.files name) d.2 ∙ has) in
-    subst (λ (x : File). IsSavedAs contents saved (place_of ppn name) x) f.2
-    (file_saved size contents m s layout saved findings survey (sym (layout_is (home_of m) s.mapped.home)) ppn d.0 name
-    f.0 d.1 f.1)
+    → SettledStands size contents files → AreTheFiles contents saved files × (doubtful ≡ [])
+all_saved size layout contents files search saved doubtful unnamed findings survey layout_is stands = (
+  record {
+    all = λ ppn directory name file at has.
+        let d = image directory_of (get m.directories ppn) directory
+        (sym (get-map_values nat_cmp_total directory_of m.directories ppn)
+        ∙ ap (λ (z : Files File). get z ppn) stands.2 ∙ at) in
+        let f = image (λ (x : StoredFile). x.file) (get d.0.files name) file
+        (sym (get-map_values name_total (λ (x : StoredFile). x.file) d.0.files name)
+        ∙ ap (λ (z : Directory File). get z.files name) d.2 ∙ has) in
+        subst (λ (x : File). IsSavedAs contents saved (place_of ppn name) x) f.2
+        (file_saved size contents m s layout search saved doubtful unnamed findings survey
+        (sym (layout_is (home_of m) s.mapped.home)) ppn d.0 name f.0 d.1 f.1);
+    only = all_of (IsInPlace size layout contents survey.read) (IsFileSaved contents files) saved
+        (saved_stored size contents m s layout search saved doubtful unnamed findings survey files stands.2)
+        survey.placed;
+  },
+  none_doubtful size contents m s layout search saved doubtful unnamed findings survey,
+)
+  where
+    m : DiskMap
+    m = stands.0
 
-pub all_saved_on : {E : Type 0} (size : ℕ) (contents : Contents) (files : Files File) (result : Result Survey E)
-    → IfOk result (λ (survey : Survey). IsSurveyed size (layout_number survey.layout) contents survey.files.items
-    survey.findings.items)
+    s : HasMap size contents m
+    s = stands.1
+
+pub all_saved_on : {E : Type 0} (size : ℕ) (contents : Contents) (files : Files File) (search : Search)
+    (result : Result Survey E)
+    → IfOk result (λ (survey : Survey). IsSurveyed size (layout_number survey.layout) contents search
+    survey.files.items survey.doubtful.items survey.unnamed.items survey.findings.items)
     → ((home : SpecHome) → IsHome size contents home
     → IfOk result (λ (survey : Survey). layout_number survey.layout ≡ home.layout))
     → SettledStands size contents files
-    → IfOk result (λ (survey : Survey). AreAllSaved contents survey.files.items files)
-all_saved_on size contents files (Ok survey) surveyed layout stands = all_saved size (layout_number survey.layout)
-    contents files survey.files.items survey.findings.items surveyed layout stands
-all_saved_on size contents files (Err e) surveyed layout stands = tt
+    → IfOk result (λ (survey : Survey). AreTheFiles contents survey.files.items files × (survey.doubtful.items ≡ []))
+all_saved_on size contents files search (Ok survey) surveyed layout stands = all_saved size
+    (layout_number survey.layout) contents files search survey.files.items survey.doubtful.items survey.unnamed.items
+    survey.findings.items surveyed layout stands
+all_saved_on size contents files search (Err e) surveyed layout stands = tt

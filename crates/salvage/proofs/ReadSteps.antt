@@ -1,6 +1,6 @@
 -- One more file or directory was read, or reported.
-use Rattle.std.proofs.Common.{◌≡◌, inl, inr, ⊎_elim, ℕ, true, false, cond, List, [], ◌∷◌, ◌++◌, Some, None, refl, sym}
-use Rattle.std.proofs.Common.{ap, subst, ◌∙◌, nat_cmp, Ordering, Result, OnOk}
+use Rattle.std.proofs.Common.{◌≡◌, ◌⊎◌, inl, inr, ⊎_elim, ℕ, true, false, cond, List, [], ◌∷◌, ◌++◌, Some, None}
+use Rattle.std.proofs.Common.{refl, sym, ap, subst, ◌∙◌, nat_cmp, Ordering, Result, OnOk}
 use Rattle.std.proofs.lemmas.List.Elements.{Contains-push}
 use Rattle.std.specs.Cmp.{IsTotalOrder, nat_cmp_total}
 use Rattle.std.specs.FinMap.Entries.{find}
@@ -12,14 +12,17 @@ use Rattle.spec_image.specs.Common.{Node, items, SpecMasterEntry, SpecFileEntry,
 use Rattle.spec_image.specs.Common.{place_of, LeadsAlong, IsFileNamed}
 use Rattle.spec_image.proofs.Common.{some_none, find_first, found_holds, name_total, name_exact, none_front}
 use Rattle.volume.specs.declared.error.VolumeError.{VolumeError}
+use Rattle.volume.specs.declared.error.VolumeError.TheVariants.{BadRetrieval}
 use Rattle.volume.proofs.common.Lookups.{all_both, all_each, all_push}
 use Rattle.salvage.specs.Common.{IsFaultAt, IsFinding, IsIn, IsNamedIn, IsNoFault, IsReadTo, IsToldDirectory}
 use Rattle.salvage.specs.Common.{IsToldFile, MayRefuse, IsNamedRead, IsRead, place_in}
 use Rattle.salvage.specs.declared.saved.SavedFile.{SavedFile}
+use Rattle.salvage.specs.declared.finding.Defect.TheVariants.{Start}
 use Rattle.salvage.specs.declared.finding.Finding.{Finding}
 use Rattle.salvage.proofs.CarriedFacts.{on_ok, on_ok_both}
 use Rattle.salvage.proofs.Refusals.{fault_stands}
 use Rattle.salvage.proofs.SavedFiles.{Grows, same_place, apart_push, one_file_more, one_finding_more, lost_here}
+use Rattle.salvage.proofs.SavedFiles.{unread_here}
 use Rattle.salvage.specs.declared.finding.Cost.TheVariants as cost
 
 -- Keys.
@@ -40,7 +43,7 @@ module _ (files : List SavedFile) (findings : List Finding) (files' : List Saved
     (more : Grows files findings files' findings') where
   told_carried : (ppn : ℕ) (e : SpecFileEntry) → IsToldFile files findings ppn e → IsToldFile files' findings' ppn e
   told_carried ppn e told = ⊎_elim (λ is. inl (more.among (place_of ppn e.0) e.1 is))
-      (λ lost. inr (more.lost (cost.File ppn e.0) lost)) told
+      (λ lost. inr (more.unread ppn e.0 lost)) told
 
   directory_carried : (contents : Contents) (e : SpecMasterEntry) → IsToldDirectory contents files findings e
       → IsToldDirectory contents files' findings' e
@@ -100,11 +103,11 @@ module _ (size layout : ℕ) (contents : Contents) (directories : List SpecMaste
           (λ here. here.1 (ap (λ (k : FileName). find name_cmp k names) names_are ∙ new_name)) is
 
   -- or what is wrong with it was reported
-  pub file_told : (fault : VolumeError) → IsFaultAt size layout contents fault (cost.File ppn e.0)
+  pub file_told : (n : ℕ) → IsFaultAt size layout contents (Start (BadRetrieval n)) (cost.File ppn e.0)
       → IsReadTo size layout contents directories ppn (names ++ e ∷ []) files
-      (findings ++ record { fault = fault; costs = cost.File ppn e.0 } ∷ [])
-  file_told fault stands =
-      let finding : Finding = record { fault = fault; costs = cost.File ppn e.0 } in
+      (findings ++ record { fault = Start (BadRetrieval n); costs = cost.File ppn e.0 } ∷ [])
+  file_told n stands =
+      let finding : Finding = record { fault = Start (BadRetrieval n); costs = cost.File ppn e.0 } in
       let more = one_finding_more files findings finding in
       record {
         read = r.read;
@@ -117,7 +120,7 @@ module _ (size layout : ℕ) (contents : Contents) (directories : List SpecMaste
         told_names = all_push (IsToldFile files (findings ++ finding ∷ []) ppn) names e
             (all_each (IsToldFile files findings ppn) (IsToldFile files (findings ++ finding ∷ []) ppn) names
             (told_carried files findings files (findings ++ finding ∷ []) more ppn) r.told_names)
-            (inr (lost_here findings fault (cost.File ppn e.0)));
+            (inr (unread_here findings n ppn e.0));
       }
 
 -- A file, with what pushing it returns.
@@ -148,15 +151,20 @@ pub file_told_on : {T E : Type 0} (size layout : ℕ) (contents : Contents) (dir
     (names : List SpecFileEntry) (files : List SavedFile) (findings findings' : List Finding) (e : SpecFileEntry)
     (fault : VolumeError) (result : Result T E) → IsReadTo size layout contents directories ppn names files findings
     → MayRefuse size layout contents (cost.File ppn e.0) fault
-    → OnOk result (findings' ≡ findings ++ record { fault = fault; costs = cost.File ppn e.0 } ∷ [])
+    → IsNoFault fault ⊎ ((n : ℕ) × (fault ≡ BadRetrieval n))
+    → OnOk result (findings' ≡ findings ++ record { fault = Start fault; costs = cost.File ppn e.0 } ∷ [])
     → OnOk result (IsNoFault fault → ⊥)
     → OnOk result (IsReadTo size layout contents directories ppn (names ++ e ∷ []) files findings')
-file_told_on size layout contents directories ppn names files findings findings' e fault result r refused told stands =
-    on_ok_both result
+file_told_on size layout contents directories ppn names files findings findings' e fault result r refused unread told
+    stands = on_ok_both result
     (λ pushed is. subst
     (λ (fs : List Finding). IsReadTo size layout contents directories ppn (names ++ e ∷ []) files fs) (sym pushed)
-    (file_told size layout contents directories ppn names files findings r e fault
-    (fault_stands size layout contents (cost.File ppn e.0) fault refused is))) told stands
+    (⊎_elim (λ none. absurd (is none))
+    (λ met. subst (λ (x : VolumeError). IsReadTo size layout contents directories ppn (names ++ e ∷ []) files
+    (findings ++ record { fault = Start x; costs = cost.File ppn e.0 } ∷ [])) (sym met.1)
+    (file_told size layout contents directories ppn names files findings r e met.0
+    (subst (λ (x : VolumeError). IsFaultAt size layout contents (Start x) (cost.File ppn e.0)) met.1
+    (fault_stands size layout contents (cost.File ppn e.0) fault refused is)))) unread)) told stands
 
 -- A directory.
 
@@ -205,11 +213,11 @@ module _ (size layout : ℕ) (contents : Contents) (directories : List SpecMaste
 
     -- or its chain can't be read
     pub directory_told : (fault : VolumeError) → IsReadTo size layout contents directories 0 [] files findings
-        → IsFaultAt size layout contents fault (cost.Directory e.0)
+        → IsFaultAt size layout contents (Start fault) (cost.Directory e.0)
         → IsReadTo size layout contents (directories ++ e ∷ []) 0 [] files
-        (findings ++ record { fault = fault; costs = cost.Directory e.0 } ∷ [])
+        (findings ++ record { fault = Start fault; costs = cost.Directory e.0 } ∷ [])
     directory_told fault r stands =
-        let finding : Finding = record { fault = fault; costs = cost.Directory e.0 } in
+        let finding : Finding = record { fault = Start fault; costs = cost.Directory e.0 } in
         let more = one_finding_more files findings finding in
         let begun = directory_begun e.0 0 r in
         record {
@@ -222,7 +230,7 @@ module _ (size layout : ℕ) (contents : Contents) (directories : List SpecMaste
               (all_each (IsToldDirectory contents files findings)
               (IsToldDirectory contents files (findings ++ finding ∷ [])) directories
               (directory_carried files findings files (findings ++ finding ∷ []) more contents) r.told)
-              (λ nodes last walk name prime found. inr (lost_here findings fault (cost.Directory e.0)));
+              (λ nodes last walk name prime found. inr (lost_here findings (Start fault) (cost.Directory e.0)));
           told_names = tt;
         }
 
@@ -230,7 +238,7 @@ pub directory_told_on : {T E : Type 0} (size layout : ℕ) (contents : Contents)
     (files : List SavedFile) (findings findings' : List Finding) (e : SpecMasterEntry) (fault : VolumeError)
     (result : Result T E) → IsReadTo size layout contents directories 0 [] files findings
     → MayRefuse size layout contents (cost.Directory e.0) fault
-    → OnOk result (findings' ≡ findings ++ record { fault = fault; costs = cost.Directory e.0 } ∷ [])
+    → OnOk result (findings' ≡ findings ++ record { fault = Start fault; costs = cost.Directory e.0 } ∷ [])
     → OnOk result (IsNoFault fault → ⊥)
     → OnOk result (IsReadTo size layout contents (directories ++ e ∷ []) 0 [] files findings')
 directory_told_on size layout contents directories files findings findings' e fault result r refused told stands =

@@ -4,7 +4,7 @@ use Rattle.std.proofs.Common.{ap, subst, ◌∙◌, arith, nat_cmp, zero, suc, f
 use Rattle.blockdisk.specs.Common.{Contents}
 use Rattle.spec_image.specs.Common.{master_words, file_words, IsFileEntry, InSpace, IsBadVersion, IsMasterEntryOf}
 use Rattle.spec_image.specs.Common.{name_cmp, IsHome, layout_number, IsVolumeSize, place_of, IsDirectoryNamed}
-use Rattle.spec_image.specs.Common.{IsFileNamed}
+use Rattle.spec_image.specs.Common.{IsBadHome, IsFileNamed, IsNotVolume}
 use Rattle.spec_image.specs.declared.layout.Layout.{Layout}
 use Rattle.words36.specs.declared.names.FileName.{FileName}
 use Rattle.alloctab.specs.Common.{digit_at}
@@ -19,12 +19,14 @@ use Rattle.volume.proofs.VolumeStart.FileFaults.{refusal}
 use Rattle.volume.proofs.VolumeStart.Quotas.{chain_carries}
 use Rattle.salvage.specs.Common.{IsFaultAt, IsChainRefusal, IsNoFault, MayRefuse}
 use Rattle.salvage.specs.declared.finding.Cost.{Cost}
+use Rattle.salvage.specs.declared.finding.Defect.TheVariants.{Start}
 use Rattle.directory.specs.declared.error.DirectoryError.TheVariants as directory
 use Rattle.salvage.specs.declared.finding.Cost.TheVariants as cost
 
 -- A fault that isn't want of memory or of the device is there.
 pub fault_stands : (size layout : ℕ) (contents : Contents) (costs : Cost) (error : VolumeError)
-    → MayRefuse size layout contents costs error → (IsNoFault error → ⊥) → IsFaultAt size layout contents error costs
+    → MayRefuse size layout contents costs error → (IsNoFault error → ⊥)
+    → IsFaultAt size layout contents (Start error) costs
 fault_stands size layout contents costs error refused fault = ⊎_elim (λ none. absurd (fault none)) (λ stands. stands)
     refused
 
@@ -59,6 +61,24 @@ file_refused size layout contents ppn name prime result error is inside named on
     by Failed met = absurd (refusal IsVersionRefusal result Failed met only)
     by (BadData n) met = absurd (refusal IsVersionRefusal result (BadData n) met only)
 
+-- a retrieval block is bad, unless the device or memory failed
+pub file_unread : {T : Type 0} (result : Result T VolumeError) (error : VolumeError) → result ≡ Err error
+    → IfErr result IsVersionRefusal → IsNoFault error ⊎ ((n : ℕ) × (error ≡ BadRetrieval n))
+file_unread result error is only = by error is
+  where
+    by : (e : VolumeError) → result ≡ Err e → IsNoFault e ⊎ ((n : ℕ) × (e ≡ BadRetrieval n))
+    by NotVolume met = absurd (refusal IsVersionRefusal result NotVolume met only)
+    by BadHome met = absurd (refusal IsVersionRefusal result BadHome met only)
+    by BadLog met = absurd (refusal IsVersionRefusal result BadLog met only)
+    by (BadDirectory n) met = absurd (refusal IsVersionRefusal result (BadDirectory n) met only)
+    by (BadRetrieval n) met = inr (n, refl)
+    by (BlockTwice n) met = absurd (refusal IsVersionRefusal result (BlockTwice n) met only)
+    by (TableWrong n) met = absurd (refusal IsVersionRefusal result (TableWrong n) met only)
+    by Device met = inl (inl refl)
+    by NoMemory met = inl (inr refl)
+    by Failed met = absurd (refusal IsVersionRefusal result Failed met only)
+    by (BadData n) met = absurd (refusal IsVersionRefusal result (BadData n) met only)
+
 -- Chains.
 
 pub directory_refused : {T : Type 0} (size layout : ℕ) (contents : Contents) (ppn word first : ℕ)
@@ -73,14 +93,14 @@ directory_refused size layout contents ppn word first result error is named only
     ⊎_elim (λ none. inl none)
     (λ some. inr (⊎_elim
     (λ (met : (n : ℕ) × (error ≡ BadDirectory n)).
-    subst (λ (e : VolumeError). IsFaultAt size layout contents e (cost.Directory ppn)) (sym met.1) (record {
+    subst (λ (e : VolumeError). IsFaultAt size layout contents (Start e) (cost.Directory ppn)) (sym met.1) (record {
       word = word;
       first = first;
       named = named;
       concerns = bad met.0 (is ∙ ap Err met.1);
     }))
     (λ (met : (n : ℕ) × (error ≡ BlockTwice n)).
-    subst (λ (e : VolumeError). IsFaultAt size layout contents e (cost.Directory ppn)) (sym met.1) (record {
+    subst (λ (e : VolumeError). IsFaultAt size layout contents (Start e) (cost.Directory ppn)) (sym met.1) (record {
       word = word;
       first = first;
       named = named;
@@ -101,7 +121,7 @@ master_refused size layout contents first result error is volume home only bad t
     (λ some. inr (⊎_elim
     (λ (met : (n : ℕ) × (error ≡ BadDirectory n)).
     let chain = chain_carries layout size contents first met.0 (bad met.0 (is ∙ ap Err met.1)) in
-    subst (λ (e : VolumeError). IsFaultAt size (layout_number layout) contents e cost.Directories) (sym met.1) (
+    subst (λ (e : VolumeError). IsFaultAt size (layout_number layout) contents (Start e) cost.Directories) (sym met.1) (
       where_bad met.0 (inl (is ∙ ap Err met.1)),
       record {
         layout = layout_number layout;
@@ -112,13 +132,31 @@ master_refused size layout contents first result error is volume home only bad t
       },
     ))
     (λ (met : (n : ℕ) × (error ≡ BlockTwice n)).
-    subst (λ (e : VolumeError). IsFaultAt size (layout_number layout) contents e cost.Directories) (sym met.1) (record {
+    subst (λ (e : VolumeError). IsFaultAt size (layout_number layout) contents (Start e) cost.Directories)
+    (sym met.1) (record {
       first = first;
       home = home;
       inside = where_bad met.0 (inr (is ∙ ap Err met.1));
       twice = twice met.0 (is ∙ ap Err met.1);
     })) some))
     (refusal IsChainRefusal result error is only)
+
+-- Neither home copy is valid, unless the device failed.
+pub home_refused : {T : Type 0} (size : ℕ) (contents : Contents) (result : Result T VolumeError) (error : VolumeError)
+    → result ≡ Err error → (IsErrOf result NotVolume → IsNotVolume size contents)
+    → (IsErrOf result BadHome → IsBadHome size contents)
+    → ((e : VolumeError) → IsErrOf result e → (e ≡ NotVolume) ⊎ (e ≡ BadHome) ⊎ (e ≡ Device))
+    → (layout : ℕ) → MayRefuse size layout contents cost.Directories error
+home_refused size contents result error is not_volume bad only layout = ⊎_elim
+    (λ (same : error ≡ NotVolume).
+    subst (λ (e : VolumeError). MayRefuse size layout contents cost.Directories e) (sym same)
+    (inr (not_volume (is ∙ ap Err same))))
+    (λ rest. ⊎_elim
+    (λ (same : error ≡ BadHome).
+    subst (λ (e : VolumeError). MayRefuse size layout contents cost.Directories e) (sym same)
+    (inr (bad (is ∙ ap Err same))))
+    (λ same. inl (inl same)) rest)
+    (only error is)
 
 -- What a chain is refused with, as a start would name it.
 

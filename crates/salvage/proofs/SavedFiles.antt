@@ -1,19 +1,23 @@
 -- Lists of files that were saved, and of findings.
-use Rattle.std.proofs.Common.{◌≡◌, ◌⊎◌, inl, inr, ⊎_elim, ℕ, ◌+◌, ◌≤◌, ◌==◌, Bool, true, false, cond, List, [], ◌∷◌}
-use Rattle.std.proofs.Common.{◌++◌, map, refl, sym, ap, subst, ◌∙◌, arith}
+use Rattle.std.proofs.Common.{◌≡◌, ⊎_elim, ℕ, ◌+◌, ◌≤◌, ◌==◌, Bool, true, false, cond, List, [], ◌∷◌}
+use Rattle.std.proofs.Common.{◌++◌, map, refl, sym, ap, subst, ◌∙◌, arith, append_assoc}
 use Rattle.std.proofs.lemmas.Bool.{cases_eq}
 use Rattle.std.proofs.lemmas.List.{map-append}
 use Rattle.std.proofs.lemmas.List.Elements.{Contains-append_left, Contains-push}
 use Rattle.std.specs.List.{AllByRecursion}
 use Rattle.blockdisk.specs.Common.{Contents}
 use Rattle.spec_image.specs.Common.{Place, times, SpecPrime, prime_block, first_extension}
-use Rattle.spec_image.proofs.Common.{some_same, times-append, times_other, prime_ext_same, prime_same}
+use Rattle.spec_image.proofs.Common.{all_append, some_same, times-append, times_other, prime_ext_same, prime_same}
 use Rattle.retrieval.specs.Common.{with_length, IsVersionAt}
-use Rattle.volume.specs.declared.error.VolumeError.{VolumeError}
-use Rattle.salvage.specs.Common.{AreApart, IsAmong, IsRead, place_in, IsLostBy}
+use Rattle.volume.specs.declared.error.VolumeError.TheVariants.{BadRetrieval}
+use Rattle.words36.specs.declared.names.FileName.{FileName}
+use Rattle.salvage.specs.Common.{AreAdded, AreApart, IsAmong, IsFinding, IsRead, place_in, IsLostBy, IsUnread}
 use Rattle.salvage.specs.declared.saved.SavedFile.{SavedFile}
 use Rattle.salvage.specs.declared.finding.Cost.{Cost}
+use Rattle.salvage.specs.declared.finding.Defect.{Defect}
+use Rattle.salvage.specs.declared.finding.Defect.TheVariants.{Start}
 use Rattle.salvage.specs.declared.finding.Finding.{Finding}
+use Rattle.salvage.specs.declared.finding.Cost.TheVariants as cost
 
 -- What is at a prime block says of which place it is.
 pub same_place : (size layout : ℕ) (contents : Contents) (f g : SavedFile) → IsRead size layout contents f
@@ -64,24 +68,6 @@ apart_push files f apart others n =
     (λ away. let none = times_other n f.at [] away in omega arith)
     (cases_eq n f.at)
 
-elsewhere : (xs ys : List SavedFile) (n : ℕ)
-    → AllByRecursion (λ (y : SavedFile). times y.at (blocks_at xs) ≡ 0) ys
-    → (times n (blocks_at ys) ≡ 0) ⊎ (times n (blocks_at xs) ≡ 0)
-elsewhere xs [] n all = inl refl
-elsewhere xs (y ∷ ys) n all = ⊎_elim
-    (λ (here : n ≡ y.at). inr (subst (λ (k : ℕ). times k (blocks_at xs) ≡ 0) (sym here) all.0))
-    (λ away. ⊎_elim (λ none. inl (times_other n y.at (blocks_at ys) away ∙ none)) (λ none. inr none)
-    (elsewhere xs ys n all.1)) (cases_eq n y.at)
-
-pub apart_both : (xs ys : List SavedFile) → AreApart xs → AreApart ys
-    → AllByRecursion (λ (y : SavedFile). times y.at (blocks_at xs) ≡ 0) ys → AreApart (xs ++ ys)
-apart_both xs ys a b others n =
-    let split : times n (blocks_at (xs ++ ys)) ≡ times n (blocks_at xs) + times n (blocks_at ys) =
-    ap (times n) (map-append (λ (g : SavedFile). g.at) xs ys) ∙ times-append n (blocks_at xs) (blocks_at ys) in
-    let few = a n in
-    let few' = b n in
-    ⊎_elim (λ none. omega arith) (λ none. omega arith) (elsewhere xs ys n others)
-
 -- What was saved and what was reported, with more after it.
 
 -- each file among the old ones is among the new ones, and what the old findings cost the new ones do
@@ -89,6 +75,7 @@ pub record Grows (files : List SavedFile) (findings : List Finding) (files' : Li
     (findings' : List Finding) : Type 0 where
   pub among : (place : Place) (prime : ℕ) → IsAmong files place prime → IsAmong files' place prime
   pub lost : (costs : Cost) → IsLostBy findings costs → IsLostBy findings' costs
+  pub unread : (ppn : ℕ) (name : FileName) → IsUnread findings ppn name → IsUnread findings' ppn name
 
 pub one_file_more : (files : List SavedFile) (findings : List Finding) (f : SavedFile)
     → Grows files findings (files ++ f ∷ []) findings
@@ -100,6 +87,7 @@ one_file_more files findings f = record {
     place_is = is.place_is;
   };
   lost = λ costs is. is;
+  unread = λ ppn name is. is;
 }
 
 pub lost_more : (findings more : List Finding) (costs : Cost) → IsLostBy findings costs
@@ -109,16 +97,43 @@ lost_more findings more costs is = record {
   among = Contains-append_left findings more (record { fault = is.fault; costs = costs }) is.among;
 }
 
+pub unread_more : (findings more : List Finding) (ppn : ℕ) (name : FileName) → IsUnread findings ppn name
+    → IsUnread (findings ++ more) ppn name
+unread_more findings more ppn name is = record {
+  block = is.block;
+  among = Contains-append_left findings more
+      (record { fault = Start (BadRetrieval is.block); costs = cost.File ppn name }) is.among;
+}
+
 pub one_finding_more : (files : List SavedFile) (findings : List Finding) (finding : Finding)
     → Grows files findings files (findings ++ finding ∷ [])
 one_finding_more files findings finding = record {
   among = λ place prime is. is;
   lost = λ costs is. lost_more findings (finding ∷ []) costs is;
+  unread = λ ppn name is. unread_more findings (finding ∷ []) ppn name is;
 }
 
-pub lost_here : (findings : List Finding) (fault : VolumeError) (costs : Cost)
+pub lost_here : (findings : List Finding) (fault : Defect) (costs : Cost)
     → IsLostBy (findings ++ record { fault = fault; costs = costs } ∷ []) costs
 lost_here findings fault costs = record {
   fault = fault;
   among = Contains-push findings (record { fault = fault; costs = costs });
+}
+
+pub unread_here : (findings : List Finding) (n ppn : ℕ) (name : FileName)
+    → IsUnread (findings ++ record { fault = Start (BadRetrieval n); costs = cost.File ppn name } ∷ []) ppn name
+unread_here findings n ppn name = record {
+  block = n;
+  among = Contains-push findings (record { fault = Start (BadRetrieval n); costs = cost.File ppn name });
+}
+
+-- Findings that were added in two steps.
+pub added_then : (size layout : ℕ) (contents : Contents) (old now new : List Finding)
+    → AreAdded size layout contents old now → AreAdded size layout contents now new
+    → AreAdded size layout contents old new
+added_then size layout contents old now new first second = record {
+  added = first.added ++ second.added;
+  new_is = second.new_is ∙ ap (λ (l : List Finding). l ++ second.added) first.new_is
+      ∙ append_assoc old first.added second.added;
+  stand = all_append (IsFinding size layout contents) first.added second.added first.stand second.stand;
 }

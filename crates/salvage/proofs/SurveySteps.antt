@@ -1,170 +1,133 @@
--- The three steps of a survey together.
-use Rattle.std.proofs.Common.{◌≡◌, ◌⊎◌, inl, inr, ⊎_elim, ℕ, zero, suc, ◌<◌, List, [], ◌∷◌, ◌++◌, refl, sym, subst}
-use Rattle.std.proofs.Common.{Contains, arith}
+-- The steps of a survey together.
+use Rattle.std.proofs.Common.{◌≡◌, ◌⊎◌, inl, inr, ⊎_elim, ℕ, List, sym, subst}
+use Rattle.std.proofs.Common.{Contains}
 use Rattle.std.specs.List.{AllByRecursion}
 use Rattle.words36.specs.declared.names.FileName.{FileName}
 use Rattle.blockdisk.specs.Common.{Contents}
-use Rattle.spec_image.specs.Common.{InSpace, Place, times, place_of, IsFileNamed}
-use Rattle.volume.proofs.common.Lookups.{all_each}
-use Rattle.salvage.specs.Common.{IsFinding, AreApart, IsAmong, IsNamedRead, IsRead, blocks_of, claims, place_in}
-use Rattle.salvage.specs.Common.{IsLostBy, IsNamedBlock, IsNamedLoss, IsSurveyed, IsUndeleted, MayBeUsed, AreAdded}
-use Rattle.salvage.specs.Common.{AreTaken, IsScanned, IsTree}
+use Rattle.spec_image.specs.Common.{InSpace, Place, place_of}
+use Rattle.spec_image.proofs.Common.{all_append}
+use Rattle.directory.proofs.GatheredEntries.{all_of}
+use Rattle.salvage.specs.Common.{AreAdded, ArePlaced, AreTaken, IsAmong, IsDamaged, IsDirectoryLoss, IsFinding}
+use Rattle.salvage.specs.Common.{IsLostBy, IsScanned, IsSearched, IsSurveyed, IsTold, IsTree, IsUnread}
+use Rattle.salvage.specs.Common.{IsWholeFile, claims}
 use Rattle.salvage.specs.declared.saved.SavedFile.{SavedFile}
+use Rattle.salvage.specs.declared.search.Search.{Search}
 use Rattle.salvage.specs.declared.finding.Cost.{Cost}
 use Rattle.salvage.specs.declared.finding.Finding.{Finding}
-use Rattle.directory.proofs.GatheredEntries.{all_of}
-use Rattle.salvage.proofs.CarriedFacts.{element_has, moved}
-use Rattle.salvage.proofs.SavedFiles.{blocks_at, apart_both, lost_more}
-use Rattle.spec_image.proofs.Common.{all_append}
+use Rattle.salvage.proofs.CarriedFacts.{element_has}
+use Rattle.salvage.proofs.SavedFiles.{added_then, lost_more, unread_more}
 use Rattle.salvage.specs.declared.finding.Cost.TheVariants as cost
 
--- A block that no file claims is at the head of none.
-pub unclaimed : (files : List SavedFile) (n : ℕ) → claims files n ≡ 0 → times n (blocks_at files) ≡ 0
-unclaimed [] n none = refl
-unclaimed (f ∷ files) n none = let rest = unclaimed files n (omega arith) in omega arith
+module _ (size layout : ℕ) (contents : Contents) where
+  module _ (old new : List Finding) (more : AreAdded size layout contents old new) where
+    pub lost_added : (costs : Cost) → IsLostBy old costs → IsLostBy new costs
+    lost_added costs is = subst (λ (l : List Finding). IsLostBy l costs) (sym more.new_is)
+        (lost_more old more.added costs is)
 
--- Nor is an unnamed file at the same block as a named one.
-pub apart_from : (size layout : ℕ) (contents : Contents) (named unnamed : List SavedFile) → AreApart named
-    → IsScanned size layout contents named unnamed → AreApart (named ++ unnamed)
-apart_from size layout contents named unnamed apart scanned = apart_both named unnamed apart scanned.apart
-    (all_each (λ (f : SavedFile). claims named f.at ≡ 0) (λ (f : SavedFile). times f.at (blocks_at named) ≡ 0) unnamed
-    (λ f none. unclaimed named f.at none) scanned.elsewhere)
+    pub unread_added : (ppn : ℕ) (name : FileName) → IsUnread old ppn name → IsUnread new ppn name
+    unread_added ppn name is = subst (λ (l : List Finding). IsUnread l ppn name) (sym more.new_is)
+        (unread_more old more.added ppn name is)
 
--- A block that files claim is in one of them.
-claimed_by : (size layout : ℕ) (contents : Contents) (files : List SavedFile) (n : ℕ)
-    → AllByRecursion (IsNamedRead size layout contents) files → 0 < claims files n
-    → IsNamedBlock size layout contents n
-claimed_by size layout contents [] n all some = absurd (omega arith)
-claimed_by size layout contents (f ∷ files) n all some = by (times n (blocks_of f)) refl
-    (λ more. claimed_by size layout contents files n all.1 more)
-  where
-    by : (k : ℕ) → times n (blocks_of f) ≡ k → (0 < claims files n → IsNamedBlock size layout contents n)
-        → IsNamedBlock size layout contents n
-    by zero is rest = rest (omega arith)
-    by (suc k) is rest = record { file = f; named = all.0; among = omega arith }
+    pub unnamed_added : (files : List SavedFile) (ppn : ℕ) (name : FileName) (prime : ℕ)
+        → IsAmong files (place_of ppn name) prime ⊎ (IsUnread old ppn name ⊎ IsDirectoryLoss old ppn)
+        → IsAmong files (place_of ppn name) prime ⊎ (IsUnread new ppn name ⊎ IsDirectoryLoss new ppn)
+    unnamed_added files ppn name prime is = ⊎_elim (λ there. inl there)
+        (λ lost. inr (⊎_elim (λ bad. inl (unread_added ppn name bad))
+        (λ loss. inr (⊎_elim (λ own. inl (lost_added (cost.Directory ppn) own))
+        (λ all. inr (lost_added cost.Directories all)) loss)) lost)) is
 
-pub lost_added : (size layout : ℕ) (contents : Contents) (old new : List Finding)
-    → AreAdded size layout contents old new → (costs : Cost) → IsLostBy old costs → IsLostBy new costs
-lost_added size layout contents old new added costs is = subst (λ (l : List Finding). IsLostBy l costs)
-    (sym added.new_is) (lost_more old added.added costs is)
+    pub told_added : (file : SavedFile) → IsTold old file → IsTold new file
+    told_added file is = lost_added (cost.File file.stored.prime.ppn file.stored.prime.file) is
 
-stand_added : (size layout : ℕ) (contents : Contents) (old new : List Finding) → AreAdded size layout contents old new
-    → AllByRecursion (IsFinding size layout contents) old → AllByRecursion (IsFinding size layout contents) new
-stand_added size layout contents old new added stand = subst (AllByRecursion (IsFinding size layout contents))
-    (sym added.new_is) (all_append (IsFinding size layout contents) old added.added stand added.stand)
+    pub judged_added : (files doubtful : List SavedFile) (file : SavedFile)
+        → Contains files file ⊎ ((Contains doubtful file ⊎ IsDamaged contents file) × IsTold old file)
+        → Contains files file ⊎ ((Contains doubtful file ⊎ IsDamaged contents file) × IsTold new file)
+    judged_added files doubtful file is = ⊎_elim (λ there. inl there)
+        (λ other. inr (other.0, told_added file other.1)) is
 
-module _ (size layout : ℕ) (contents : Contents) (named unnamed files : List SavedFile)
-    (first second last : List Finding) (tree : IsTree size layout contents named first)
-    (scanned : IsScanned size layout contents named unnamed) (added : AreAdded size layout contents first second)
-    (taken : AreTaken size layout contents named unnamed files last)
-    (more : AreAdded size layout contents second last) where
-  taken_named : (ppn : ℕ) (name : FileName) (prime : ℕ) → IsAmong named (place_of ppn name) prime
-      → IsAmong files (place_of ppn name) prime ⊎ IsNamedLoss last ppn name
-  taken_named ppn name prime is = ⊎_elim
-      (λ there. inl (record { file = is.file; among = there; at_is = is.at_is; place_is = is.place_is }))
-      (λ lost. inr (inl (subst (λ (p : Place). IsLostBy last (cost.File p.ppn p.name)) is.place_is lost)))
-      (taken.named_ones is.file is.among)
+    pub stand_added : AllByRecursion (IsFinding size layout contents) old
+        → AllByRecursion (IsFinding size layout contents) new
+    stand_added stand = subst (AllByRecursion (IsFinding size layout contents)) (sym more.new_is)
+        (all_append (IsFinding size layout contents) old more.added stand more.stand)
 
-  later : (costs : Cost) → IsLostBy first costs → IsLostBy last costs
-  later costs is = lost_added size layout contents second last more costs
-      (lost_added size layout contents first second added costs is)
-
-  named_there : (ppn : ℕ) (name : FileName) (prime : ℕ) → IsFileNamed size contents layout (place_of ppn name) prime
-      → IsAmong files (place_of ppn name) prime ⊎ IsNamedLoss last ppn name
-  named_there ppn name prime is = ⊎_elim (taken_named ppn name prime)
-      (λ loss. inr (⊎_elim (λ lost. inl (later (cost.File ppn name) lost))
-      (λ rest. inr (⊎_elim (λ lost. inl (later (cost.Directory ppn) lost))
-      (λ lost. inr (later cost.Directories lost)) rest)) loss))
-      (tree.named ppn name prime is)
-
-  unnamed_there : (file : SavedFile) → InSpace size file.at → IsRead size layout contents file
-      → MayBeUsed size contents file.at → (IsNamedBlock size layout contents file.at → ⊥)
-      → IsAmong files (place_in file) file.at
-      ⊎ IsLostBy last (cost.Unnamed file.stored.prime.ppn file.stored.prime.file)
-  unnamed_there file inside read used free =
-      let is = scanned.all file inside read used (none (claims named file.at) refl) in
-      ⊎_elim
-      (λ there. inl (record { file = is.file; among = there; at_is = is.at_is; place_is = is.place_is }))
-      (λ lost. inr (subst (λ (p : Place). IsLostBy last (cost.Unnamed p.ppn p.name)) is.place_is lost))
-      (taken.unnamed_ones is.file is.among)
-    where
-      none : (k : ℕ) → claims named file.at ≡ k → claims named file.at ≡ 0
-      none zero is = is
-      none (suc k) is = absurd (free (claimed_by size layout contents named file.at tree.read (omega arith)))
-
-  pub surveyed : IsSurveyed size layout contents files last
-  surveyed = record {
-    whole = taken.whole;
-    once = taken.once;
-    undeleted = all_of (λ file. Contains named file ⊎ Contains unnamed file) (IsUndeleted size layout contents) files
-        (λ file from. ⊎_elim
-        (λ there. inl (element_has (IsNamedRead size layout contents) named file tree.read there))
-        (λ there. inr (element_has (λ f. MayBeUsed size contents f.at) unnamed file scanned.used there)) from)
-        taken.only;
-    stand = stand_added size layout contents second last more
-        (stand_added size layout contents first second added tree.stand);
-    named = named_there;
-    unnamed = unnamed_there;
+  -- More may be reported.
+  pub survey_more : (search : Search) (files doubtful unnamed : List SavedFile) (old new : List Finding)
+      → IsSurveyed size layout contents search files doubtful unnamed old → AreAdded size layout contents old new
+      → IsSurveyed size layout contents search files doubtful unnamed new
+  survey_more search files doubtful unnamed old new is more = record {
+    read = is.read;
+    read_named = is.read_named;
+    read_all = λ ppn name prime named. unnamed_added old new more is.read ppn name prime
+        (is.read_all ppn name prime named);
+    judged = all_of
+        (λ file. Contains files file ⊎ ((Contains doubtful file ⊎ IsDamaged contents file) × IsTold old file))
+        (λ file. Contains files file ⊎ ((Contains doubtful file ⊎ IsDamaged contents file) × IsTold new file)) is.read
+        (judged_added old new more files doubtful) is.judged;
+    placed = is.placed;
+    once = is.once;
+    doubted = all_of
+        (λ file. Contains is.read file × IsWholeFile size layout contents file × IsTold old file)
+        (λ file. Contains is.read file × IsWholeFile size layout contents file × IsTold new file) doubtful
+        (λ file here. (here.0, here.1, told_added old new more file here.2)) is.doubted;
+    unnamed_whole = is.unnamed_whole;
+    unnamed_apart = is.unnamed_apart;
+    unnamed_at = is.unnamed_at;
+    stand = stand_added old new more is.stand;
+    unnamed_all = λ prime ppn name inside searched free says. ⊎_elim (λ there. inl there)
+        (λ lost. inr (lost_added old new more (cost.Unnamed ppn name prime) lost))
+        (is.unnamed_all prime ppn name inside searched free says);
   }
 
--- The steps, each on the disk as it came to it.
-pub survey_moved : (size size' size'' layout : ℕ) (contents contents' contents'' : Contents)
-    (named unnamed files : List SavedFile) (first second last : List Finding)
-    → size' ≡ size → size'' ≡ size → contents' ≡ contents → contents'' ≡ contents
-    → IsTree size layout contents named first → IsScanned size' layout contents' named unnamed
-    → AreAdded size' layout contents' first second
-    → ((k : ℕ) → AllByRecursion (IsNamedRead size'' k contents'') named
-    → AllByRecursion (IsRead size'' k contents'') unnamed → AreApart (named ++ unnamed)
-    → AreTaken size'' k contents'' named unnamed files last)
-    → ((k : ℕ) → AllByRecursion (IsNamedRead size'' k contents'') named
-    → AllByRecursion (IsRead size'' k contents'') unnamed → AreApart (named ++ unnamed)
-    → AreAdded size'' k contents'' second last)
-    → IsSurveyed size layout contents files last
-survey_moved size size' size'' layout contents contents' contents'' named unnamed files first second last
-    sizes sizes' same same' tree scanned added taken more =
-    let scanned_here = moved (λ n c. IsScanned n layout c named unnamed) size size' contents contents' sizes same
-    scanned in
-    let added_here = moved (λ n c. AreAdded n layout c first second) size size' contents contents' sizes same added in
-    let apart = apart_from size layout contents named unnamed tree.apart scanned_here in
-    let taken_here = moved (λ n c. AllByRecursion (IsNamedRead n layout c) named
-    → AllByRecursion (IsRead n layout c) unnamed → AreApart (named ++ unnamed)
-    → AreTaken n layout c named unnamed files last) size size'' contents contents'' sizes' same' (taken layout)
-    tree.read scanned_here.read apart in
-    let more_here = moved (λ n c. AllByRecursion (IsNamedRead n layout c) named
-    → AllByRecursion (IsRead n layout c) unnamed → AreApart (named ++ unnamed)
-    → AreAdded n layout c second last) size size'' contents contents'' sizes' same' (more layout)
-    tree.read scanned_here.read apart in
-    surveyed size layout contents named unnamed files first second last tree scanned_here added_here taken_here
-    more_here
+  module _ (search : Search) (named found files doubtful unnamed : List SavedFile)
+      (first second third fourth fifth : List Finding) (tree : IsTree size layout contents named first)
+      (one : AreAdded size layout contents first second)
+      (scanned : IsScanned size layout contents search named found third)
+      (two : AreAdded size layout contents second third)
+      (placed : ArePlaced size layout contents named files doubtful fourth)
+      (three : AreAdded size layout contents third fourth)
+      (taken : AreTaken size layout contents found unnamed fifth)
+      (four : AreAdded size layout contents fourth fifth) where
+    from_first : AreAdded size layout contents first fifth
+    from_first = added_then size layout contents first fourth fifth
+        (added_then size layout contents first third fourth
+        (added_then size layout contents first second third one two) three) four
 
--- More may be reported.
-pub survey_more : (size layout : ℕ) (contents : Contents) (files : List SavedFile) (old new : List Finding)
-    → IsSurveyed size layout contents files old → AreAdded size layout contents old new
-    → IsSurveyed size layout contents files new
-survey_more size layout contents files old new is added = record {
-  whole = is.whole;
-  once = is.once;
-  undeleted = is.undeleted;
-  stand = stand_added size layout contents old new added is.stand;
-  named = λ ppn name prime named. ⊎_elim (λ there. inl there) (λ loss. inr (named_loss ppn name loss))
-      (is.named ppn name prime named);
-  unnamed = λ file inside read used free. ⊎_elim (λ there. inl there)
-      (λ lost. inr (more (cost.Unnamed file.stored.prime.ppn file.stored.prime.file) lost))
-      (is.unnamed file inside read used free);
-}
-  where
-    more : (costs : Cost) → IsLostBy old costs → IsLostBy new costs
-    more costs = lost_added size layout contents old new added costs
+    from_third : AreAdded size layout contents third fifth
+    from_third = added_then size layout contents third fourth fifth three four
 
-    named_loss : (ppn : ℕ) (name : FileName) → IsNamedLoss old ppn name → IsNamedLoss new ppn name
-    named_loss ppn name loss = ⊎_elim (λ lost. inl (more (cost.File ppn name) lost))
-        (λ rest. inr (⊎_elim (λ lost. inl (more (cost.Directory ppn) lost))
-        (λ lost. inr (more cost.Directories lost)) rest)) loss
+    unnamed_there : (ppn : ℕ) (name : FileName) (prime : ℕ) → IsAmong found (place_of ppn name) prime
+        → IsAmong unnamed (place_of ppn name) prime ⊎ IsLostBy fifth (cost.Unnamed ppn name prime)
+    unnamed_there ppn name prime is = ⊎_elim
+        (λ there. inl (record { file = is.file; among = there; at_is = is.at_is; place_is = is.place_is }))
+        (λ lost. inr (subst (λ (n : ℕ). IsLostBy fifth (cost.Unnamed ppn name n)) is.at_is
+        (subst (λ (p : Place). IsLostBy fifth (cost.Unnamed p.ppn p.name is.file.at)) is.place_is lost)))
+        (taken.each is.file is.among)
 
--- They were added on the disk as it came to that step.
-pub survey_more_moved : (size size' layout : ℕ) (contents contents' : Contents) (files : List SavedFile)
-    (old new : List Finding) → size' ≡ size → contents' ≡ contents → IsSurveyed size layout contents files old
-    → AreAdded size' layout contents' old new → IsSurveyed size layout contents files new
-survey_more_moved size size' layout contents contents' files old new sizes same is added =
-    survey_more size layout contents files old new is
-    (moved (λ n c. AreAdded n layout c old new) size size' contents contents' sizes same added)
+    abbrev IsAt : SavedFile → Type 0
+    IsAt file = InSpace size file.at × IsSearched search size contents file.at × (claims named file.at ≡ 0)
+
+    pub surveyed : IsSurveyed size layout contents search files doubtful unnamed fifth
+    surveyed = record {
+      read = named;
+      read_named = tree.read;
+      read_all = λ ppn name prime is. unnamed_added first fifth from_first named ppn name prime
+          (tree.named ppn name prime is);
+      judged = all_of
+          (λ file. Contains files file ⊎ ((Contains doubtful file ⊎ IsDamaged contents file) × IsTold fourth file))
+          (λ file. Contains files file ⊎ ((Contains doubtful file ⊎ IsDamaged contents file) × IsTold fifth file)) named
+          (judged_added fourth fifth four files doubtful) placed.judged;
+      placed = placed.placed;
+      once = placed.once;
+      doubted = all_of
+          (λ file. Contains named file × IsWholeFile size layout contents file × IsTold fourth file)
+          (λ file. Contains named file × IsWholeFile size layout contents file × IsTold fifth file) doubtful
+          (λ file here. (here.0, here.1, told_added fourth fifth four file here.2)) placed.doubted;
+      unnamed_whole = taken.whole;
+      unnamed_apart = taken.apart;
+      unnamed_at = all_of (Contains found) IsAt unnamed (λ file there. element_has IsAt found file scanned.at there)
+          taken.only;
+      stand = stand_added first fifth from_first tree.stand;
+      unnamed_all = λ prime ppn name inside searched free says. ⊎_elim (unnamed_there ppn name prime)
+          (λ lost. inr (lost_added third fifth from_third (cost.Unnamed ppn name prime) lost))
+          (scanned.all prime ppn name inside searched free says);
+    }

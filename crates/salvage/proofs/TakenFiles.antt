@@ -1,141 +1,194 @@
--- The files that were taken, first of those that directories name and then of the others.
-use Rattle.std.proofs.Common.{◌≡◌, ◌⊎◌, inl, inr, ⊎_elim, ℕ, ◌≤◌, Bool, true, false, List, [], ◌++◌, Contains, sym, ap}
-use Rattle.std.proofs.Common.{subst, ◌∙◌, arith, append_assoc}
+-- The files that were taken: those of directories that are in their place, and the whole ones of the others.
+use Rattle.std.proofs.Common.{◌≡◌, ◌⊎◌, inl, inr, ⊎_elim, ℕ, ◌≤◌, Bool, true, false, List, [], ◌∷◌, ◌++◌}
+use Rattle.std.proofs.Common.{Contains, refl, sym, ap, subst, ◌∙◌, arith}
 use Rattle.std.specs.List.{AllByRecursion}
 use Rattle.blockdisk.specs.Common.{Contents}
-use Rattle.spec_image.specs.Common.{times}
-use Rattle.spec_image.proofs.Common.{total-append, all_append, all_right}
-use Rattle.salvage.specs.Common.{CountTo, IsFinding, AreApart, FitsDisk, IsNamedRead, IsRead, IsWholeFile, blocks_of}
-use Rattle.salvage.specs.Common.{claims, IsLostBy, loss_of, IsSound, Judges, AreAdded, AreTaken}
+use Rattle.spec_image.specs.Common.{times, total}
+use Rattle.volume.specs.declared.error.VolumeError.TheVariants.{BadData}
+use Rattle.salvage.specs.Common.{AreAdded, AreApart, AreFree, AreMarked, ArePlaced, AreTaken}
+use Rattle.salvage.specs.Common.{CountTo, FitsDisk, IsAlone, IsDamaged, IsDoubtful, IsFinding, IsGood, IsInPlace}
+use Rattle.salvage.specs.Common.{IsLostBy, IsNamedRead, IsRead, IsSpoiled, IsTold, IsWholeFile, Judges}
+use Rattle.salvage.specs.Common.{blocks_of, claims, loss_of, told_of, uses}
 use Rattle.salvage.specs.declared.saved.SavedFile.{SavedFile}
+use Rattle.salvage.specs.declared.finding.Defect.{Defect}
+use Rattle.salvage.specs.declared.finding.Defect.TheVariants.{Start, FreeBlock}
 use Rattle.salvage.specs.declared.finding.Finding.{Finding}
-use Rattle.salvage.proofs.Faulty.{claims_each, named_fault, unnamed_fault}
-use Rattle.salvage.proofs.JudgedFiles.{judged_all, judged_each, judged_few, judged_told, sound_once}
-use Rattle.salvage.proofs.Members.{all_both, all_three, contains_left, contains_right, each_contained}
+use Rattle.salvage.proofs.CarriedFacts.{element_has}
+use Rattle.salvage.proofs.Faulty.{IsOne, claims_each, doubt_stands, in_place, spoiled_stands, unnamed_stands}
+use Rattle.salvage.proofs.JudgedFiles.{IsDealt, alone_once, judged_all, judged_each, judged_few, judged_left}
+use Rattle.salvage.proofs.JudgedFiles.{judged_told}
+use Rattle.salvage.proofs.Members.{all_both, all_three, contains_right, each_contained}
+use Rattle.salvage.proofs.SavedFiles.{blocks_at}
 use Rattle.directory.proofs.GatheredEntries.{all_of}
+use Rattle.volume.specs.declared.error.VolumeError.TheVariants as volume
 
-module _ (size layout : ℕ) (contents : Contents) (named unnamed files now new : List SavedFile)
-    (findings found told : List Finding) (counts counts' : List ℕ)
-    (none : files ≡ [])
-    (first : Judges contents counts true named files now findings found)
-    (second : Judges contents counts' false unnamed now new found told)
-    (counted : CountTo counts (claims named)) (counted' : CountTo counts' (claims (named ++ unnamed)))
-    (named_read : AllByRecursion (IsNamedRead size layout contents) named)
-    (unnamed_read : AllByRecursion (IsRead size layout contents) unnamed)
-    (fit : AllByRecursion (FitsDisk size) unnamed)
-    (apart : AreApart named) (all_apart : AreApart (named ++ unnamed)) where
-  new_is : new ≡ first.taken ++ second.taken
-  new_is = second.files_are ∙ ap (λ (t : List SavedFile). t ++ second.taken)
-      (first.files_are ∙ ap (λ (t : List SavedFile). t ++ first.taken) none)
+-- What is spoiled has a damaged block.
+pub spoiled_damaged : (contents : Contents) (file : SavedFile) (fault : Defect) → IsSpoiled contents file fault
+    → IsDamaged contents file
+spoiled_damaged contents file (Start (BadData n)) is = record { block = n; among = is.0; damaged = is.1 }
+spoiled_damaged contents file (FreeBlock n) is = absurd is
+spoiled_damaged contents file (Start volume.NotVolume) is = absurd is
+spoiled_damaged contents file (Start volume.BadHome) is = absurd is
+spoiled_damaged contents file (Start volume.BadLog) is = absurd is
+spoiled_damaged contents file (Start (volume.BadDirectory n)) is = absurd is
+spoiled_damaged contents file (Start (volume.BadRetrieval n)) is = absurd is
+spoiled_damaged contents file (Start (volume.BlockTwice n)) is = absurd is
+spoiled_damaged contents file (Start (volume.TableWrong n)) is = absurd is
+spoiled_damaged contents file (Start volume.Device) is = absurd is
+spoiled_damaged contents file (Start volume.NoMemory) is = absurd is
+spoiled_damaged contents file (Start volume.Failed) is = absurd is
 
-  told_is : told ≡ findings ++ (first.told ++ second.told)
-  told_is = second.findings_are ∙ ap (λ (t : List Finding). t ++ second.told) first.findings_are
-      ∙ append_assoc findings first.told second.told
+-- what is lost by the last of the findings
+lost_behind : (findings told new : List Finding) (file : SavedFile) (is_named : Bool) → new ≡ findings ++ told
+    → IsLostBy told (loss_of is_named file) → IsLostBy new (loss_of is_named file)
+lost_behind findings told new file is_named is lost = record {
+  fault = lost.fault;
+  among = subst (λ (l : List Finding). Contains l (told_of is_named file lost.fault)) (sym is)
+      (contains_right (told_of is_named file lost.fault) findings told lost.among);
+}
 
-  named_sound : AllByRecursion (λ file. IsNamedRead size layout contents file × IsSound contents counts file)
-      first.taken
-  named_sound = judged_all contents counts true (IsNamedRead size layout contents) named first.taken first.told
-      first.judged named_read
+-- Files that directories name.
+module _ (size layout : ℕ) (contents : Contents) (counts : List ℕ) (named : List SavedFile)
+    (master directories free : List Bool) (none new left left_new : List SavedFile) (findings told : List Finding)
+    (no_files : none ≡ []) (no_left : left ≡ [])
+    (counted : CountTo counts (uses named master directories free))
+    (read : AllByRecursion (IsNamedRead size layout contents) named) (apart : AreApart named)
+    (marked : AreMarked size layout contents named master directories)
+    (is_free : AreFree size contents free)
+    (j : Judges contents counts free true named none new left left_new findings told) where
+  abbrev One : SavedFile → Type 0
+  One = IsOne size layout contents counts named master directories free counted read apart marked is_free
 
-  unnamed_sound : AllByRecursion (λ file. IsRead size layout contents file × IsSound contents counts' file) second.taken
-  unnamed_sound = judged_all contents counts' false (IsRead size layout contents) unnamed second.taken second.told
-      second.judged unnamed_read
+  each_one : AllByRecursion One named
+  each_one = all_three (Contains named) (IsNamedRead size layout contents)
+      (λ file. (n : ℕ) → times n (blocks_of file) ≤ claims named n) named (each_contained named) read
+      (claims_each named)
 
-  all_whole : AllByRecursion (IsWholeFile size layout contents) (first.taken ++ second.taken)
-  all_whole = all_append (IsWholeFile size layout contents) first.taken second.taken
-      (all_of (λ file. IsNamedRead size layout contents file × IsSound contents counts file)
-      (IsWholeFile size layout contents) first.taken
-      (λ file is. record { read = is.0.read; undamaged = is.1.undamaged }) named_sound)
-      (all_of (λ file. IsRead size layout contents file × IsSound contents counts' file)
-      (IsWholeFile size layout contents) second.taken
-      (λ file is. record { read = is.0; undamaged = is.1.undamaged }) unnamed_sound)
+  files_are : new ≡ j.taken
+  files_are = j.files_are ∙ ap (λ (l : List SavedFile). l ++ j.taken) no_files
 
-  all_once : (n : ℕ) → claims (first.taken ++ second.taken) n ≤ 1
-  all_once n =
+  left_are : left_new ≡ j.left
+  left_are = j.left_are ∙ ap (λ (l : List SavedFile). l ++ j.left) no_left
+
+  abbrev IsAsJudged : List SavedFile → List SavedFile → SavedFile → Type 0
+  IsAsJudged files doubtful file = Contains files file
+      ⊎ ((Contains doubtful file ⊎ IsDamaged contents file) × IsTold told file)
+
+  dealt : (file : SavedFile) → IsDealt contents counts free true j.taken j.left j.told file
+      → IsAsJudged j.taken j.left file
+  dealt file is = ⊎_elim (λ taken. inl taken)
+      (λ other. inr (
+        ⊎_elim (λ there. inl there) (λ bad. inr (spoiled_damaged contents file bad.0 bad.1)) other.0,
+        lost_behind findings j.told told file true j.findings_are other.1,
+      )) is
+
+  taken_good : AllByRecursion (λ file. One file × IsGood contents counts true file) j.taken
+  taken_good = judged_all contents counts free true One named j.taken j.left j.told j.judged each_one
+
+  taken_once : (n : ℕ) → claims j.taken n ≤ 1
+  taken_once n =
       let f : SavedFile → ℕ = λ file. times n (blocks_of file) in
-      let sum = total-append f first.taken second.taken in
-      let all = total-append f named unnamed in
-      let few = judged_few contents counts true f named first.taken first.told first.judged in
-      let few' = judged_few contents counts' false f unnamed second.taken second.told second.judged in
-      let count = counted n in
-      let count' = counted' n in
-      ⊎_elim
-      (λ zero. ⊎_elim (λ zero'. omega arith) (λ one'. omega arith)
-      (sound_once contents counts' false n (IsRead size layout contents) second.taken unnamed_sound))
-      (λ one. ⊎_elim (λ zero'. omega arith) (λ one'. omega arith)
-      (sound_once contents counts' false n (IsRead size layout contents) second.taken unnamed_sound))
-      (sound_once contents counts true n (IsNamedRead size layout contents) first.taken named_sound)
+      let few = judged_few contents counts free true f named j.taken j.left j.told j.judged in
+      let e = counted n in
+      ⊎_elim (λ zero. omega arith) (λ one. omega arith)
+      (alone_once counts n One j.taken (all_of (λ file. One file × IsGood contents counts true file)
+      (λ file. One file × IsAlone counts file) j.taken (λ file is. (is.0, is.1.1)) taken_good))
 
-  abbrev IsOneOfThem : SavedFile → Type 0
-  IsOneOfThem file = Contains named file ⊎ Contains unnamed file
+  abbrev IsDoubtedFile : SavedFile → Type 0
+  IsDoubtedFile file = Contains named file × IsWholeFile size layout contents file × IsTold told file
 
-  all_candidates : AllByRecursion IsOneOfThem (first.taken ++ second.taken)
-  all_candidates = all_append IsOneOfThem first.taken second.taken
-      (all_of (λ file. Contains named file × IsSound contents counts file) IsOneOfThem first.taken
-      (λ file is. inl is.0) (judged_all contents counts true (Contains named) named first.taken first.told first.judged
-      (each_contained named)))
-      (all_of (λ file. Contains unnamed file × IsSound contents counts' file) IsOneOfThem second.taken
-      (λ file is. inr is.0) (judged_all contents counts' false (Contains unnamed) unnamed second.taken second.told
-      second.judged (each_contained unnamed)))
-
-  -- what is lost by a part of what was reported
-  lost_in : (here : List Finding) (file : SavedFile) (is_named : Bool)
-      → ((finding : Finding) → Contains here finding → Contains told finding)
-      → IsLostBy here (loss_of is_named file) → IsLostBy told (loss_of is_named file)
-  lost_in here file is_named part lost = record {
-    fault = lost.fault;
-    among = part (record { fault = lost.fault; costs = loss_of is_named file }) lost.among;
+  pub are_placed : ArePlaced size layout contents named new left_new told
+  are_placed = record {
+    judged = subst (λ (l : List SavedFile). AllByRecursion (IsAsJudged l left_new) named) (sym files_are)
+        (subst (λ (l : List SavedFile). AllByRecursion (IsAsJudged j.taken l) named) (sym left_are)
+        (all_of (IsDealt contents counts free true j.taken j.left j.told) (IsAsJudged j.taken j.left) named dealt
+        (judged_each contents counts free true named j.taken j.left j.told j.judged)));
+    placed = subst (AllByRecursion (IsInPlace size layout contents named)) (sym files_are)
+        (all_of (λ file. One file × IsGood contents counts true file) (IsInPlace size layout contents named) j.taken
+        (λ file is. in_place size layout contents counts named master directories free counted read apart marked is_free
+        file is.0 is.1.0 is.1.1) taken_good);
+    once = λ n. subst (λ (l : List SavedFile). claims l n ≤ 1) (sym files_are) (taken_once n);
+    doubted = subst (AllByRecursion IsDoubtedFile) (sym left_are)
+        (all_of (λ file. One file × ((fault : Defect) × IsDoubtful contents counts free true file fault)
+        × IsLostBy j.told (loss_of true file)) IsDoubtedFile j.left
+        (λ file is. (
+          is.0.0,
+          record { read = is.0.1.read; undamaged = is.1.1.0 },
+          lost_behind findings j.told told file true j.findings_are is.2,
+        ))
+        (judged_left contents counts free true One named j.taken j.left j.told j.judged each_one));
   }
 
-  told_first : (finding : Finding) → Contains first.told finding → Contains told finding
-  told_first finding there = subst (λ (t : List Finding). Contains t finding) (sym told_is)
-      (contains_right finding findings (first.told ++ second.told)
-      (contains_left finding first.told second.told there))
-
-  told_second : (finding : Finding) → Contains second.told finding → Contains told finding
-  told_second finding there = subst (λ (t : List Finding). Contains t finding) (sym second.findings_are)
-      (contains_right finding found second.told there)
-
-  pub are_taken : AreTaken size layout contents named unnamed new told
-  are_taken = record {
-    whole = subst (AllByRecursion (IsWholeFile size layout contents)) (sym new_is) all_whole;
-    once = λ n. subst (λ (t : List SavedFile). claims t n ≤ 1) (sym new_is) (all_once n);
-    only = subst (AllByRecursion IsOneOfThem) (sym new_is) all_candidates;
-    named_ones = λ file there. ⊎_elim
-        (λ taken. inl (subst (λ (t : List SavedFile). Contains t file) (sym new_is)
-        (contains_left file first.taken second.taken taken)))
-        (λ lost. inr (lost_in first.told file true told_first lost))
-        (judged_each contents counts true file named first.taken first.told first.judged there);
-    unnamed_ones = λ file there. ⊎_elim
-        (λ taken. inl (subst (λ (t : List SavedFile). Contains t file) (sym new_is)
-        (contains_right file first.taken second.taken taken)))
-        (λ lost. inr (lost_in second.told file false told_second lost))
-        (judged_each contents counts' false file unnamed second.taken second.told second.judged there);
+  pub are_told : AreAdded size layout contents findings told
+  are_told = record {
+    added = j.told;
+    new_is = j.findings_are;
+    stand = judged_told contents counts free true One (IsFinding size layout contents) named j.taken j.left j.told
+        (doubt_stands size layout contents counts named master directories free counted read apart marked is_free)
+        (spoiled_stands size layout contents counts named master directories free counted read apart marked is_free)
+        j.judged each_one;
   }
 
-  pub are_added : AreAdded size layout contents findings told
-  are_added = record {
-    added = first.told ++ second.told;
-    new_is = told_is;
-    stand = all_append (IsFinding size layout contents) first.told second.told
-        (judged_told contents counts true
-        (λ file. IsNamedRead size layout contents file × ((n : ℕ) → times n (blocks_of file) ≤ claims named n))
-        (IsFinding size layout contents) named first.taken first.told
-        (named_fault size layout contents counts named counted named_read apart) first.judged
-        (all_both (IsNamedRead size layout contents) (λ file. (n : ℕ) → times n (blocks_of file) ≤ claims named n) named
-        named_read (claims_each named)))
-        (judged_told contents counts' false
-        (λ file. IsRead size layout contents file × FitsDisk size file
-        × ((n : ℕ) → times n (blocks_of file) ≤ claims (named ++ unnamed) n))
-        (IsFinding size layout contents) unnamed second.taken second.told
-        (unnamed_fault size layout contents counts' (named ++ unnamed) counted' all_read all_apart) second.judged
-        (all_three (IsRead size layout contents) (FitsDisk size)
-        (λ file. (n : ℕ) → times n (blocks_of file) ≤ claims (named ++ unnamed) n) unnamed unnamed_read fit
-        (all_right (λ file. (n : ℕ) → times n (blocks_of file) ≤ claims (named ++ unnamed) n) named unnamed
-        (claims_each (named ++ unnamed)))));
+-- Files that no directory names.
+
+-- how often a block is the prime block of one of these
+at_total : (n : ℕ) (files : List SavedFile) → total (λ file. times n (file.at ∷ [])) files ≡ times n (blocks_at files)
+at_total n [] = refl
+at_total n (x ∷ xs) = let rest = at_total n xs in omega arith
+
+module _ (size layout : ℕ) (contents : Contents) (counts : List ℕ) (free : List Bool)
+    (unnamed none new left left_new : List SavedFile) (findings told : List Finding) (no_files : none ≡ [])
+    (read : AllByRecursion (IsRead size layout contents) unnamed)
+    (j : Judges contents counts free false unnamed none new left left_new findings told) where
+  unnamed_are : new ≡ j.taken
+  unnamed_are = j.files_are ∙ ap (λ (l : List SavedFile). l ++ j.taken) no_files
+
+  abbrev IsTakenOrTold : List SavedFile → SavedFile → Type 0
+  IsTakenOrTold files file = Contains files file
+      ⊎ IsLostBy told (loss_of false file)
+
+  unnamed_good : AllByRecursion (λ file. (Contains unnamed file × IsRead size layout contents file)
+      × IsGood contents counts false file) j.taken
+  unnamed_good = judged_all contents counts free false
+      (λ file. Contains unnamed file × IsRead size layout contents file) unnamed j.taken j.left j.told j.judged
+      (all_both (Contains unnamed) (IsRead size layout contents) unnamed (each_contained unnamed) read)
+
+  dealt_with : (file : SavedFile) → IsDealt contents counts free false j.taken j.left j.told file
+      → IsTakenOrTold j.taken file
+  dealt_with file is = ⊎_elim (λ taken. inl taken)
+      (λ other. inr (lost_behind findings j.told told file false j.findings_are other.1)) is
+
+  taken_apart : AreApart unnamed → AreApart j.taken
+  taken_apart apart n =
+      let few = judged_few contents counts free false (λ file. times n (file.at ∷ [])) unnamed j.taken j.left j.told
+      j.judged in
+      let all = at_total n unnamed in
+      let some = at_total n j.taken in
+      let one = apart n in
+      omega arith
+
+  pub are_taken : AreApart unnamed → AreTaken size layout contents unnamed new told
+  are_taken apart = record {
+    whole = subst (AllByRecursion (IsWholeFile size layout contents)) (sym unnamed_are)
+        (all_of (λ file. (Contains unnamed file × IsRead size layout contents file)
+        × IsGood contents counts false file) (IsWholeFile size layout contents) j.taken
+        (λ file is. record { read = is.0.1; undamaged = is.1 }) unnamed_good);
+    only = subst (AllByRecursion (Contains unnamed)) (sym unnamed_are)
+        (all_of (λ file. (Contains unnamed file × IsRead size layout contents file)
+        × IsGood contents counts false file) (Contains unnamed) j.taken (λ file is. is.0.0) unnamed_good);
+    apart = subst AreApart (sym unnamed_are) (taken_apart apart);
+    each = λ file there. subst (λ (l : List SavedFile). IsTakenOrTold l file) (sym unnamed_are)
+        (element_has (IsTakenOrTold j.taken) unnamed file
+        (all_of (IsDealt contents counts free false j.taken j.left j.told) (IsTakenOrTold j.taken) unnamed dealt_with
+        (judged_each contents counts free false unnamed j.taken j.left j.told j.judged)) there);
   }
-    where
-      all_read : AllByRecursion (IsRead size layout contents) (named ++ unnamed)
-      all_read = all_append (IsRead size layout contents) named unnamed
-          (all_of (IsNamedRead size layout contents) (IsRead size layout contents) named (λ file is. is.read)
-          named_read) unnamed_read
+
+  pub unnamed_told : AllByRecursion (FitsDisk size) unnamed → AreAdded size layout contents findings told
+  unnamed_told fit = record {
+    added = j.told;
+    new_is = j.findings_are;
+    stand = judged_told contents counts free false (λ file. IsRead size layout contents file × FitsDisk size file)
+        (IsFinding size layout contents) unnamed j.taken j.left j.told (λ file fault is doubt. absurd doubt)
+        (unnamed_stands size layout contents) j.judged
+        (all_both (IsRead size layout contents) (FitsDisk size) unnamed read fit);
+  }

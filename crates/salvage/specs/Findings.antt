@@ -6,15 +6,18 @@ use Rattle.spec_image.specs.Common.{file_words, master_words, InSpace, IsBadHome
 use Rattle.spec_image.specs.Common.{IsNotVolume, Place, IsHome, times, SpecPrime, IsRetrieved, place_of}
 use Rattle.spec_image.specs.Common.{IsDirectoryNamed}
 use Rattle.spec_image.specs.Common.{IsFileNamed}
-use Rattle.alloctab.specs.Common.{IsBadTableBlock}
 use Rattle.directory.specs.Common.{IsTwiceInChain}
 use Rattle.volume.specs.Common.{IsBadFileChain, IsDamagedData, IsOtherPlace, home_in, SettledRefuses}
 use Rattle.volume.specs.declared.error.VolumeError.{VolumeError}
 use Rattle.volume.specs.declared.error.VolumeError.TheVariants.{NotVolume, BadHome, BadDirectory, BadRetrieval}
 use Rattle.volume.specs.declared.error.VolumeError.TheVariants.{BlockTwice, TableWrong, BadData, Device, NoMemory}
-use Rattle.salvage.specs.Saved.{AreApart, IsNamedRead, IsRead, blocks_of, claims, place_in}
+use Rattle.salvage.specs.Chains.{IsChainBlock}
+use Rattle.salvage.specs.FreeBlocks.{IsFreeBlock, IsUntold}
+use Rattle.salvage.specs.Saved.{AreApart, IsNamedRead, IsPrimeAt, IsRead, claims}
 use Rattle.salvage.specs.declared.saved.SavedFile.{SavedFile}
 use Rattle.salvage.specs.declared.finding.Cost.{Cost}
+use Rattle.salvage.specs.declared.finding.Defect.{Defect}
+use Rattle.salvage.specs.declared.finding.Defect.TheVariants.{Start, FreeBlock}
 use Rattle.salvage.specs.declared.finding.Finding.{Finding}
 use Rattle.salvage.specs.declared.finding.Cost.TheVariants as cost
 
@@ -37,43 +40,45 @@ pub record IsNamedTwice (size layout : ℕ) (contents : Contents) (n : ℕ) : Ty
   pub twice : 2 ≤ claims files n
 
 -- The fault is there, and it concerns the file of a place whose directory names this prime block.
-abbrev pub Concerns : ℕ → ℕ → Contents → Place → ℕ → VolumeError → Type 0
-Concerns size layout contents place prime (BadRetrieval n) = InSpace size n
+abbrev pub Concerns : ℕ → ℕ → Contents → Place → ℕ → Defect → Type 0
+Concerns size layout contents place prime (Start (BadRetrieval n)) = InSpace size n
     × (IsBadVersion size contents layout prime n ⊎ ((n ≡ prime) × IsOtherPlace layout contents place prime))
-Concerns size layout contents place prime (BadData n) = InSpace size n
+Concerns size layout contents place prime (Start (BadData n)) = InSpace size n
     × IsDamagedData layout contents place prime n
-Concerns size layout contents place prime (BlockTwice n) = HasBlock layout contents place prime n
-    × IsNamedTwice size layout contents n
+Concerns size layout contents place prime (Start (BlockTwice n)) = HasBlock layout contents place prime n
+    × (IsNamedTwice size layout contents n ⊎ IsChainBlock size layout contents n)
+Concerns size layout contents place prime (FreeBlock n) = HasBlock layout contents place prime n
+    × IsFreeBlock size contents n
 Concerns size layout contents place prime fault = ⊥
 
 -- A directory names this file, and it has the fault.
-pub record IsFaultOf (size layout : ℕ) (contents : Contents) (place : Place) (fault : VolumeError) : Type 0 where
+pub record IsFaultOf (size layout : ℕ) (contents : Contents) (place : Place) (fault : Defect) : Type 0 where
   pub prime : ℕ
   pub named : IsFileNamed size contents layout place prime
   pub concerns : Concerns size layout contents place prime fault
 
 -- Files that no directory names.
 
--- Block n occurs twice in files whose retrieval blocks are whole.
-pub record IsReadTwice (size layout : ℕ) (contents : Contents) (n : ℕ) : Type 0 where
-  pub files : List SavedFile
-  pub read : AllByRecursion (IsRead size layout contents) files
-  pub apart : AreApart files
-  pub twice : 2 ≤ claims files n
-
-abbrev pub ConcernsUnnamed : ℕ → ℕ → Contents → SavedFile → VolumeError → Type 0
-ConcernsUnnamed size layout contents file (BadData n) = (0 < times n file.stored.version.blocks) × (contents n ≡ None)
-ConcernsUnnamed size layout contents file (BlockTwice n) = (0 < times n (blocks_of file))
-    × IsReadTwice size layout contents n
-ConcernsUnnamed size layout contents file fault = ⊥
-
--- A file whose retrieval blocks are whole says that it is of this place, and it has the fault.
-pub record IsFaultOfUnnamed (size layout : ℕ) (contents : Contents) (place : Place) (fault : VolumeError) : Type 0 where
+-- The file at this prime block has the damaged block n.
+pub record IsDamagedAt (size layout : ℕ) (contents : Contents) (prime n : ℕ) : Type 0 where
   pub file : SavedFile
-  pub inside : InSpace size file.at
+  pub at_is : file.at ≡ prime
   pub read : IsRead size layout contents file
-  pub place_is : place_in file ≡ place
-  pub concerns : ConcernsUnnamed size layout contents file fault
+  pub among : 0 < times n file.stored.version.blocks
+  pub damaged : contents n ≡ None
+
+-- The fault is there, and it concerns the file at this prime block.
+abbrev pub ConcernsUnnamed : ℕ → ℕ → Contents → ℕ → Defect → Type 0
+ConcernsUnnamed size layout contents prime (Start (BadRetrieval n)) = IsBadVersion size contents layout prime n
+ConcernsUnnamed size layout contents prime (Start (BadData n)) = IsDamagedAt size layout contents prime n
+ConcernsUnnamed size layout contents prime fault = ⊥
+
+-- A prime block says that its file is of this place, and that file has the fault.
+pub record IsFaultOfUnnamed (size layout : ℕ) (contents : Contents) (place : Place) (prime : ℕ) (fault : Defect)
+    : Type 0 where
+  pub inside : InSpace size prime
+  pub says : IsPrimeAt layout contents prime place
+  pub concerns : ConcernsUnnamed size layout contents prime fault
 
 -- Directories.
 
@@ -107,24 +112,30 @@ IsFaultOfMaster size layout contents fault = ⊥
 
 -- All of them.
 
--- A block of the table isn't valid in itself.
+-- A block of the table can't be believed.
 abbrev pub IsFaultOfTable : ℕ → Contents → VolumeError → Type 0
-IsFaultOfTable size contents (TableWrong n) = IsBadTableBlock size contents n
+IsFaultOfTable size contents (TableWrong n) = IsUntold size contents n
 IsFaultOfTable size contents fault = ⊥
 
 -- A start refuses the contents for this fault, whatever their gate.
 abbrev pub IsFaultOfStart : ℕ → Contents → VolumeError → Type 0
 IsFaultOfStart size contents fault = (fault ≡ Device → ⊥) × (fault ≡ NoMemory → ⊥) × SettledRefuses size contents fault
 
+-- It is a fault as a start would name it, and has this.
+abbrev pub IsStartFault : (VolumeError → Type 0) → Defect → Type 0
+IsStartFault P (Start fault) = P fault
+IsStartFault P (FreeBlock n) = ⊥
+
 -- The fault is in these contents, and costs this.
-abbrev pub IsFaultAt : ℕ → ℕ → Contents → VolumeError → Cost → Type 0
+abbrev pub IsFaultAt : ℕ → ℕ → Contents → Defect → Cost → Type 0
 IsFaultAt size layout contents fault (cost.File ppn name) = IsFaultOf size layout contents (place_of ppn name) fault
-IsFaultAt size layout contents fault (cost.Unnamed ppn name) = IsFaultOfUnnamed size layout contents (place_of ppn name)
-    fault
-IsFaultAt size layout contents fault (cost.Directory ppn) = IsFaultOfDirectory size layout contents ppn fault
-IsFaultAt size layout contents fault cost.Directories = IsFaultOfMaster size layout contents fault
-IsFaultAt size layout contents fault cost.Nothing = IsFaultOfTable size contents fault ⊎ IsFaultOfStart size contents
-    fault
+IsFaultAt size layout contents fault (cost.Unnamed ppn name prime) =
+    IsFaultOfUnnamed size layout contents (place_of ppn name) prime fault
+IsFaultAt size layout contents fault (cost.Directory ppn) =
+    IsStartFault (IsFaultOfDirectory size layout contents ppn) fault
+IsFaultAt size layout contents fault cost.Directories = IsStartFault (IsFaultOfMaster size layout contents) fault
+IsFaultAt size layout contents fault cost.Nothing =
+    IsStartFault (λ e. IsFaultOfTable size contents e ⊎ IsFaultOfStart size contents e) fault
 
 abbrev pub IsFinding : ℕ → ℕ → Contents → Finding → Type 0
 IsFinding size layout contents finding = IsFaultAt size layout contents finding.fault finding.costs

@@ -1,4 +1,6 @@
 pub mod Copies
+pub mod Chains
+pub mod FreeBlocks
 pub mod Saved
 pub mod BlockCounts
 pub mod Findings

@@ -1,48 +1,69 @@
 -- What is at the blocks that were checked so far.
-use Rattle.std.specs.Prelude.{◌≡◌, ℕ, ◌<◌, Option, None, Some, List, ◌++◌, replicate, slice_index}
+use Rattle.std.specs.Prelude.{◌≡◌, ◌⊎◌, ◌↔◌, ℕ, ◌<◌, Bool, true, List, ◌++◌, slice_index}
 use Rattle.std.specs.List.{AllByRecursion}
+use Rattle.words36.specs.declared.names.FileName.{FileName}
 use Rattle.blockdisk.specs.Common.{Contents}
-use Rattle.spec_image.specs.Common.{InSpace}
-use Rattle.alloctab.specs.Common.{IsBadTableBlock, IsTableOf, TableState, IsTable, bit}
-use Rattle.salvage.specs.Saved.{AreApart, IsAmong, IsRead, place_in}
-use Rattle.salvage.specs.Surveys.{MayBeUsed}
+use Rattle.spec_image.specs.Common.{InSpace, place_of}
+use Rattle.alloctab.specs.Common.{flag_at}
+use Rattle.salvage.specs.Findings.{IsFinding}
+use Rattle.salvage.specs.FreeBlocks.{IsFreeBlock, IsSearched}
+use Rattle.salvage.specs.Saved.{AreApart, IsAmong, IsPrimeAt, IsRead}
+use Rattle.salvage.specs.Surveys.{IsLostBy}
 use Rattle.salvage.specs.declared.saved.SavedFile.{SavedFile}
+use Rattle.salvage.specs.declared.search.Search.{Search}
+use Rattle.salvage.specs.declared.search.Search.TheVariants.{Named, Used, Every}
+use Rattle.salvage.specs.declared.finding.Finding.{Finding}
+use Rattle.salvage.specs.declared.finding.Cost.TheVariants as cost
 
--- The table was read, or a block of it is bad.
-abbrev pub IsTableRead : ℕ → Contents → Option TableState → Type 0
-IsTableRead size contents None = (n : ℕ) × IsBadTableBlock size contents n
-IsTableRead size contents (Some table) = IsTableOf size contents (bit table)
+-- The marked blocks are those that the table says are free.
+abbrev pub AreFree : ℕ → Contents → List Bool → Type 0
+AreFree size contents free = (n : ℕ) → n < size → (flag_at free n ≡ true) ↔ IsFreeBlock size contents n
 
--- Nothing is held in a table that was read.
-abbrev pub IsUnheld : ℕ → Option TableState → Type 0
-IsUnheld size None = Unit {0}
-IsUnheld size (Some table) = (table.size ≡ size) × IsTable table × (table.held ≡ replicate size 0)
+-- By these marks a search checks block n.
+abbrev pub IsWanted : Search → List Bool → ℕ → Type 0
+IsWanted Named free n = ⊥
+IsWanted Used free n = flag_at free n ≡ true → ⊥
+IsWanted Every free n = Unit {0}
 
--- By this table the block may be in use.
-abbrev pub IsInUse : Option TableState → ℕ → Type 0
-IsInUse None n = Unit {0}
-IsInUse (Some table) n = bit table n ≡ 0 → ⊥
+-- It is to be checked, and was never counted.
+abbrev pub IsCandidate : Search → List Bool → List ℕ → ℕ → Type 0
+IsCandidate search free counts n = (slice_index counts n ≡ 0) × IsWanted search free n
 
--- It may be in use, and was never counted.
-abbrev pub IsCandidate : Option TableState → List ℕ → ℕ → Type 0
-IsCandidate table counts n = (slice_index counts n ≡ 0) × IsInUse table n
+-- What is wrong with the file of the prime block n was reported after the findings, if it is a prime block.
+pub record IsReported (size layout : ℕ) (contents : Contents) (n : ℕ) (old new : List Finding) : Type 0 where
+  pub added : List Finding
+  pub new_is : new ≡ old ++ added
+  pub stand : AllByRecursion (IsFinding size layout contents) added
+  pub each : (ppn : ℕ) (name : FileName) → IsPrimeAt layout contents n (place_of ppn name)
+      → IsLostBy added (cost.Unnamed ppn name n)
 
--- The file whose prime block this is, if there is one, was added after the others.
-pub record IsReadAt (size layout : ℕ) (contents : Contents) (n : ℕ) (old new : List SavedFile) : Type 0 where
+-- The file whose prime block this is was added after the others, or what is wrong with it after the findings; or block
+-- n is no prime block.
+pub record IsReadAt (size layout : ℕ) (contents : Contents) (n : ℕ) (old new : List SavedFile)
+    (findings told : List Finding) : Type 0 where
   pub found : List SavedFile
   pub new_is : new ≡ old ++ found
+  pub added : List Finding
+  pub told_is : told ≡ findings ++ added
   pub read : AllByRecursion (IsRead size layout contents) found
   pub apart : AreApart found
   pub here : AllByRecursion (λ file. file.at ≡ n) found
-  pub all : (file : SavedFile) → file.at ≡ n → IsRead size layout contents file → IsAmong found (place_in file) n
+  pub stand : AllByRecursion (IsFinding size layout contents) added
+  pub all : (ppn : ℕ) (name : FileName) → IsPrimeAt layout contents n (place_of ppn name)
+      → IsAmong found (place_of ppn name) n ⊎ IsLostBy added (cost.Unnamed ppn name n)
 
--- What was found at the blocks before this one that may be in use and were never counted.
-pub record AreFound (size layout : ℕ) (contents : Contents) (counts : List ℕ) (files : List SavedFile)
-    (before : ℕ) : Type 0 where
+-- What was found at the blocks before this one that are to be searched and were never counted.
+pub record AreFound (size layout : ℕ) (contents : Contents) (search : Search) (counts : List ℕ)
+    (files : List SavedFile) (findings told : List Finding) (before : ℕ) : Type 0 where
   pub read : AllByRecursion (IsRead size layout contents) files
   pub apart : AreApart files
   pub earlier : AllByRecursion (λ file. file.at < before) files
-  pub elsewhere : AllByRecursion (λ file. slice_index counts file.at ≡ 0) files
-  pub used : AllByRecursion (λ file. MayBeUsed size contents file.at) files
-  pub all : (file : SavedFile) → InSpace size file.at → file.at < before → IsRead size layout contents file
-      → MayBeUsed size contents file.at → slice_index counts file.at ≡ 0 → IsAmong files (place_in file) file.at
+  pub at : AllByRecursion (λ file. InSpace size file.at × IsSearched search size contents file.at
+      × (slice_index counts file.at ≡ 0)) files
+  pub added : List Finding
+  pub told_is : told ≡ findings ++ added
+  pub stand : AllByRecursion (IsFinding size layout contents) added
+  pub all : (prime ppn : ℕ) (name : FileName) → InSpace size prime → prime < before
+      → IsSearched search size contents prime → slice_index counts prime ≡ 0
+      → IsPrimeAt layout contents prime (place_of ppn name)
+      → IsAmong files (place_of ppn name) prime ⊎ IsLostBy added (cost.Unnamed ppn name prime)

@@ -1,61 +1,77 @@
 -- What a survey of a disk finds: the files that are whole, and what every fault costs.
-use Rattle.std.specs.Prelude.{◌≡◌, ◌⊎◌, ℕ, ◌<◌, ◌≤◌, List, Contains, Some}
+use Rattle.std.specs.Prelude.{◌≡◌, ◌⊎◌, ℕ, ◌<◌, ◌≤◌, List, Contains, Some, None}
 use Rattle.std.specs.List.{AllByRecursion}
 use Rattle.words36.specs.declared.names.FileName.{FileName}
 use Rattle.blockdisk.specs.Common.{Contents}
-use Rattle.spec_image.specs.Common.{InSpace, File, Files, Place, Directory, get, times, HasBody, prime_of, place_of}
-use Rattle.spec_image.specs.Common.{table_bit, IsFileNamed}
-use Rattle.alloctab.specs.Common.{IsBadTableBlock}
+use Rattle.spec_image.specs.Common.{InSpace, File, Files, Place, Directory, get, times, HasBody, prime_of}
+use Rattle.spec_image.specs.Common.{place_of, IsFileNamed}
 use Rattle.retrieval.specs.Common.{with_length}
-use Rattle.volume.specs.declared.error.VolumeError.{VolumeError}
+use Rattle.volume.specs.declared.error.VolumeError.TheVariants.{BadRetrieval}
+use Rattle.salvage.specs.FreeBlocks.{IsSearched}
 use Rattle.salvage.specs.Findings.{IsFinding}
-use Rattle.salvage.specs.Saved.{IsAmong, IsNamedRead, IsRead, IsWholeFile, blocks_of, claims, place_in}
+use Rattle.salvage.specs.Saved.{AreApart, IsAmong, IsInPlace, IsNamedRead, IsPrimeAt, IsWholeFile, claims, place_in}
 use Rattle.salvage.specs.declared.saved.SavedFile.{SavedFile}
+use Rattle.salvage.specs.declared.search.Search.{Search}
 use Rattle.salvage.specs.declared.finding.Cost.{Cost}
+use Rattle.salvage.specs.declared.finding.Defect.{Defect}
+use Rattle.salvage.specs.declared.finding.Defect.TheVariants.{Start}
 use Rattle.salvage.specs.declared.finding.Finding.{Finding}
 use Rattle.salvage.specs.declared.finding.Cost.TheVariants as cost
 
 -- One of the findings costs this.
 pub record IsLostBy (findings : List Finding) (costs : Cost) : Type 0 where
-  pub fault : VolumeError
+  pub fault : Defect
   pub among : Contains findings (record { fault = fault; costs = costs })
 
--- A finding costs the file of this place, its directory, or all directories.
-abbrev pub IsNamedLoss : List Finding → ℕ → FileName → Type 0
-IsNamedLoss findings ppn name = IsLostBy findings (cost.File ppn name) ⊎ IsLostBy findings (cost.Directory ppn)
-    ⊎ IsLostBy findings cost.Directories
+-- One of the findings is that a retrieval block of the file of this place is bad.
+pub record IsUnread (findings : List Finding) (ppn : ℕ) (name : FileName) : Type 0 where
+  pub block : ℕ
+  pub among : Contains findings (record { fault = Start (BadRetrieval block); costs = cost.File ppn name })
 
--- Block n is in use by the table; or a block of the table is bad, and then each block may be.
-abbrev pub MayBeUsed : ℕ → Contents → ℕ → Type 0
-MayBeUsed size contents n = (table_bit size contents n ≡ 1) ⊎ ((t : ℕ) × IsBadTableBlock size contents t)
+-- The names of its directory are lost, or those of all directories.
+abbrev pub IsDirectoryLoss : List Finding → ℕ → Type 0
+IsDirectoryLoss findings ppn = IsLostBy findings (cost.Directory ppn) ⊎ IsLostBy findings cost.Directories
 
--- Block n is in a file that a directory names and whose retrieval blocks are whole.
-pub record IsNamedBlock (size layout : ℕ) (contents : Contents) (n : ℕ) : Type 0 where
-  pub file : SavedFile
-  pub named : IsNamedRead size layout contents file
-  pub among : 0 < times n (blocks_of file)
+-- One of the findings costs the place of this file.
+abbrev pub IsTold : List Finding → SavedFile → Type 0
+IsTold findings file = IsLostBy findings (cost.File file.stored.prime.ppn file.stored.prime.file)
 
--- A directory names the file, or its prime block may be in use: it wasn't deleted, as far as the table shows.
-abbrev pub IsUndeleted : ℕ → ℕ → Contents → SavedFile → Type 0
-IsUndeleted size layout contents file = IsNamedRead size layout contents file ⊎ MayBeUsed size contents file.at
+-- A data block of the file is damaged.
+pub record IsDamaged (contents : Contents) (file : SavedFile) : Type 0 where
+  pub block : ℕ
+  pub among : 0 < times block file.stored.version.blocks
+  pub damaged : contents block ≡ None
 
-pub record IsSurveyed (size layout : ℕ) (contents : Contents) (files : List SavedFile) (findings : List Finding)
-    : Type 0 where
-  -- each file is whole, and no block is in two of them
-  pub whole : AllByRecursion (IsWholeFile size layout contents) files
+-- Of these files of directories each is in its place; or it is doubtful, or a block of it is damaged, and a finding
+-- says why.
+abbrev pub AreJudgedAs : Contents → List SavedFile → List SavedFile → List Finding → List SavedFile → Type 0
+AreJudgedAs contents files doubtful findings read = AllByRecursion (λ file. Contains files file
+    ⊎ ((Contains doubtful file ⊎ IsDamaged contents file) × IsTold findings file)) read
+
+pub record IsSurveyed (size layout : ℕ) (contents : Contents) (search : Search)
+    (files doubtful unnamed : List SavedFile) (findings : List Finding) : Type 0 where
+  -- what was read of the files that directories name: each of them, unless its retrieval blocks are bad, or the names
+  -- of its directory are lost
+  pub read : List SavedFile
+  pub read_named : AllByRecursion (IsNamedRead size layout contents) read
+  pub read_all : (ppn : ℕ) (name : FileName) (prime : ℕ) → IsFileNamed size contents layout (place_of ppn name) prime
+      → IsAmong read (place_of ppn name) prime ⊎ (IsUnread findings ppn name ⊎ IsDirectoryLoss findings ppn)
+  pub judged : AreJudgedAs contents files doubtful findings read
+  pub placed : AllByRecursion (IsInPlace size layout contents read) files
   pub once : (n : ℕ) → claims files n ≤ 1
-  -- none was deleted, as far as the table shows
-  pub undeleted : AllByRecursion (IsUndeleted size layout contents) files
+  pub doubted : AllByRecursion (λ file. Contains read file × IsWholeFile size layout contents file
+      × IsTold findings file) doubtful
+  -- whole files that no directory names, at blocks that were to be searched and that are in no file that was read
+  pub unnamed_whole : AllByRecursion (IsWholeFile size layout contents) unnamed
+  pub unnamed_apart : AreApart unnamed
+  pub unnamed_at : AllByRecursion (λ file. InSpace size file.at × IsSearched search size contents file.at
+      × (claims read file.at ≡ 0)) unnamed
   -- each fault is there
   pub stand : AllByRecursion (IsFinding size layout contents) findings
-  -- a file that a directory names is found, or a fault costs it
-  pub named : (ppn : ℕ) (name : FileName) (prime : ℕ) → IsFileNamed size contents layout (place_of ppn name) prime
-      → IsAmong files (place_of ppn name) prime ⊎ IsNamedLoss findings ppn name
-  -- and so is one at a block in use that is in no file which a directory names
-  pub unnamed : (file : SavedFile) → InSpace size file.at → IsRead size layout contents file
-      → MayBeUsed size contents file.at → (IsNamedBlock size layout contents file.at → ⊥)
-      → IsAmong files (place_in file) file.at
-      ⊎ IsLostBy findings (cost.Unnamed file.stored.prime.ppn file.stored.prime.file)
+  -- each prime block that is searched is that of a file that is found, or a fault costs that file
+  pub unnamed_all : (prime ppn : ℕ) (name : FileName) → InSpace size prime → IsSearched search size contents prime
+      → claims read prime ≡ 0 → IsPrimeAt layout contents prime (place_of ppn name)
+      → IsAmong unnamed (place_of ppn name) prime ⊎ IsLostBy findings (cost.Unnamed ppn name prime)
 
 -- The files that contents stand for.
 
@@ -71,3 +87,17 @@ abbrev pub AreAllSaved : Contents → List SavedFile → Files File → Type 0
 AreAllSaved contents saved files =
     (ppn : ℕ) (directory : Directory File) (name : FileName) (file : File) → get files ppn ≡ Some directory
     → get directory.files name ≡ Some file → IsSavedAs contents saved (place_of ppn name) file
+
+-- What was saved is a file of its place.
+pub record IsFileSaved (contents : Contents) (files : Files File) (saved : SavedFile) : Type 0 where
+  pub directory : Directory File
+  pub directory_is : get files saved.stored.prime.ppn ≡ Some directory
+  pub file : File
+  pub file_is : get directory.files saved.stored.prime.file ≡ Some file
+  pub facts : prime_of (place_in saved) file ≡ with_length saved.stored.prime saved.stored.version.words
+  pub body : HasBody contents saved.stored.version.blocks file.body
+
+-- These are all files, each at its place, and nothing else.
+pub record AreTheFiles (contents : Contents) (saved : List SavedFile) (files : Files File) : Type 0 where
+  pub all : AreAllSaved contents saved files
+  pub only : AllByRecursion (IsFileSaved contents files) saved

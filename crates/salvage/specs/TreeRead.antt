@@ -11,9 +11,10 @@ use Rattle.spec_image.specs.Common.{IsFileNamed}
 use Rattle.volume.specs.declared.error.VolumeError.{VolumeError}
 use Rattle.salvage.specs.Findings.{IsFaultAt, IsFinding}
 use Rattle.salvage.specs.Saved.{AreApart, IsAmong, IsNamedRead}
-use Rattle.salvage.specs.Surveys.{IsLostBy}
+use Rattle.salvage.specs.Surveys.{IsLostBy, IsUnread}
 use Rattle.salvage.specs.declared.saved.SavedFile.{SavedFile}
 use Rattle.salvage.specs.declared.finding.Cost.{Cost}
+use Rattle.salvage.specs.declared.finding.Defect.TheVariants.{Start}
 use Rattle.salvage.specs.declared.finding.Finding.{Finding}
 use Rattle.volume.specs.declared.error.VolumeError.TheVariants as volume
 use Rattle.salvage.specs.declared.finding.Cost.TheVariants as cost
@@ -26,7 +27,7 @@ IsNoFault error = (error ≡ volume.Device) ⊎ (error ≡ volume.NoMemory)
 
 -- A reader is refused with a fault that is there and costs this, or with no fault of the contents.
 abbrev pub MayRefuse : ℕ → ℕ → Contents → Cost → VolumeError → Type 0
-MayRefuse size layout contents costs error = IsNoFault error ⊎ IsFaultAt size layout contents error costs
+MayRefuse size layout contents costs error = IsNoFault error ⊎ IsFaultAt size layout contents (Start error) costs
 
 -- what reading a chain is refused with
 abbrev pub IsChainRefusal : VolumeError → Type 0
@@ -40,12 +41,12 @@ abbrev pub IsIn : List SpecMasterEntry → ℕ → List SpecFileEntry → SavedF
 IsIn directories ppn names file = (find nat_cmp file.stored.prime.ppn directories ≡ None → ⊥)
     ⊎ ((file.stored.prime.ppn ≡ ppn) × (find name_cmp file.stored.prime.file names ≡ None → ⊥))
 
--- The file of this entry is among these, or a finding costs it.
+-- The file of this entry is among these, or its retrieval blocks are bad, as was found.
 abbrev pub IsToldFile : List SavedFile → List Finding → ℕ → SpecFileEntry → Type 0
 IsToldFile files findings ppn entry = IsAmong files (place_of ppn entry.0) entry.1
-    ⊎ IsLostBy findings (cost.File ppn entry.0)
+    ⊎ IsUnread findings ppn entry.0
 
--- Each file of the directory of this entry, as far as its chain is walked, is among these, or a finding costs it or the
+-- Each file of the directory of this entry, as far as its chain is walked, is among these, or a finding costs it or its
 -- directory.
 abbrev pub IsToldDirectory : Contents → List SavedFile → List Finding → SpecMasterEntry → Type 0
 IsToldDirectory contents files findings entry = (nodes : List (Node SpecFileEntry)) (last : ℕ)

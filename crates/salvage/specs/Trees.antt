@@ -1,13 +1,16 @@
--- The steps of a survey: what directories name, what else is on the disk, and which of these files are taken.
-use Rattle.std.specs.Prelude.{◌≡◌, ◌⊎◌, ℕ, ◌≤◌, List, ◌++◌, Contains}
+-- The steps of a survey: what directories name, what else is on the disk, and which of these files are in their place.
+use Rattle.std.specs.Prelude.{◌≡◌, ◌⊎◌, ℕ, ◌≤◌, List, [], ◌++◌, Bool, Contains}
 use Rattle.std.specs.List.{AllByRecursion}
 use Rattle.words36.specs.declared.names.FileName.{FileName}
 use Rattle.blockdisk.specs.Common.{Contents}
 use Rattle.spec_image.specs.Common.{InSpace, place_of, IsFileNamed}
+use Rattle.salvage.specs.Chains.{AreChains}
 use Rattle.salvage.specs.Findings.{IsFinding}
-use Rattle.salvage.specs.Saved.{AreApart, IsAmong, IsNamedRead, IsRead, IsWholeFile, claims, place_in}
-use Rattle.salvage.specs.Surveys.{IsLostBy, IsNamedLoss, MayBeUsed}
+use Rattle.salvage.specs.FreeBlocks.{IsSearched}
+use Rattle.salvage.specs.Saved.{AreApart, IsAmong, IsInPlace, IsNamedRead, IsPrimeAt, IsRead, IsWholeFile, claims}
+use Rattle.salvage.specs.Surveys.{AreJudgedAs, IsDirectoryLoss, IsLostBy, IsTold, IsUnread}
 use Rattle.salvage.specs.declared.saved.SavedFile.{SavedFile}
+use Rattle.salvage.specs.declared.search.Search.{Search}
 use Rattle.salvage.specs.declared.finding.Finding.{Finding}
 use Rattle.salvage.specs.declared.finding.Cost.TheVariants as cost
 
@@ -18,16 +21,23 @@ pub record IsTree (size layout : ℕ) (contents : Contents) (files : List SavedF
   pub apart : AreApart files
   pub stand : AllByRecursion (IsFinding size layout contents) findings
   pub named : (ppn : ℕ) (name : FileName) (prime : ℕ) → IsFileNamed size contents layout (place_of ppn name) prime
-      → IsAmong files (place_of ppn name) prime ⊎ IsNamedLoss findings ppn name
+      → IsAmong files (place_of ppn name) prime ⊎ (IsUnread findings ppn name ⊎ IsDirectoryLoss findings ppn)
 
--- What else is at a block that may be in use, and that is in none of these files.
-pub record IsScanned (size layout : ℕ) (contents : Contents) (named unnamed : List SavedFile) : Type 0 where
+-- The blocks of chains are marked, if any file was read.
+abbrev pub AreMarked : ℕ → ℕ → Contents → List SavedFile → List Bool → List Bool → Type 0
+AreMarked size layout contents files master directories =
+    (files ≡ []) ⊎ AreChains size layout contents master directories
+
+-- What else is at a block that is searched, and that is in none of these files.
+pub record IsScanned (size layout : ℕ) (contents : Contents) (search : Search) (named unnamed : List SavedFile)
+    (findings : List Finding) : Type 0 where
   pub read : AllByRecursion (IsRead size layout contents) unnamed
   pub apart : AreApart unnamed
-  pub elsewhere : AllByRecursion (λ file. claims named file.at ≡ 0) unnamed
-  pub used : AllByRecursion (λ file. MayBeUsed size contents file.at) unnamed
-  pub all : (file : SavedFile) → InSpace size file.at → IsRead size layout contents file
-      → MayBeUsed size contents file.at → claims named file.at ≡ 0 → IsAmong unnamed (place_in file) file.at
+  pub at : AllByRecursion (λ file. InSpace size file.at × IsSearched search size contents file.at
+      × (claims named file.at ≡ 0)) unnamed
+  pub all : (prime ppn : ℕ) (name : FileName) → InSpace size prime → IsSearched search size contents prime
+      → claims named prime ≡ 0 → IsPrimeAt layout contents prime (place_of ppn name)
+      → IsAmong unnamed (place_of ppn name) prime ⊎ IsLostBy findings (cost.Unnamed ppn name prime)
 
 -- Findings were added, and each of these faults is there.
 pub record AreAdded (size layout : ℕ) (contents : Contents) (old new : List Finding) : Type 0 where
@@ -35,14 +45,20 @@ pub record AreAdded (size layout : ℕ) (contents : Contents) (old new : List Fi
   pub new_is : new ≡ old ++ added
   pub stand : AllByRecursion (IsFinding size layout contents) added
 
--- Those of these files that are whole and share no block with another were taken, and no others: with another of those
--- that directories name, or, for one that none names, with any.
-pub record AreTaken (size layout : ℕ) (contents : Contents) (named unnamed files : List SavedFile)
+-- Of these files that directories name, the ones in their place were taken, and the other whole ones are doubtful.
+pub record ArePlaced (size layout : ℕ) (contents : Contents) (named files doubtful : List SavedFile)
+    (findings : List Finding) : Type 0 where
+  pub judged : AreJudgedAs contents files doubtful findings named
+  pub placed : AllByRecursion (IsInPlace size layout contents named) files
+  pub once : (n : ℕ) → claims files n ≤ 1
+  pub doubted : AllByRecursion (λ file. Contains named file × IsWholeFile size layout contents file
+      × IsTold findings file) doubtful
+
+-- Of these files that no directory names, the whole ones were taken.
+pub record AreTaken (size layout : ℕ) (contents : Contents) (unnamed files : List SavedFile)
     (findings : List Finding) : Type 0 where
   pub whole : AllByRecursion (IsWholeFile size layout contents) files
-  pub once : (n : ℕ) → claims files n ≤ 1
-  pub only : AllByRecursion (λ file. Contains named file ⊎ Contains unnamed file) files
-  pub named_ones : (file : SavedFile) → Contains named file → Contains files file
-      ⊎ IsLostBy findings (cost.File file.stored.prime.ppn file.stored.prime.file)
-  pub unnamed_ones : (file : SavedFile) → Contains unnamed file → Contains files file
-      ⊎ IsLostBy findings (cost.Unnamed file.stored.prime.ppn file.stored.prime.file)
+  pub only : AllByRecursion (Contains unnamed) files
+  pub apart : AreApart files
+  pub each : (file : SavedFile) → Contains unnamed file → Contains files file
+      ⊎ IsLostBy findings (cost.Unnamed file.stored.prime.ppn file.stored.prime.file file.at)

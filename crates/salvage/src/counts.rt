@@ -3,11 +3,13 @@ ghost use Rattle.std.specs.Prelude.{◌≡◌, ◌+◌, ◌<◌, ◌∷◌, ℕ,
 ghost use Rattle.std.specs.Prelude.{IfNone};
 ghost use Rattle.std.specs.List.{AllByRecursion};
 ghost use Rattle.spec_image.specs.Common.{times};
+ghost use Rattle.alloctab.specs.Common.{digit_at};
 ghost use Rattle.salvage.specs.BlockCounts.{CountTo};
 ghost use Rattle.salvage.specs.Saved.{FitsDisk, blocks_of, claims};
 ghost use Rattle.salvage.specs.declared.error.SalvageError.TheVariants.{NoMemory};
 
 use crate::{SalvageError, SavedFile};
+use alloctab::Reached;
 use retrieval::Version;
 use std::alloc::Global;
 use std::marker::Model;
@@ -19,11 +21,13 @@ pub struct Counts {
 }
 
 impl Model for Counts {
-    ghost use Rattle.std.specs.Prelude.{ℕ, List};
+    ghost use Rattle.std.specs.Prelude.{ℕ, ◌^◌, ◌<◌, List, length};
 
     ghost Value = { List ℕ };
 
     ghost view = { λ c. c.counts.items };
+
+    ghost invariant = { λ c. length c.counts.items < 2 ^ 32 };
 }
 
 impl Counts {
@@ -102,6 +106,19 @@ impl Counts {
     {
         for file in files {
             self.count_file(file);
+        }
+    }
+
+    /// Counts the blocks that are marked.
+    pub fn count_marked(&mut self, marks: &Reached)
+        requires { length marks.now ≡ length self.old }
+        ensures counted { (f : ℕ → ℕ) → CountTo self.old f → CountTo self.new (λ m. f m + digit_at marks.now m) }
+        ensures length { length self.new ≡ length self.old }
+    {
+        for n in 0..self.counts.len() as u32 {
+            if marks.is_marked(n) {
+                self.count(n);
+            }
         }
     }
 

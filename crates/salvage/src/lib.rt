@@ -2,22 +2,27 @@
 //!
 //! 1. `Copied::of` copies a disk into memory, and makes the pending puts of its log in the copy: it is as a start would
 //!    find it. A block that can't be read is damaged in the copy. (`copied`, `reads`, `failures`)
-//! 2. `survey_disk` finds the files that are whole: their retrieval blocks are valid, none of their data blocks is
-//!    damaged, and no block is in two of them. Each fault that it reports is there, and costs what is reported. A
-//!    file that a directory names is found, or a fault costs it; so is one that no directory names, if its prime block
-//!    may be in use. (`surveyed`)
-//! 3. Each file of contents that stand for files is found, with its words and attributes. (`found`)
+//! 2. `survey_disk` finds the files that are whole: their retrieval blocks are valid, and none of their data blocks is
+//!    damaged. A file that a directory names is in its place if no block of it is in another one, in a chain, or free
+//!    by the allocation table; otherwise it is doubtful, and the reason is reported. Other prime blocks are searched
+//!    for: each is that of a file that is found, or what is wrong with it is reported. Each fault that is reported is
+//!    there, and costs what is reported. (`surveyed`)
+//! 3. Of contents that stand for files exactly these are found in their place, with their words and attributes.
+//!    (`found`)
 //! 4. `read_words` returns the words of a file that was found. (`words`)
 //! 5. `Device` comes exactly with one more failure of the disk, on every disk. (`failed`, `served`)
 #![tactic(auto)]
 
+mod chains;
 mod copied;
 mod counts;
 mod error;
 mod finding;
+mod free;
 mod lists;
 mod saved;
 mod scan;
+mod search;
 mod survey;
 mod take;
 mod tree;
@@ -25,7 +30,8 @@ mod words;
 
 pub use copied::Copied;
 pub use error::SalvageError;
-pub use finding::{Cost, Finding};
+pub use finding::{Cost, Defect, Finding};
 pub use saved::SavedFile;
+pub use search::Search;
 pub use survey::{Survey, survey_disk};
 pub use words::read_words;

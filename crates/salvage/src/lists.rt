@@ -2,8 +2,7 @@
 ghost use Rattle.std.specs.Prelude.{◌≡◌, ◌++◌, ◌∷◌, [], IfErr, OnOk};
 ghost use Rattle.salvage.specs.declared.error.SalvageError.TheVariants.{NoMemory};
 
-use crate::{Cost, Finding, SalvageError, SavedFile};
-use volume::VolumeError;
+use crate::{Cost, Defect, Finding, SalvageError, SavedFile};
 
 /// Adds a file after the others.
 ///
@@ -27,7 +26,7 @@ pub fn push_file(files: &mut Vec<SavedFile>, file: SavedFile) -> Result<(), Salv
 /// `NoMemory` if there is no memory for it.
 pub fn push_finding(
     findings: &mut Vec<Finding>,
-    fault: VolumeError,
+    fault: Defect,
     costs: Cost,
 ) -> Result<(), SalvageError>
     ensures told { OnOk result (findings.new.items

@@ -1,83 +1,91 @@
 //! The search for the prime blocks of files that no directory names.
-ghost use Rattle.std.specs.Prelude.{◌≡◌, ◌↔◌, ◌+◌, ◌<◌, ℕ, IfOk, IsErrOf, IsTrue, OnOk, length};
+ghost use Rattle.std.specs.Prelude.{◌≡◌, ◌↔◌, ◌+◌, ◌<◌, ℕ, List, IfOk, IsErrOf, IsTrue, OnOk, length};
 ghost use Rattle.std.specs.List.{AllByRecursion};
 ghost use Rattle.blockdisk.specs.Common.{SameDisk, one_more};
 ghost use Rattle.changeset.specs.Common.{OnlyReads};
-ghost use Rattle.spec_image.specs.Common.{InSpace, layout_number, IsVolumeSize};
-ghost use Rattle.salvage.specs.Common.{AreFound, IsCandidate, IsReadAt, IsTableRead, IsUnheld, FitsDisk, AreAdded};
-ghost use Rattle.salvage.specs.Common.{IsScanned};
+ghost use Rattle.spec_image.specs.Common.{InSpace, IsBadVersion, layout_number, IsVolumeSize};
+ghost use Rattle.salvage.specs.Common.{AreAdded, AreFound, AreFree, FitsDisk, IsCandidate, IsReadAt};
+ghost use Rattle.salvage.specs.Common.{IsReported, IsScanned, IsWanted};
 ghost use Rattle.salvage.specs.declared.error.SalvageError.TheVariants.{Device, NotVolume};
 
 use crate::counts::Counts;
 use crate::lists::{push_file, push_finding};
-use crate::{Cost, Finding, SalvageError, SavedFile};
-use alloctab::{Table, TableError};
-use blockdisk::Disk;
-use retrieval::{RetrievalError, read_version};
+use crate::{Cost, Defect, Finding, SalvageError, SavedFile, Search};
+use alloctab::Reached;
+use blockdisk::{Disk, Fault};
+use retrieval::{RetrievalError, parse_prime, read_version};
 use spec_image::layout::{Layout, space_start};
 use std::alloc::Global;
 use volume::{LoadedVersion, VolumeError};
 
-/// Reads the allocation table. If a block of it is bad, that is reported, and there is no table.
-fn load_table<D: Disk>(
-    alloc: Global,
+/// Returns whether a search checks a block, if these are free.
+fn is_wanted(search: Search, free: &Reached, n: u32) -> bool
+    requires { n < length free.now }
+    ensures { IsTrue result ↔ IsWanted search free.now n }
+{
+    match search {
+        Search::Named => false,
+        Search::Used => !free.is_marked(n),
+        Search::Every => true,
+    }
+}
+
+/// Returns whether a search checks a block, and it was never counted.
+fn is_candidate(search: Search, free: &Reached, counts: &Counts, n: u32) -> bool
+    requires inside { n < length counts.now }
+    requires long { length free.now ≡ length counts.now }
+    ensures { IsTrue result ↔ IsCandidate search free.now counts.now n }
+{
+    counts.of(n) == 0 && is_wanted(search, free, n)
+}
+
+/// Reports that a retrieval block of the version at this prime block is bad, if it is a prime block.
+fn report_prime<D: Disk>(
     disk: &mut D,
+    layout: Layout,
+    n: u32,
+    bad: u32,
     findings: &mut Vec<Finding>,
-) -> Result<Option<Table>, SalvageError>
-    requires { IsVolumeSize (D.state disk.old).size }
-    ensures read { (D.state disk.new).honest
-        → IfOk result (IsTableRead (D.state disk.old).size (D.state disk.old).contents) }
-    ensures unheld { IfOk result (IsUnheld (D.state disk.old).size) }
-    ensures added { (D.state disk.new).honest → (layout : ℕ)
-        → IfOk result (λ table. AreAdded (D.state disk.old).size layout
-        (D.state disk.old).contents findings.old.items findings.new.items) }
+) -> Result<(), SalvageError>
+    requires inside { InSpace (D.state disk.old).size n }
+    ensures reported { (D.state disk.new).honest
+        → IsBadVersion (D.state disk.old).size (D.state disk.old).contents (layout_number layout) n bad
+        → OnOk result (IsReported (D.state disk.old).size (layout_number layout) (D.state disk.old).contents n
+        findings.old.items findings.new.items) }
     ensures range { IsErrOf result NotVolume → ⊥ }
     ensures reads { (D.state disk.new).honest → OnlyReads (D.state disk.old) (D.state disk.new) }
     ensures same { SameDisk (D.state disk.old) (D.state disk.new) }
     ensures failed { IsErrOf result Device → (D.state disk.new).failures ≡ one_more (D.state disk.old).failures }
     ensures served { (IsErrOf result Device → ⊥) → (D.state disk.new).failures ≡ (D.state disk.old).failures }
 {
-    match Table::load(alloc, disk) {
-        Ok(table) => Ok(Some(table)),
-        Err(TableError::TableWrong(block)) => {
-            match push_finding(findings, VolumeError::TableWrong(block), Cost::Nothing) {
-                Ok(()) => Ok(None),
-                Err(error) => Err(error),
-            }
-        }
-        Err(TableError::Device) => Err(SalvageError::Device),
-        Err(TableError::NoMemory) => Err(SalvageError::NoMemory),
-    }
+    let block = match disk.read(n) {
+        Ok(block) => block,
+        Err(Fault::Damaged) => return Ok(()),
+        Err(Fault::Device) => return Err(SalvageError::Device),
+    };
+    let Some(head) = parse_prime(&block, layout) else {
+        return Ok(());
+    };
+    let fault = Defect::Start(VolumeError::BadRetrieval(bad));
+    let costs = Cost::Unnamed(head.prime.ppn, head.prime.file, n);
+    push_finding(findings, fault, costs)
 }
 
-/// Returns whether a block may be in use and was never counted.
-fn is_candidate(table: &Option<Table>, counts: &Counts, n: u32) -> bool
-    requires inside { n < length counts.now }
-    requires unheld { IsUnheld (length counts.now) table.now }
-    ensures { IsTrue result ↔ IsCandidate table.now counts.now n }
-{
-    if counts.of(n) != 0 {
-        return false;
-    }
-    match table {
-        Some(table) => !table.is_free(n),
-        None => true,
-    }
-}
-
-/// Reads the version whose prime block this is, if it is one, and adds it after the others.
+/// Reads the version whose prime block this is, and adds it after the others, or what is wrong with it after the
+/// findings.
 fn read_at<D: Disk>(
     alloc: Global,
     disk: &mut D,
     layout: Layout,
     n: u32,
     files: &mut Vec<SavedFile>,
+    findings: &mut Vec<Finding>,
 ) -> Result<(), SalvageError>
     requires volume { IsVolumeSize (D.state disk.old).size }
     requires inside { InSpace (D.state disk.old).size n }
     ensures found { (D.state disk.new).honest
         → OnOk result (IsReadAt (D.state disk.old).size (layout_number layout) (D.state disk.old).contents n
-        files.old.items files.new.items) }
+        files.old.items files.new.items findings.old.items findings.new.items) }
     ensures fits { AllByRecursion (FitsDisk (D.state disk.old).size) files.old.items
         → OnOk result (AllByRecursion (FitsDisk (D.state disk.old).size) files.new.items) }
     ensures range { IsErrOf result NotVolume → ⊥ }
@@ -91,33 +99,41 @@ fn read_at<D: Disk>(
             let stored = LoadedVersion { prime, version };
             push_file(files, SavedFile { at: n, stored })
         }
-        Err(RetrievalError::BadRetrieval(_)) => Ok(()),
+        Err(RetrievalError::BadRetrieval(bad)) => report_prime(disk, layout, n, bad, findings),
         Err(RetrievalError::Device) => Err(SalvageError::Device),
         Err(RetrievalError::NoMemory) => Err(SalvageError::NoMemory),
     }
 }
 
-/// Checks a block: if it may be in use and was never counted, the version whose prime block it is, if any, is added
-/// after the others.
+/// What is searched: which blocks, in which layout, and how often each block is in a file that a directory names.
+#[derive(Clone, Copy)]
+struct Searched<'a> {
+    search: Search,
+    layout: Layout,
+    free: &'a Reached,
+    counts: &'a Counts,
+}
+
+/// Checks a block: if it is searched and was never counted, the version whose prime block it is, if any, is added after
+/// the others, or what is wrong with it after the findings.
 fn look_at<D: Disk>(
     alloc: Global,
     disk: &mut D,
-    layout: Layout,
-    counts: &Counts,
-    table: &Option<Table>,
+    searched: &Searched<'_>,
     n: u32,
     files: &mut Vec<SavedFile>,
+    findings: &mut Vec<Finding>,
 ) -> Result<(), SalvageError>
     requires volume { IsVolumeSize (D.state disk.old).size }
     requires inside { InSpace (D.state disk.old).size n }
-    requires long { length counts.now ≡ (D.state disk.old).size }
-    requires unheld { IsUnheld (D.state disk.old).size table.now }
-    ensures found { (D.state disk.new).honest
-        → IsTableRead (D.state disk.old).size (D.state disk.old).contents table.now
-        → AreFound (D.state disk.old).size (layout_number layout) (D.state disk.old).contents counts.now
-        files.old.items n
-        → OnOk result (AreFound (D.state disk.old).size (layout_number layout) (D.state disk.old).contents counts.now
-        files.new.items (n + 1)) }
+    requires long { length searched.now.counts.now ≡ (D.state disk.old).size }
+    requires free { length searched.now.free.now ≡ (D.state disk.old).size }
+    ensures found { (D.state disk.new).honest → (begun : List Finding)
+        → AreFree (D.state disk.old).size (D.state disk.old).contents searched.now.free.now
+        → AreFound (D.state disk.old).size (layout_number searched.now.layout) (D.state disk.old).contents
+        searched.now.search searched.now.counts.now files.old.items begun findings.old.items n
+        → OnOk result (AreFound (D.state disk.old).size (layout_number searched.now.layout) (D.state disk.old).contents
+        searched.now.search searched.now.counts.now files.new.items begun findings.new.items (n + 1)) }
     ensures fits { AllByRecursion (FitsDisk (D.state disk.old).size) files.old.items
         → OnOk result (AllByRecursion (FitsDisk (D.state disk.old).size) files.new.items) }
     ensures range { IsErrOf result NotVolume → ⊥ }
@@ -126,27 +142,27 @@ fn look_at<D: Disk>(
     ensures failed { IsErrOf result Device → (D.state disk.new).failures ≡ one_more (D.state disk.old).failures }
     ensures served { (IsErrOf result Device → ⊥) → (D.state disk.new).failures ≡ (D.state disk.old).failures }
 {
-    if !is_candidate(table, counts, n) {
+    if !is_candidate(searched.search, searched.free, searched.counts, n) {
         return Ok(());
     }
-    read_at(alloc, disk, layout, n, files)
+    read_at(alloc, disk, searched.layout, n, files, findings)
 }
 
-/// Checks each block of the free space that may be in use and was never counted, and returns the versions found.
+/// Checks each block of the free space that is searched and was never counted, and returns the versions found.
 fn look_through<D: Disk>(
     alloc: Global,
     disk: &mut D,
-    layout: Layout,
-    counts: &Counts,
-    table: &Option<Table>,
+    searched: &Searched<'_>,
+    findings: &mut Vec<Finding>,
 ) -> Result<Vec<SavedFile>, SalvageError>
     requires volume { IsVolumeSize (D.state disk.old).size }
-    requires long { length counts.now ≡ (D.state disk.old).size }
-    requires unheld { IsUnheld (D.state disk.old).size table.now }
+    requires long { length searched.now.counts.now ≡ (D.state disk.old).size }
+    requires free { length searched.now.free.now ≡ (D.state disk.old).size }
     ensures found { (D.state disk.new).honest
-        → IsTableRead (D.state disk.old).size (D.state disk.old).contents table.now
-        → IfOk result (λ files. AreFound (D.state disk.old).size (layout_number layout) (D.state disk.old).contents
-        counts.now files.items (D.state disk.old).size) }
+        → AreFree (D.state disk.old).size (D.state disk.old).contents searched.now.free.now
+        → IfOk result (λ files. AreFound (D.state disk.old).size (layout_number searched.now.layout)
+        (D.state disk.old).contents searched.now.search searched.now.counts.now files.items findings.old.items
+        findings.new.items (D.state disk.old).size) }
     ensures fits { IfOk result (λ files. AllByRecursion (FitsDisk (D.state disk.old).size) files.items) }
     ensures range { IsErrOf result NotVolume → ⊥ }
     ensures reads { (D.state disk.new).honest → OnlyReads (D.state disk.old) (D.state disk.new) }
@@ -157,14 +173,13 @@ fn look_through<D: Disk>(
     let size = disk.blocks();
     let mut files = Vec::new(alloc);
     for n in space_start(size)..size {
-        look_at(alloc, disk, layout, counts, table, n, &mut files)?;
+        look_at(alloc, disk, searched, n, &mut files, findings)?;
     }
     Ok(files)
 }
 
-/// Checks each block of the free space that may be in use, and that is in none of these files, for a prime block
-/// whose retrieval blocks are whole. If a block of the allocation table is bad, that is reported, and each block may be
-/// in use.
+/// Checks each block of the free space that is searched, and that is in none of these files, for a prime block, and
+/// returns the files whose retrieval blocks are whole. What is wrong with another one is reported.
 ///
 /// # Errors
 ///
@@ -172,16 +187,21 @@ fn look_through<D: Disk>(
 pub fn scan<D: Disk>(
     alloc: Global,
     disk: &mut D,
+    search: Search,
     layout: Layout,
     named: &[SavedFile],
+    free: &Reached,
     findings: &mut Vec<Finding>,
 ) -> Result<Vec<SavedFile>, SalvageError>
     requires volume { IsVolumeSize (D.state disk.old).size }
     requires named { AllByRecursion (FitsDisk (D.state disk.old).size) named.now }
+    requires free { length free.now ≡ (D.state disk.old).size }
     ensures scanned { (D.state disk.new).honest
+        → AreFree (D.state disk.old).size (D.state disk.old).contents free.now
         → IfOk result (λ unnamed. IsScanned (D.state disk.old).size (layout_number layout)
-        (D.state disk.old).contents named.now unnamed.items) }
+        (D.state disk.old).contents search named.now unnamed.items findings.new.items) }
     ensures added { (D.state disk.new).honest
+        → AreFree (D.state disk.old).size (D.state disk.old).contents free.now
         → IfOk result (λ unnamed. AreAdded (D.state disk.old).size (layout_number layout)
         (D.state disk.old).contents findings.old.items findings.new.items) }
     ensures fits { IfOk result (λ unnamed. AllByRecursion (FitsDisk (D.state disk.old).size) unnamed.items) }
@@ -194,6 +214,11 @@ pub fn scan<D: Disk>(
     let size = disk.blocks();
     let mut counts = Counts::new(alloc, size)?;
     counts.count_files(named);
-    let table = load_table(alloc, disk, findings)?;
-    look_through(alloc, disk, layout, &counts, &table)
+    let searched = Searched {
+        search,
+        layout,
+        free,
+        counts: &counts,
+    };
+    look_through(alloc, disk, &searched, findings)
 }

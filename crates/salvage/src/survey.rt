@@ -4,16 +4,17 @@ ghost use Rattle.std.specs.List.{AllByRecursion};
 ghost use Rattle.blockdisk.specs.Common.{SameDisk, one_more};
 ghost use Rattle.changeset.specs.Common.{OnlyReads};
 ghost use Rattle.spec_image.specs.Common.{File, Files, SpecHome, IsHome, layout_number, IsVolumeSize, SettledStands};
-ghost use Rattle.salvage.specs.Common.{FitsDisk, AreAdded, AreAllSaved, IsSurveyed};
+ghost use Rattle.salvage.specs.Common.{FitsDisk, AreAdded, AreTheFiles, IsSurveyed};
 ghost use Rattle.salvage.specs.declared.error.SalvageError.TheVariants.{Device, NotVolume};
 ghost use Rattle.volume.specs.declared.error.VolumeError.TheVariants.{Device as VolumeDevice};
 ghost use Rattle.volume.specs.declared.error.VolumeError.TheVariants.{NoMemory as VolumeNoMemory};
 
+use crate::free::find_free;
 use crate::lists::push_finding;
 use crate::scan::scan;
-use crate::take::take;
+use crate::take::{take_named, take_unnamed};
 use crate::tree::{Tree, read_tree};
-use crate::{Cost, Finding, SalvageError, SavedFile};
+use crate::{Cost, Defect, Finding, SalvageError, SavedFile, Search};
 use blockdisk::Disk;
 use spec_image::layout::{Layout, is_volume_size};
 use std::alloc::Global;
@@ -24,8 +25,13 @@ use volume::{VolumeError, read_map};
 pub struct Survey {
     /// The layout in which the disk was read: that of its home copy, or layout 2 if neither copy is valid.
     pub layout: Layout,
-    /// The files that are whole, each block in one of them: first those that directories name.
+    /// The files that are whole and in their place: a directory names each, and no block of one is in another file
+    /// that a directory names, in a chain, or free.
     pub files: Vec<SavedFile>,
+    /// The files that a directory names and that are whole, but with a block that may not be theirs.
+    pub doubtful: Vec<SavedFile>,
+    /// The whole files that no directory names. A block may be in several of them, and in the files before.
+    pub unnamed: Vec<SavedFile>,
     /// What is wrong, and what it costs.
     pub findings: Vec<Finding>,
 }
@@ -70,17 +76,22 @@ fn confirm<D: Disk>(
         Ok(_map) => Ok(()),
         Err(error) => {
             let fault = fault_of(error)?;
-            push_finding(findings, fault, Cost::Nothing)
+            push_finding(findings, Defect::Start(fault), Cost::Nothing)
         }
     }
 }
 
 /// Finds the files of a volume that are whole.
-fn survey_volume<D: Disk>(alloc: Global, disk: &mut D) -> Result<Survey, SalvageError>
+fn survey_volume<D: Disk>(
+    alloc: Global,
+    disk: &mut D,
+    search: Search,
+) -> Result<Survey, SalvageError>
     requires { IsVolumeSize (D.state disk.old).size }
     ensures surveyed { (D.state disk.new).honest
         → IfOk result (λ survey. IsSurveyed (D.state disk.old).size (layout_number survey.layout)
-        (D.state disk.old).contents survey.files.items survey.findings.items) }
+        (D.state disk.old).contents search survey.files.items survey.doubtful.items survey.unnamed.items
+        survey.findings.items) }
     ensures silent { (D.state disk.new).honest
         → IfOk result (λ survey. survey.findings.items ≡ [] → (files : Files File)
         × SettledStands (D.state disk.old).size (D.state disk.old).contents files) }
@@ -90,7 +101,9 @@ fn survey_volume<D: Disk>(alloc: Global, disk: &mut D) -> Result<Survey, Salvage
     ensures no_layout { (D.state disk.new).honest
         → ((home : SpecHome) → IsHome (D.state disk.old).size (D.state disk.old).contents home → ⊥)
         → IfOk result (λ survey. layout_number survey.layout ≡ 2) }
-    ensures fits { IfOk result (λ survey. AllByRecursion (FitsDisk (D.state disk.old).size) survey.files.items) }
+    ensures fits { IfOk result (λ survey. AllByRecursion (FitsDisk (D.state disk.old).size) survey.files.items
+        × AllByRecursion (FitsDisk (D.state disk.old).size) survey.doubtful.items
+        × AllByRecursion (FitsDisk (D.state disk.old).size) survey.unnamed.items) }
     ensures range { IsErrOf result NotVolume → ⊥ }
     ensures reads { (D.state disk.new).honest → OnlyReads (D.state disk.old) (D.state disk.new) }
     ensures same { SameDisk (D.state disk.old) (D.state disk.new) }
@@ -102,32 +115,51 @@ fn survey_volume<D: Disk>(alloc: Global, disk: &mut D) -> Result<Survey, Salvage
         layout,
         files: named,
         mut findings,
+        chains,
     } = tree;
-    let unnamed = scan(alloc, disk, layout, named.as_slice(), &mut findings)?;
-    let files = take(alloc, disk, named, unnamed, &mut findings)?;
+    let free = find_free(alloc, disk, &mut findings)?;
+    let found = scan(
+        alloc,
+        disk,
+        search,
+        layout,
+        named.as_slice(),
+        &free,
+        &mut findings,
+    )?;
+    let taken = take_named(alloc, disk, named, &chains, &free, &mut findings)?;
+    let unnamed = take_unnamed(alloc, disk, found, &free, &mut findings)?;
     confirm(alloc, disk, &mut findings)?;
     Ok(Survey {
         layout,
-        files,
+        files: taken.files,
+        doubtful: taken.doubtful,
+        unnamed,
         findings,
     })
 }
 
 /// Finds the files of a disk that are whole, whatever else is wrong with it. Nothing is written. The contents are taken
 /// as they are: for a disk whose gate may be open, `Copied` has them as a start would find them. Nothing is reported
-/// only of a disk that a start accepts.
+/// only of a disk that a start accepts, and then the files in their place are exactly its files.
 ///
 /// # Errors
 ///
 /// `NotVolume` if the disk has a number of blocks that no volume has, with nothing read; `Device` if the device failed;
 /// `NoMemory` if a growth was refused.
-pub fn survey_disk<D: Disk>(alloc: Global, disk: &mut D) -> Result<Survey, SalvageError>
+pub fn survey_disk<D: Disk>(
+    alloc: Global,
+    disk: &mut D,
+    search: Search,
+) -> Result<Survey, SalvageError>
     ensures surveyed { (D.state disk.new).honest
         → IfOk result (λ survey. IsSurveyed (D.state disk.old).size (layout_number survey.layout)
-        (D.state disk.old).contents survey.files.items survey.findings.items) }
+        (D.state disk.old).contents search survey.files.items survey.doubtful.items survey.unnamed.items
+        survey.findings.items) }
     ensures found { (D.state disk.new).honest → (files : Files File)
         → SettledStands (D.state disk.old).size (D.state disk.old).contents files
-        → IfOk result (λ survey. AreAllSaved (D.state disk.old).contents survey.files.items files) }
+        → IfOk result (λ survey. AreTheFiles (D.state disk.old).contents survey.files.items files
+        × (survey.doubtful.items ≡ [])) }
     // Nothing is reported only of a disk that stands for files.
     ensures silent { (D.state disk.new).honest
         → IfOk result (λ survey. survey.findings.items ≡ [] → (files : Files File)
@@ -140,7 +172,9 @@ pub fn survey_disk<D: Disk>(alloc: Global, disk: &mut D) -> Result<Survey, Salva
         → ((home : SpecHome) → IsHome (D.state disk.old).size (D.state disk.old).contents home → ⊥)
         → IfOk result (λ survey. layout_number survey.layout ≡ 2) }
     // On every disk what is found fits it.
-    ensures fits { IfOk result (λ survey. AllByRecursion (FitsDisk (D.state disk.old).size) survey.files.items) }
+    ensures fits { IfOk result (λ survey. AllByRecursion (FitsDisk (D.state disk.old).size) survey.files.items
+        × AllByRecursion (FitsDisk (D.state disk.old).size) survey.doubtful.items
+        × AllByRecursion (FitsDisk (D.state disk.old).size) survey.unnamed.items) }
     ensures range { IsErrOf result NotVolume ↔ (IsVolumeSize (D.state disk.old).size → ⊥) }
     ensures untouched { IsErrOf result NotVolume → disk.new ≡ disk.old }
     ensures reads { (D.state disk.new).honest → OnlyReads (D.state disk.old) (D.state disk.new) }
@@ -151,5 +185,5 @@ pub fn survey_disk<D: Disk>(alloc: Global, disk: &mut D) -> Result<Survey, Salva
     if !is_volume_size(disk.blocks()) {
         return Err(SalvageError::NotVolume);
     }
-    survey_volume(alloc, disk)
+    survey_volume(alloc, disk, search)
 }

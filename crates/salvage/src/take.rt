@@ -1,47 +1,90 @@
-//! The choice of the files that are whole.
-ghost use Rattle.std.specs.Prelude.{◌≡◌, ◌++◌, ◌∷◌, ℕ, [], IfOk, IfSome, IfNone, IsErrOf, OnOk, length};
+//! The choice of the files that are whole, and of those that are in their place.
+ghost use Rattle.std.specs.Prelude.{◌≡◌, ◌∷◌, ℕ, [], IfOk, IfSome, IfNone, IsErrOf, OnOk, length};
 ghost use Rattle.std.specs.List.{AllByRecursion};
 ghost use Rattle.blockdisk.specs.Common.{SameDisk, one_more};
 ghost use Rattle.changeset.specs.Common.{OnlyReads};
 ghost use Rattle.spec_image.specs.Common.{IsVolumeSize};
-ghost use Rattle.salvage.specs.Common.{AreApart, FitsDisk, IsNamedRead, IsRead, IsBlamed, IsSound, Judges, loss_of};
-ghost use Rattle.salvage.specs.Common.{AreAdded, AreTaken};
+ghost use Rattle.salvage.specs.Common.{AreAdded, AreApart, AreFree, AreMarked, ArePlaced, AreTaken, CountTo};
+ghost use Rattle.salvage.specs.Common.{FitsDisk, IsAlone, IsDoubted, IsNamedRead, IsRead, IsVerdict, Judges};
+ghost use Rattle.salvage.specs.Common.{loss_of, uses};
 ghost use Rattle.salvage.specs.declared.error.SalvageError.TheVariants.{Device, NotVolume};
 
+use crate::chains::Chains;
 use crate::counts::Counts;
 use crate::lists::{push_file, push_finding};
-use crate::{Cost, Finding, SalvageError, SavedFile};
+use crate::{Cost, Defect, Finding, SalvageError, SavedFile};
+use alloctab::Reached;
 use blockdisk::Disk;
 use std::alloc::Global;
 use volume::{VolumeError, read_data};
 
-/// Returns what is wrong with the blocks of a file, if anything: one that wasn't counted exactly once, or a damaged
-/// one.
-fn find_fault<D: Disk>(
+/// What becomes of a file.
+#[derive(Clone, Copy, Debug, PartialEq, Eq)]
+enum Verdict {
+    /// It is taken.
+    Good,
+    /// It is whole, but one of its blocks may not be its own.
+    Doubtful(Defect),
+    /// One of its data blocks is damaged.
+    Spoiled(Defect),
+}
+
+/// The whole files of a survey.
+#[derive(Drop)]
+pub struct Taken {
+    /// Those that are taken.
+    pub files: Vec<SavedFile>,
+    /// Those that are doubtful.
+    pub doubtful: Vec<SavedFile>,
+}
+
+/// Returns what speaks against a file's place: a block that is free or wasn't counted exactly once.
+fn find_doubt(counts: &Counts, free: &Reached, file: &SavedFile) -> Option<Defect>
+    requires fits { FitsDisk (length counts.now) file.now }
+    requires long { length free.now ≡ length counts.now }
+    ensures alone { IfNone result (IsAlone counts.now file.now) }
+    ensures doubted { IfSome result (IsDoubted counts.now free.now file.now) }
+{
+    let block = counts.shared_block(file)?;
+    if free.is_marked(block) {
+        return Some(Defect::FreeBlock(block));
+    }
+    Some(Defect::Start(VolumeError::BlockTwice(block)))
+}
+
+/// Returns what becomes of a file. If a directory names it, it has to be in its place.
+fn judge<D: Disk>(
     disk: &mut D,
     counts: &Counts,
+    free: &Reached,
     file: &SavedFile,
-) -> Result<Option<VolumeError>, SalvageError>
+    is_named: bool,
+) -> Result<Verdict, SalvageError>
     requires volume { IsVolumeSize (D.state disk.old).size }
     requires fits { FitsDisk (D.state disk.old).size file.now }
     requires long { length counts.now ≡ (D.state disk.old).size }
-    ensures sound { (D.state disk.new).honest
-        → IfOk result (λ found. IfNone found (IsSound (D.state disk.old).contents counts.now file.now)) }
-    ensures blamed { (D.state disk.new).honest
-        → IfOk result (λ found. IfSome found (IsBlamed (D.state disk.old).contents counts.now file.now)) }
+    requires marks { length free.now ≡ (D.state disk.old).size }
+    ensures verdict { (D.state disk.new).honest
+        → IfOk result (IsVerdict (D.state disk.old).contents counts.now free.now is_named file.now) }
     ensures range { IsErrOf result NotVolume → ⊥ }
     ensures reads { (D.state disk.new).honest → OnlyReads (D.state disk.old) (D.state disk.new) }
     ensures same { SameDisk (D.state disk.old) (D.state disk.new) }
     ensures failed { IsErrOf result Device → (D.state disk.new).failures ≡ one_more (D.state disk.old).failures }
     ensures served { (IsErrOf result Device → ⊥) → (D.state disk.new).failures ≡ (D.state disk.old).failures }
 {
-    if let Some(block) = counts.shared_block(file) {
-        return Ok(Some(VolumeError::BlockTwice(block)));
-    }
     match read_data(disk, &file.stored.version) {
-        Ok(()) => Ok(None),
-        Err(VolumeError::BadData(block)) => Ok(Some(VolumeError::BadData(block))),
-        Err(_) => Err(SalvageError::Device),
+        Ok(()) => (),
+        Err(VolumeError::BadData(block)) => {
+            return Ok(Verdict::Spoiled(Defect::Start(VolumeError::BadData(block))));
+        }
+        Err(_) => return Err(SalvageError::Device),
+    }
+    if !is_named {
+        return Ok(Verdict::Good);
+    }
+    match find_doubt(counts, free, file) {
+        None => Ok(Verdict::Good),
+        Some(fault) => Ok(Verdict::Doubtful(fault)),
     }
 }
 
@@ -53,59 +96,70 @@ fn loss_of(file: &SavedFile, is_named: bool) -> Cost
     if is_named {
         return Cost::File(ppn, name);
     }
-    Cost::Unnamed(ppn, name)
+    Cost::Unnamed(ppn, name, file.at)
 }
 
-/// Takes a file if its blocks are sound; otherwise reports it.
+/// Takes a file if it is good; otherwise reports what is wrong with it.
 fn take_file<D: Disk>(
     disk: &mut D,
     counts: &Counts,
+    free: &Reached,
     file: SavedFile,
     is_named: bool,
-    files: &mut Vec<SavedFile>,
+    taken: &mut Taken,
     findings: &mut Vec<Finding>,
 ) -> Result<(), SalvageError>
     requires volume { IsVolumeSize (D.state disk.old).size }
     requires fits { FitsDisk (D.state disk.old).size file }
     requires long { length counts.now ≡ (D.state disk.old).size }
+    requires marks { length free.now ≡ (D.state disk.old).size }
     ensures judged { (D.state disk.new).honest
-        → OnOk result (Judges (D.state disk.old).contents counts.now is_named (file ∷ []) files.old.items
-        files.new.items findings.old.items findings.new.items) }
-    ensures fits { AllByRecursion (FitsDisk (D.state disk.old).size) files.old.items
-        → OnOk result (AllByRecursion (FitsDisk (D.state disk.old).size) files.new.items) }
+        → OnOk result (Judges (D.state disk.old).contents counts.now free.now is_named (file ∷ [])
+        taken.old.files.items taken.new.files.items taken.old.doubtful.items taken.new.doubtful.items
+        findings.old.items findings.new.items) }
+    ensures fits { AllByRecursion (FitsDisk (D.state disk.old).size) taken.old.files.items
+        → OnOk result (AllByRecursion (FitsDisk (D.state disk.old).size) taken.new.files.items) }
+    ensures fits_too { AllByRecursion (FitsDisk (D.state disk.old).size) taken.old.doubtful.items
+        → OnOk result (AllByRecursion (FitsDisk (D.state disk.old).size) taken.new.doubtful.items) }
     ensures range { IsErrOf result NotVolume → ⊥ }
     ensures reads { (D.state disk.new).honest → OnlyReads (D.state disk.old) (D.state disk.new) }
     ensures same { SameDisk (D.state disk.old) (D.state disk.new) }
     ensures failed { IsErrOf result Device → (D.state disk.new).failures ≡ one_more (D.state disk.old).failures }
     ensures served { (IsErrOf result Device → ⊥) → (D.state disk.new).failures ≡ (D.state disk.old).failures }
 {
-    match find_fault(disk, counts, &file) {
-        Ok(None) => push_file(files, file),
-        Ok(Some(fault)) => {
-            let costs = loss_of(&file, is_named);
-            push_finding(findings, fault, costs)
+    let costs = loss_of(&file, is_named);
+    match judge(disk, counts, free, &file, is_named)? {
+        Verdict::Good => push_file(&mut taken.files, file),
+        Verdict::Doubtful(fault) => {
+            push_finding(findings, fault, costs)?;
+            push_file(&mut taken.doubtful, file)
         }
-        Err(error) => Err(error),
+        Verdict::Spoiled(fault) => push_finding(findings, fault, costs),
     }
 }
 
-/// Takes those of these files whose blocks are sound, and reports the others.
+/// Takes those of these files that are good, and reports the others.
 fn take_each<D: Disk>(
     disk: &mut D,
     counts: &Counts,
+    free: &Reached,
     candidates: Vec<SavedFile>,
     are_named: bool,
-    files: &mut Vec<SavedFile>,
+    taken: &mut Taken,
     findings: &mut Vec<Finding>,
 ) -> Result<(), SalvageError>
     requires volume { IsVolumeSize (D.state disk.old).size }
     requires fit { AllByRecursion (FitsDisk (D.state disk.old).size) candidates.items }
     requires long { length counts.now ≡ (D.state disk.old).size }
+    requires marks { length free.now ≡ (D.state disk.old).size }
     ensures judged { (D.state disk.new).honest
-        → OnOk result (Judges (D.state disk.old).contents counts.now are_named candidates.items files.old.items
-        files.new.items findings.old.items findings.new.items) }
-    ensures fits { AllByRecursion (FitsDisk (D.state disk.old).size) files.old.items
-        → OnOk result (AllByRecursion (FitsDisk (D.state disk.old).size) files.new.items) }
+        → OnOk result (Judges (D.state disk.old).contents counts.now free.now are_named candidates.items
+        taken.old.files.items taken.new.files.items taken.old.doubtful.items taken.new.doubtful.items
+        findings.old.items findings.new.items) }
+    ensures fits { AllByRecursion (FitsDisk (D.state disk.old).size) taken.old.files.items
+        → OnOk result (AllByRecursion (FitsDisk (D.state disk.old).size) taken.new.files.items) }
+    ensures fits_too { AllByRecursion (FitsDisk (D.state disk.old).size) taken.old.doubtful.items
+        → OnOk result (AllByRecursion (FitsDisk (D.state disk.old).size) taken.new.doubtful.items) }
     ensures range { IsErrOf result NotVolume → ⊥ }
     ensures reads { (D.state disk.new).honest → OnlyReads (D.state disk.old) (D.state disk.new) }
     ensures same { SameDisk (D.state disk.old) (D.state disk.new) }
@@ -113,37 +167,113 @@ fn take_each<D: Disk>(
     ensures served { (IsErrOf result Device → ⊥) → (D.state disk.new).failures ≡ (D.state disk.old).failures }
 {
     for file in candidates {
-        take_file(disk, counts, file, are_named, files, findings)?;
+        take_file(disk, counts, free, file, are_named, taken, findings)?;
     }
     Ok(())
 }
 
-/// Takes those of these files that are whole and of which no block is in another: a file that a directory names isn't
-/// refused because of blocks that only unnamed ones claim too. Each other file is reported.
+/// Counts how often each block is in these files, in a chain, or free.
+fn count_uses(
+    alloc: Global,
+    size: u32,
+    named: &[SavedFile],
+    chains: &Chains,
+    free: &Reached,
+) -> Result<Counts, SalvageError>
+    requires fit { AllByRecursion (FitsDisk size) named.now }
+    requires master { length chains.now.master ≡ size }
+    requires directories { length chains.now.directories ≡ size }
+    requires free { length free.now ≡ size }
+    ensures counted { IfOk result (λ counts.
+        CountTo counts (uses named.now chains.now.master chains.now.directories free.now)) }
+    ensures long { IfOk result (λ counts. length counts ≡ size) }
+    ensures device { IsErrOf result Device → ⊥ }
+    ensures range { IsErrOf result NotVolume → ⊥ }
+{
+    let mut counts = Counts::new(alloc, size)?;
+    counts.count_files(named);
+    counts.count_marked(&chains.master);
+    counts.count_marked(&chains.directories);
+    counts.count_marked(free);
+    Ok(counts)
+}
+
+/// Takes those of the files that directories name that are whole and in their place: no block of one is in another, in
+/// a chain, or free. The other whole ones are doubtful. Of those that no directory names it takes the whole ones.
+/// What is wrong with a file that isn't in its place, or isn't whole, is reported.
 ///
 /// # Errors
 ///
 /// `Device` if the device failed; `NoMemory` if a growth was refused.
-pub fn take<D: Disk>(
+pub fn take_named<D: Disk>(
     alloc: Global,
     disk: &mut D,
     named: Vec<SavedFile>,
+    chains: &Chains,
+    free: &Reached,
+    findings: &mut Vec<Finding>,
+) -> Result<Taken, SalvageError>
+    requires volume { IsVolumeSize (D.state disk.old).size }
+    requires named { AllByRecursion (FitsDisk (D.state disk.old).size) named.items }
+    requires master { length chains.now.master ≡ (D.state disk.old).size }
+    requires directories { length chains.now.directories ≡ (D.state disk.old).size }
+    requires free { length free.now ≡ (D.state disk.old).size }
+    ensures placed { (D.state disk.new).honest → (layout : ℕ)
+        → AllByRecursion (IsNamedRead (D.state disk.old).size layout (D.state disk.old).contents) named.items
+        → AreApart named.items
+        → AreMarked (D.state disk.old).size layout (D.state disk.old).contents named.items
+        chains.now.master chains.now.directories
+        → AreFree (D.state disk.old).size (D.state disk.old).contents free.now
+        → IfOk result (λ taken. ArePlaced (D.state disk.old).size layout (D.state disk.old).contents named.items
+        taken.files.items taken.doubtful.items findings.new.items) }
+    ensures added { (D.state disk.new).honest → (layout : ℕ)
+        → AllByRecursion (IsNamedRead (D.state disk.old).size layout (D.state disk.old).contents) named.items
+        → AreApart named.items
+        → AreMarked (D.state disk.old).size layout (D.state disk.old).contents named.items
+        chains.now.master chains.now.directories
+        → AreFree (D.state disk.old).size (D.state disk.old).contents free.now
+        → IfOk result (λ taken. AreAdded (D.state disk.old).size layout
+        (D.state disk.old).contents findings.old.items findings.new.items) }
+    ensures fits { IfOk result (λ taken. AllByRecursion (FitsDisk (D.state disk.old).size) taken.files.items) }
+    ensures fits_too { IfOk result (λ taken.
+        AllByRecursion (FitsDisk (D.state disk.old).size) taken.doubtful.items) }
+    ensures range { IsErrOf result NotVolume → ⊥ }
+    ensures reads { (D.state disk.new).honest → OnlyReads (D.state disk.old) (D.state disk.new) }
+    ensures same { SameDisk (D.state disk.old) (D.state disk.new) }
+    ensures failed { IsErrOf result Device → (D.state disk.new).failures ≡ one_more (D.state disk.old).failures }
+    ensures served { (IsErrOf result Device → ⊥) → (D.state disk.new).failures ≡ (D.state disk.old).failures }
+{
+    let counts = count_uses(alloc, disk.blocks(), &named, chains, free)?;
+    let mut taken = Taken {
+        files: Vec::new(alloc),
+        doubtful: Vec::new(alloc),
+    };
+    take_each(disk, &counts, free, named, true, &mut taken, findings)?;
+    Ok(taken)
+}
+
+/// Takes those of the files that no directory names that are whole, and reports the others.
+///
+/// # Errors
+///
+/// `Device` if the device failed; `NoMemory` if a growth was refused.
+pub fn take_unnamed<D: Disk>(
+    alloc: Global,
+    disk: &mut D,
     unnamed: Vec<SavedFile>,
+    free: &Reached,
     findings: &mut Vec<Finding>,
 ) -> Result<Vec<SavedFile>, SalvageError>
     requires volume { IsVolumeSize (D.state disk.old).size }
-    requires named { AllByRecursion (FitsDisk (D.state disk.old).size) named.items }
     requires unnamed { AllByRecursion (FitsDisk (D.state disk.old).size) unnamed.items }
+    requires free { length free.now ≡ (D.state disk.old).size }
     ensures taken { (D.state disk.new).honest → (layout : ℕ)
-        → AllByRecursion (IsNamedRead (D.state disk.old).size layout (D.state disk.old).contents) named.items
         → AllByRecursion (IsRead (D.state disk.old).size layout (D.state disk.old).contents) unnamed.items
-        → AreApart (named.items ++ unnamed.items)
-        → IfOk result (λ files. AreTaken (D.state disk.old).size layout (D.state disk.old).contents named.items
-        unnamed.items files.items findings.new.items) }
+        → AreApart unnamed.items
+        → IfOk result (λ files. AreTaken (D.state disk.old).size layout (D.state disk.old).contents unnamed.items
+        files.items findings.new.items) }
     ensures added { (D.state disk.new).honest → (layout : ℕ)
-        → AllByRecursion (IsNamedRead (D.state disk.old).size layout (D.state disk.old).contents) named.items
         → AllByRecursion (IsRead (D.state disk.old).size layout (D.state disk.old).contents) unnamed.items
-        → AreApart (named.items ++ unnamed.items)
         → IfOk result (λ files. AreAdded (D.state disk.old).size layout
         (D.state disk.old).contents findings.old.items findings.new.items) }
     ensures fits { IfOk result (λ files. AllByRecursion (FitsDisk (D.state disk.old).size) files.items) }
@@ -153,12 +283,11 @@ pub fn take<D: Disk>(
     ensures failed { IsErrOf result Device → (D.state disk.new).failures ≡ one_more (D.state disk.old).failures }
     ensures served { (IsErrOf result Device → ⊥) → (D.state disk.new).failures ≡ (D.state disk.old).failures }
 {
-    let size = disk.blocks();
-    let mut counts = Counts::new(alloc, size)?;
-    let mut files = Vec::new(alloc);
-    counts.count_files(&named);
-    take_each(disk, &counts, named, true, &mut files, findings)?;
-    counts.count_files(&unnamed);
-    take_each(disk, &counts, unnamed, false, &mut files, findings)?;
-    Ok(files)
+    let counts = Counts::new(alloc, disk.blocks())?;
+    let mut taken = Taken {
+        files: Vec::new(alloc),
+        doubtful: Vec::new(alloc),
+    };
+    take_each(disk, &counts, free, unnamed, false, &mut taken, findings)?;
+    Ok(taken.files)
 }

@@ -1,5 +1,6 @@
 //! The files that directories name.
 ghost use Rattle.std.specs.Prelude.{◌≡◌, ◌++◌, ◌∷◌, ◌⊎◌, ◌↔◌, [], ℕ, List, None, map, IfOk, IfErr, OnOk, IsErrOf};
+ghost use Rattle.std.specs.Prelude.{false, length, replicate};
 ghost use Rattle.std.specs.List.{AllByRecursion};
 ghost use Rattle.std.specs.Ordering.{nat_cmp};
 ghost use Rattle.std.specs.FinMap.Entries.{find};
@@ -12,12 +13,14 @@ ghost use Rattle.directory.specs.Common.{IsChain, IsOn, nodes_of, viewed, IsBadC
 ghost use Rattle.volume.specs.Common.{file_view, master_view, home_in};
 ghost use Rattle.volume.specs.declared.error.VolumeError.TheVariants.{BadDirectory, BlockTwice};
 ghost use Rattle.volume.specs.declared.error.VolumeError.TheVariants.{Device as DeviceFault};
-ghost use Rattle.salvage.specs.Common.{IsChainRefusal, IsNamedIn, IsNoFault, IsReadTo, FitsDisk, IsTree};
+ghost use Rattle.salvage.specs.Common.{AreMarked, IsChainRefusal, IsNamedIn, IsNoFault, IsReadTo, FitsDisk, IsTree};
 ghost use Rattle.salvage.specs.declared.error.SalvageError.TheVariants.{Device, NoMemory, NotVolume};
 ghost use Rattle.salvage.specs.declared.finding.Cost.TheVariants.{Directories};
+ghost use Rattle.salvage.specs.declared.finding.Defect.TheVariants.{Start};
 
+use crate::chains::{Chains, mark_chains};
 use crate::lists::{push_file, push_finding};
-use crate::{Cost, Finding, SalvageError, SavedFile};
+use crate::{Cost, Defect, Finding, SalvageError, SavedFile};
 use alloctab::Reached;
 use blockdisk::Disk;
 use directory::{Chain, ChainEntry, FileEntry, MasterEntry};
@@ -35,6 +38,8 @@ pub struct Tree {
     pub files: Vec<SavedFile>,
     /// What is wrong.
     pub findings: Vec<Finding>,
+    /// The blocks of the chains, if there are files.
+    pub chains: Chains,
 }
 
 /// Reports why a reader was refused, if that is a fault of the contents.
@@ -48,7 +53,7 @@ fn report_refusal(
     costs: Cost,
 ) -> Result<(), SalvageError>
     ensures told { OnOk result (findings.new.items
-        ≡ findings.old.items ++ record { fault = refusal; costs = costs } ∷ []) }
+        ≡ findings.old.items ++ record { fault = Start refusal; costs = costs } ∷ []) }
     ensures fault { OnOk result (IsNoFault refusal → ⊥) }
     ensures device { IsErrOf result Device ↔ (refusal ≡ DeviceFault) }
     ensures range { IsErrOf result NotVolume → ⊥ }
@@ -56,7 +61,7 @@ fn report_refusal(
     match refusal {
         VolumeError::Device => Err(SalvageError::Device),
         VolumeError::NoMemory => Err(SalvageError::NoMemory),
-        fault => push_finding(findings, fault, costs),
+        fault => push_finding(findings, Defect::Start(fault), costs),
     }
 }
 
@@ -273,17 +278,26 @@ fn add_master<D: Disk>(
     home: Home,
     files: &mut Vec<SavedFile>,
     findings: &mut Vec<Finding>,
+    chains: &mut Chains,
 ) -> Result<(), SalvageError>
     // What the caller ensures.
     requires volume { IsVolumeSize (D.state disk.old).size }
     requires inside { InSpace (D.state disk.old).size home.master }
     requires no_files { files.old.items ≡ [] }
     requires no_findings { findings.old.items ≡ [] }
+    requires fresh { chains.old.master ≡ replicate (D.state disk.old).size false }
+    requires fresh_ones { chains.old.directories ≡ replicate (D.state disk.old).size false }
     // What was read.
     ensures tree { (D.state disk.new).honest
         → IsHome (D.state disk.old).size (D.state disk.old).contents (home_in (layout_number home.layout) home.master)
         → OnOk result (IsTree (D.state disk.old).size (layout_number home.layout) (D.state disk.old).contents
         files.new.items findings.new.items) }
+    ensures marked { (D.state disk.new).honest
+        → IsHome (D.state disk.old).size (D.state disk.old).contents (home_in (layout_number home.layout) home.master)
+        → OnOk result (AreMarked (D.state disk.old).size (layout_number home.layout) (D.state disk.old).contents
+        files.new.items chains.new.master chains.new.directories) }
+    ensures long { length chains.new.master ≡ (D.state disk.old).size }
+    ensures long_ones { length chains.new.directories ≡ (D.state disk.old).size }
     ensures fits { OnOk result (AllByRecursion (FitsDisk (D.state disk.old).size) files.new.items) }
     ensures range { IsErrOf result NotVolume → ⊥ }
     // The device: what failed, and how often.
@@ -293,7 +307,10 @@ fn add_master<D: Disk>(
     ensures served { (IsErrOf result Device → ⊥) → (D.state disk.new).failures ≡ (D.state disk.old).failures }
 {
     match load_chain::<MasterEntry, D>(alloc, disk, home.master) {
-        Ok(chain) => add_directories(alloc, disk, home.layout, chain.entries(), files, findings),
+        Ok(chain) => {
+            mark_chains(disk, home.master, chain.entries(), chains)?;
+            add_directories(alloc, disk, home.layout, chain.entries(), files, findings)
+        }
         Err(refusal) => report_refusal(findings, refusal, Cost::Directories),
     }
 }
@@ -308,6 +325,12 @@ fn read_from<D: Disk>(alloc: Global, disk: &mut D, home: Home) -> Result<Tree, S
         → IsHome (D.state disk.old).size (D.state disk.old).contents (home_in (layout_number home.layout) home.master)
         → IfOk result (λ tree. IsTree (D.state disk.old).size (layout_number tree.layout)
         (D.state disk.old).contents tree.files.items tree.findings.items) }
+    ensures marked { (D.state disk.new).honest
+        → IsHome (D.state disk.old).size (D.state disk.old).contents (home_in (layout_number home.layout) home.master)
+        → IfOk result (λ tree. AreMarked (D.state disk.old).size (layout_number tree.layout)
+        (D.state disk.old).contents tree.files.items tree.chains.master tree.chains.directories) }
+    ensures long { IfOk result (λ tree. length tree.chains.master ≡ (D.state disk.old).size) }
+    ensures long_ones { IfOk result (λ tree. length tree.chains.directories ≡ (D.state disk.old).size) }
     ensures layout { IfOk result (λ tree. tree.layout ≡ home.layout) }
     ensures fits { IfOk result (λ tree. AllByRecursion (FitsDisk (D.state disk.old).size) tree.files.items) }
     ensures range { IsErrOf result NotVolume → ⊥ }
@@ -318,19 +341,23 @@ fn read_from<D: Disk>(alloc: Global, disk: &mut D, home: Home) -> Result<Tree, S
     ensures served { (IsErrOf result Device → ⊥) → (D.state disk.new).failures ≡ (D.state disk.old).failures }
 {
     let (mut files, mut findings) = (Vec::new(alloc), Vec::new(alloc));
-    add_master(alloc, disk, home, &mut files, &mut findings)?;
+    let mut chains = Chains::new(alloc, disk.blocks())?;
+    add_master(alloc, disk, home, &mut files, &mut findings, &mut chains)?;
     Ok(Tree {
         layout: home.layout,
         files,
         findings,
+        chains,
     })
 }
 
 /// Returns what is reported for a disk whose home blocks can't be read.
-fn without_home(alloc: Global, refusal: VolumeError) -> Result<Tree, SalvageError>
+fn without_home(alloc: Global, size: u32, refusal: VolumeError) -> Result<Tree, SalvageError>
     ensures files { IfOk result (λ tree. tree.files.items ≡ []) }
     ensures findings { IfOk result (λ tree. tree.findings.items
-        ≡ record { fault = refusal; costs = Directories } ∷ []) }
+        ≡ record { fault = Start refusal; costs = Directories } ∷ []) }
+    ensures long { IfOk result (λ tree. length tree.chains.master ≡ size) }
+    ensures long_ones { IfOk result (λ tree. length tree.chains.directories ≡ size) }
     ensures layout { IfOk result (λ tree. layout_number tree.layout ≡ 2) }
     ensures fault { IfOk result (λ tree. IsNoFault refusal → ⊥) }
     ensures device { IsErrOf result Device ↔ (refusal ≡ DeviceFault) }
@@ -338,10 +365,12 @@ fn without_home(alloc: Global, refusal: VolumeError) -> Result<Tree, SalvageErro
 {
     let mut findings = Vec::new(alloc);
     report_refusal(&mut findings, refusal, Cost::Directories)?;
+    let chains = Chains::new(alloc, size)?;
     Ok(Tree {
         layout: Layout::Two,
         files: Vec::new(alloc),
         findings,
+        chains,
     })
 }
 
@@ -356,6 +385,11 @@ pub fn read_tree<D: Disk>(alloc: Global, disk: &mut D) -> Result<Tree, SalvageEr
     ensures tree { (D.state disk.new).honest
         → IfOk result (λ tree. IsTree (D.state disk.old).size (layout_number tree.layout)
         (D.state disk.old).contents tree.files.items tree.findings.items) }
+    ensures marked { (D.state disk.new).honest
+        → IfOk result (λ tree. AreMarked (D.state disk.old).size (layout_number tree.layout)
+        (D.state disk.old).contents tree.files.items tree.chains.master tree.chains.directories) }
+    ensures long { IfOk result (λ tree. length tree.chains.master ≡ (D.state disk.old).size) }
+    ensures long_ones { IfOk result (λ tree. length tree.chains.directories ≡ (D.state disk.old).size) }
     // The layout of the home copy, or layout 2 if neither copy is valid.
     ensures layout { (D.state disk.new).honest → (home : SpecHome)
         → IsHome (D.state disk.old).size (D.state disk.old).contents home
@@ -370,8 +404,9 @@ pub fn read_tree<D: Disk>(alloc: Global, disk: &mut D) -> Result<Tree, SalvageEr
     ensures failed { IsErrOf result Device → (D.state disk.new).failures ≡ one_more (D.state disk.old).failures }
     ensures served { (IsErrOf result Device → ⊥) → (D.state disk.new).failures ≡ (D.state disk.old).failures }
 {
+    let size = disk.blocks();
     match read_home(disk) {
         Ok(home) => read_from(alloc, disk, home),
-        Err(refusal) => without_home(alloc, refusal),
+        Err(refusal) => without_home(alloc, size, refusal),
     }
 }

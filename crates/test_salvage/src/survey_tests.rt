@@ -1,10 +1,12 @@
 //! Tests of copies of disks, and of surveys of them.
 use blockdisk::{Disk, Fail as Failing, FuseDisk, MemDisk, NoMemory};
-use salvage::{Copied, Cost, Finding, SalvageError, Survey, read_words, survey_disk};
+use salvage::{
+    Copied, Cost, Defect, Finding, SalvageError, Search, Survey, read_words, survey_disk,
+};
 use std::alloc::Global;
 use std::process::Abort;
 use std::test::Fail;
-use test_support::{OPEN, TEXT, beginning, filled, foo, owner, v1, word};
+use test_support::{OPEN, PRIME, TEXT, beginning, filled, foo, owner, v1, word};
 use volume::VolumeError;
 use words36::{Block, Word};
 
@@ -31,12 +33,12 @@ fn copied_from<D: Disk>(alloc: Global, disk: &mut D) -> Result<Copied, SalvageEr
 
 /// Returns what a survey of a disk finds. What else `survey_disk` promises stays behind this function.
 fn surveyed(alloc: Global, disk: &mut MemDisk) -> Result<Survey, SalvageError> {
-    survey_disk(alloc, disk)
+    survey_disk(alloc, disk, Search::Used)
 }
 
 /// Returns the words of the first file that is found on a disk; `None` if there is none.
 fn first_words(alloc: Global, disk: &mut MemDisk) -> Result<Option<Vec<Word>>, SalvageError> {
-    let survey = survey_disk(alloc, disk)?;
+    let survey = survey_disk(alloc, disk, Search::Used)?;
     match survey.files.first() {
         Some(file) => read_words(alloc, disk, file),
         None => Ok(None),
@@ -83,17 +85,34 @@ fn each_allocation_refused(rt: HostRuntime) {
     }
 }
 
-/// Checks that in a copy FOO.TXT is found or no file, and that this is reported last.
+/// How many files of a kind a survey is to find.
+#[derive(Clone, Copy)]
+enum Wanted {
+    None,
+    InPlace,
+    Doubtful,
+    Unnamed,
+}
+
+/// Checks that in a copy FOO.TXT is found in this way or no file, and that this is reported last.
 fn expect_told(
     rt: &impl Abort,
     alloc: Global,
     copied: &mut Copied,
-    is_found: bool,
-    fault: VolumeError,
+    wanted: Wanted,
+    fault: Defect,
     costs: Cost,
 ) {
     let survey = surveyed(alloc, &mut copied.disk).expect(rt, "a survey");
-    assert!(rt; survey.files.len() == usize::from(is_found));
+    let (files, doubtful, unnamed) = match wanted {
+        Wanted::None => (0, 0, 0),
+        Wanted::InPlace => (1, 0, 0),
+        Wanted::Doubtful => (0, 1, 0),
+        Wanted::Unnamed => (0, 0, 1),
+    };
+    assert!(rt; survey.files.len() == files);
+    assert!(rt; survey.doubtful.len() == doubtful);
+    assert!(rt; survey.unnamed.len() == unnamed);
     assert!(rt; survey.findings.last().copied() == Some(Finding { fault, costs }));
 }
 
@@ -102,7 +121,7 @@ fn expect_damaged(
     rt: &impl Abort,
     alloc: Global,
     blocks: &[u32],
-    is_found: bool,
+    wanted: Wanted,
     fault: VolumeError,
     costs: Cost,
 ) -> Result<(), NoMemory> {
@@ -111,49 +130,137 @@ fn expect_damaged(
         damage(rt, &mut disk, n);
     }
     let mut copied = copied_from(alloc, &mut disk).expect(rt, "a copy");
-    expect_told(rt, alloc, &mut copied, is_found, fault, costs);
+    expect_told(rt, alloc, &mut copied, wanted, Defect::Start(fault), costs);
     Ok(())
 }
 
 /// Checks what damaged blocks cost: a file is found by its prime block if its directory or the home copies are lost.
 #[test]
 fn what_damaged_blocks_cost(rt: HostRuntime) -> Result<(), Fail> {
-    for (blocks, is_found, fault, costs) in [
+    for (blocks, wanted, fault, costs) in [
         (
             [18].as_slice(),
-            false,
+            Wanted::None,
             VolumeError::BadData(18),
             Cost::File(owner(), foo()),
         ),
         (
             &[17],
-            false,
+            Wanted::None,
             VolumeError::BadRetrieval(17),
             Cost::File(owner(), foo()),
         ),
         (
             &[16],
-            true,
+            Wanted::Unnamed,
             VolumeError::BadDirectory(16),
             Cost::Directory(owner()),
         ),
         (
             &[15],
-            true,
+            Wanted::Unnamed,
             VolumeError::BadDirectory(15),
             Cost::Directories,
         ),
-        (&[14], true, VolumeError::TableWrong(14), Cost::Nothing),
-        (&[1, 2], true, VolumeError::NotVolume, Cost::Directories),
+        (
+            &[14],
+            Wanted::InPlace,
+            VolumeError::TableWrong(14),
+            Cost::Nothing,
+        ),
+        (
+            &[1, 2],
+            Wanted::Unnamed,
+            VolumeError::NotVolume,
+            Cost::Directories,
+        ),
         (
             &[16, 18],
-            false,
+            Wanted::None,
             VolumeError::BadData(18),
-            Cost::Unnamed(owner(), foo()),
+            Cost::Unnamed(owner(), foo(), 17),
         ),
     ] {
-        expect_damaged(&rt, rt.alloc(), blocks, is_found, fault, costs)?;
+        expect_damaged(&rt, rt.alloc(), blocks, wanted, fault, costs)?;
     }
+    Ok(())
+}
+
+/// Checks what is found of V1 if the data block of FOO.TXT is this one, and what is reported last.
+fn expect_pointed(
+    rt: &impl Abort,
+    alloc: Global,
+    block: u32,
+    fault: Defect,
+) -> Result<(), NoMemory> {
+    let mut disk = v1(alloc, CALLS)?;
+    let mut prime = PRIME;
+    prime[16] = 0o1000000 + u64::from(block);
+    load(rt, &mut disk, 17, &beginning(&prime));
+    let mut copied = copied_from(alloc, &mut disk).expect(rt, "a copy");
+    let costs = Cost::File(owner(), foo());
+    expect_told(rt, alloc, &mut copied, Wanted::Doubtful, fault, costs);
+    Ok(())
+}
+
+/// Checks that a file with a block of a chain, with its own prime block or with a free block isn't in its place.
+#[test]
+fn blocks_that_are_not_its_own(rt: HostRuntime) -> Result<(), Fail> {
+    for n in [15, 16, 17] {
+        let fault = Defect::Start(VolumeError::BlockTwice(n));
+        expect_pointed(&rt, rt.alloc(), n, fault)?;
+    }
+    expect_pointed(&rt, rt.alloc(), 19, Defect::FreeBlock(19))?;
+    Ok(())
+}
+
+/// Checks how many files no directory names, by a search, in V1 with an empty directory.
+fn expect_unnamed(
+    rt: &impl Abort,
+    alloc: Global,
+    search: Search,
+    table: u64,
+    wanted: usize,
+) -> Result<(), NoMemory> {
+    let mut disk = v1(alloc, CALLS)?;
+    load(rt, &mut disk, 16, &beginning(&[]));
+    load(rt, &mut disk, 14, &beginning(&[table]));
+    let mut copied = copied_from(alloc, &mut disk).expect(rt, "a copy");
+    let survey = survey_disk(alloc, &mut copied.disk, search).expect(rt, "a survey");
+    assert!(rt; survey.files.len() + survey.doubtful.len() == 0);
+    assert!(rt; survey.unnamed.len() == wanted);
+    Ok(())
+}
+
+/// Checks which files that no directory names each search finds: those of blocks in use, and those of all blocks.
+#[test]
+fn searches(rt: HostRuntime) -> Result<(), Fail> {
+    let (used, free) = (0o777777400000, 0o777774000000);
+    for (search, table, wanted) in [
+        (Search::Named, used, 0),
+        (Search::Used, used, 1),
+        (Search::Every, used, 1),
+        (Search::Used, free, 0),
+        (Search::Every, free, 1),
+        (Search::Used, free - 0o400000000000, 1),
+    ] {
+        expect_unnamed(&rt, rt.alloc(), search, table, wanted)?;
+    }
+    Ok(())
+}
+
+/// Checks that a prime block whose file isn't whole is reported if no directory names it.
+#[test]
+fn a_prime_block_without_its_file(rt: HostRuntime) -> Result<(), Fail> {
+    let mut disk = v1(rt.alloc(), CALLS)?;
+    let mut prime = PRIME;
+    prime[16] = 0o1777777;
+    load(&rt, &mut disk, 17, &beginning(&prime));
+    damage(&rt, &mut disk, 16);
+    let mut copied = copied_from(rt.alloc(), &mut disk).expect(&rt, "a copy");
+    let fault = Defect::Start(VolumeError::BadRetrieval(17));
+    let costs = Cost::Unnamed(owner(), foo(), 17);
+    expect_told(&rt, rt.alloc(), &mut copied, Wanted::None, fault, costs);
     Ok(())
 }
 
@@ -165,8 +272,8 @@ fn a_block_that_is_not_read_is_damaged(rt: HostRuntime) -> Result<(), Fail> {
         let mut copied = copied_from(rt.alloc(), &mut disk).expect(&rt, "a copy");
         assert!(rt; copied.unread == unread);
         let file = Cost::File(owner(), foo());
-        let fault = VolumeError::BadData(18);
-        expect_told(&rt, rt.alloc(), &mut copied, false, fault, file);
+        let fault = Defect::Start(VolumeError::BadData(18));
+        expect_told(&rt, rt.alloc(), &mut copied, Wanted::None, fault, file);
     }
     Ok(())
 }

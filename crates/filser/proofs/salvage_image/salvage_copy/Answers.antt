@@ -7,11 +7,12 @@ returns-in-Ok-clause-ran g c =
     let p = c.in-Ok.ensures in
     inl (
       c.in-Ok.found.files.items,
+      c.in-Ok.found.doubtful.items,
       record {
         layout = layout_number c.in-Ok.found.layout;
+        unnamed = c.in-Ok.found.unnamed.items;
         findings = c.in-Ok.found.findings.items;
         middle = c.survey_disk.new.disk;
-        last = c.save_survey-saved.new.copied.disk;
         result = c.save_survey-saved.result;
         layout_is = p.layout tt;
         no_layout = p.no_layout tt;

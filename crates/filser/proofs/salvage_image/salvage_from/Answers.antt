@@ -15,6 +15,7 @@ returns-in-Ok-clause-ran g c =
       still = λ h. (p.reads h).still;
       done = inl (record {
         copy = copy;
+        last = c.salvage_copy.new.copied.disk;
         unread = c.in-Ok.copied.unread;
         lost = c.in-Ok.copied.has_bad_log;
         copied = p.copied;
@@ -24,7 +25,8 @@ returns-in-Ok-clause-ran g c =
             (λ found. inl (
               found.0,
               found.1,
-              λ h none stored stands. found.2 stored
+              found.2,
+              λ h none stored stands. found.3 stored
                   (subst (λ n. SettledStands n (held copy.blocks) stored) (sym p.size)
                   (((p.copied h).stands none stored stands).1)),
             ))

@@ -3,7 +3,7 @@ use Rattle.std.specs.List.{AllByRecursion}
 use Rattle.blockdisk.specs.Common.{SameDisk}
 use Rattle.changeset.specs.Common.{OnlyReads}
 use Rattle.spec_image.specs.Common.{layout_number}
-use Rattle.salvage.specs.Common.{AreFound, IsTableRead, FitsDisk}
+use Rattle.salvage.specs.Common.{AreFound, AreFree, FitsDisk}
 use Rattle.salvage.proofs.scan.look_through.Given as goal
 
 abbrev pub invariant-loop-n : goal.invariant-loop-n
@@ -13,7 +13,8 @@ invariant-loop-n g l = record {
   reads : (g.D.Disk.state l.disk).honest → OnlyReads (g.D.Disk.state l.fn.disk) (g.D.Disk.state l.disk);
   fits : AllByRecursion (FitsDisk (g.D.Disk.state l.fn.disk).size) l.files.items;
   found : (g.D.Disk.state l.disk).honest
-      → IsTableRead (g.D.Disk.state l.fn.disk).size (g.D.Disk.state l.fn.disk).contents l.table
-      → AreFound (g.D.Disk.state l.fn.disk).size (layout_number l.layout) (g.D.Disk.state l.fn.disk).contents l.counts
-      l.files.items l.n;
+      → AreFree (g.D.Disk.state l.fn.disk).size (g.D.Disk.state l.fn.disk).contents l.searched.free.now
+      → AreFound (g.D.Disk.state l.fn.disk).size (layout_number l.searched.layout)
+      (g.D.Disk.state l.fn.disk).contents l.searched.search l.searched.counts.now l.files.items
+      l.fn.findings.items l.findings.items l.n;
 }

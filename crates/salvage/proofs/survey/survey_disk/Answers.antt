@@ -4,5 +4,5 @@ use Rattle.salvage.proofs.survey.survey_disk.Goals as goal
 pub returns-clause-found : goal.returns-clause-found
 returns-clause-found g c h files stands =
     let s = g.D.Disk.state c.args.disk.now in
-    all_saved_on s.size s.contents files c.survey_volume.result (c.survey_volume.ensures.surveyed h)
+    all_saved_on s.size s.contents files c.args.search c.survey_volume.result (c.survey_volume.ensures.surveyed h)
     (c.survey_volume.ensures.layout h) stands

@@ -24,15 +24,17 @@ take_file-requires-clause-fits g c =
 pub loop-file-init : goal.loop-file-init
 loop-file-init g c =
     let s = g.D.Disk.state c.args.disk.now in
-    let files = c.args.files.now.items in
+    let files = c.args.taken.now.files.items in
+    let doubtful = c.args.taken.now.doubtful.items in
     let findings = c.args.findings.now.items in
     record {
       same = same_disk_start s;
       served = refl;
       reads = λ h. record { still = still_start s; is_open = λ n. refl };
       fits = λ fit. fit;
-      judged = λ h. judges_start s.contents c.args.counts.now c.args.are_named files findings (nothing_behind files)
-          (nothing_behind findings);
+      fits_too = λ fit. fit;
+      judged = λ h. judges_start s.contents c.args.counts.now c.args.free.now c.args.are_named files doubtful findings
+          (nothing_behind files) (nothing_behind doubtful) (nothing_behind findings);
     }
 
 pub loop-file-preserved : goal.loop-file-preserved
@@ -50,17 +52,22 @@ loop-file-preserved g c =
       same = same_disk_on s now new inv.same c.take_file.ensures.same;
       served = e.served (λ is. cc) ∙ inv.served;
       reads = λ h. only_reads_on s now new (inv.reads (before h)) (c.take_file.ensures.reads h);
-      fits = λ fit. subst (λ (z : ℕ). AllByRecursion (FitsDisk z) c.take_file.new.files.items) inv.same.size
-          (e.fits (subst (λ (z : ℕ). AllByRecursion (FitsDisk z) c.loop-file.files.items) (sym inv.same.size)
+      fits = λ fit. subst (λ (z : ℕ). AllByRecursion (FitsDisk z) c.take_file.new.taken.files.items) inv.same.size
+          (e.fits (subst (λ (z : ℕ). AllByRecursion (FitsDisk z) c.loop-file.taken.files.items) (sym inv.same.size)
           (inv.fits fit)));
-      judged = λ h. judges_next s.contents c.args.counts.now c.args.are_named items (length c.loop-file.yielded)
-          (length (c.loop-file.yielded ++ c.in-Some.file ∷ [])) c.in-Some.file c.args.files.now.items
-          c.loop-file.files.items c.take_file.new.files.items c.args.findings.now.items c.loop-file.findings.items
-          c.take_file.new.findings.items (length_push c.loop-file.yielded c.in-Some.file) turn.0 turn.1
-          (inv.judged (before h))
-          (subst (λ (d : Contents). Judges d c.args.counts.now c.args.are_named (c.in-Some.file ∷ [])
-          c.loop-file.files.items c.take_file.new.files.items c.loop-file.findings.items
-          c.take_file.new.findings.items)
+      fits_too = λ fit. subst (λ (z : ℕ). AllByRecursion (FitsDisk z) c.take_file.new.taken.doubtful.items)
+          inv.same.size
+          (e.fits_too (subst (λ (z : ℕ). AllByRecursion (FitsDisk z) c.loop-file.taken.doubtful.items)
+          (sym inv.same.size) (inv.fits_too fit)));
+      judged = λ h. judges_next s.contents c.args.counts.now c.args.free.now c.args.are_named items
+          (length c.loop-file.yielded) (length (c.loop-file.yielded ++ c.in-Some.file ∷ [])) c.in-Some.file
+          c.args.taken.now.files.items c.loop-file.taken.files.items c.take_file.new.taken.files.items
+          c.args.taken.now.doubtful.items c.loop-file.taken.doubtful.items c.take_file.new.taken.doubtful.items
+          c.args.findings.now.items c.loop-file.findings.items c.take_file.new.findings.items
+          (length_push c.loop-file.yielded c.in-Some.file) turn.0 turn.1 (inv.judged (before h))
+          (subst (λ (d : Contents). Judges d c.args.counts.now c.args.free.now c.args.are_named (c.in-Some.file ∷ [])
+          c.loop-file.taken.files.items c.take_file.new.taken.files.items c.loop-file.taken.doubtful.items
+          c.take_file.new.taken.doubtful.items c.loop-file.findings.items c.take_file.new.findings.items)
           (same_contents s.contents now.contents (inv.reads (before h)).still.contents) (e.judged h));
     }
 
@@ -70,6 +77,7 @@ returns-clause-judged g c h =
     let items = c.args.candidates.items in
     let end = YieldsList-end (YieldsList-from_vec items (cc) (cc)) c.loop-file.yielded _ c.loop-file.yielded_by _
     c.next.new.self c.in-None.is c.next.ensures.steps in
-    subst (λ (xs : List SavedFile). Judges s.contents c.args.counts.now c.args.are_named xs c.args.files.now.items
-    c.loop-file.files.items c.args.findings.now.items c.loop-file.findings.items)
+    subst (λ (xs : List SavedFile). Judges s.contents c.args.counts.now c.args.free.now c.args.are_named xs
+    c.args.taken.now.files.items c.loop-file.taken.files.items c.args.taken.now.doubtful.items
+    c.loop-file.taken.doubtful.items c.args.findings.now.items c.loop-file.findings.items)
     (take_all (length c.loop-file.yielded) items (omega (arith, end.1))) (c.loop-file.invariant.judged h)

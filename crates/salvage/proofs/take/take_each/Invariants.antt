@@ -10,10 +10,12 @@ invariant-loop-file g l = record {
   same : SameDisk (g.D.Disk.state l.fn.disk) (g.D.Disk.state l.disk);
   served : (g.D.Disk.state l.disk).failures ≡ (g.D.Disk.state l.fn.disk).failures;
   reads : (g.D.Disk.state l.disk).honest → OnlyReads (g.D.Disk.state l.fn.disk) (g.D.Disk.state l.disk);
-  fits : AllByRecursion (FitsDisk (g.D.Disk.state l.fn.disk).size) l.fn.files.items
-      → AllByRecursion (FitsDisk (g.D.Disk.state l.fn.disk).size) l.files.items;
+  fits : AllByRecursion (FitsDisk (g.D.Disk.state l.fn.disk).size) l.fn.taken.files.items
+      → AllByRecursion (FitsDisk (g.D.Disk.state l.fn.disk).size) l.taken.files.items;
+  fits_too : AllByRecursion (FitsDisk (g.D.Disk.state l.fn.disk).size) l.fn.taken.doubtful.items
+      → AllByRecursion (FitsDisk (g.D.Disk.state l.fn.disk).size) l.taken.doubtful.items;
   judged : (g.D.Disk.state l.disk).honest
-      → Judges (g.D.Disk.state l.fn.disk).contents l.counts l.are_named
-      (take (length l.yielded) l.fn.candidates.items) l.fn.files.items l.files.items l.fn.findings.items
-      l.findings.items;
+      → Judges (g.D.Disk.state l.fn.disk).contents l.counts l.free l.are_named
+      (take (length l.yielded) l.fn.candidates.items) l.fn.taken.files.items l.taken.files.items
+      l.fn.taken.doubtful.items l.taken.doubtful.items l.fn.findings.items l.findings.items;
 }

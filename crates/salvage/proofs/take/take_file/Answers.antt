@@ -1,45 +1,86 @@
-use Rattle.std.proofs.Common.{◌≡◌, ◌++◌, ◌∷◌, [], ap, ◌∙◌}
+use Rattle.std.proofs.Common.{◌≡◌, ◌++◌, ◌∷◌, [], ap, subst, ◌∙◌}
 use Rattle.volume.proofs.common.MarkedBlocks.{on_ok}
-use Rattle.salvage.specs.Common.{Judges, loss_of}
-use Rattle.salvage.proofs.JudgedFiles.{judged_sound, judged_blamed}
+use Rattle.salvage.specs.Common.{IsVerdict, Judges, told_of}
+use Rattle.salvage.specs.declared.take.Verdict.{Verdict}
+use Rattle.salvage.proofs.JudgedFiles.{judged_doubtful, judged_good, judged_spoiled}
 use Rattle.salvage.proofs.Members.{nothing_behind}
 use Rattle.salvage.proofs.take.take_file.Goals as goal
 
-pub returns-in-Ok-None-clause-judged : goal.returns-in-Ok-None-clause-judged
-returns-in-Ok-None-clause-judged g c h =
+pub returns-in-Good-clause-judged : goal.returns-in-Good-clause-judged
+returns-in-Good-clause-judged g c h =
     let s = g.D.Disk.state c.args.disk.now in
     let file = c.args.file in
-    let old = c.args.files.now.items in
+    let old = c.args.taken.now.files.items in
     let new = c.push_file.new.files.items in
+    let doubtful = c.args.taken.now.doubtful.items in
     let findings = c.args.findings.now.items in
     let counts = c.args.counts.now in
+    let free = c.args.free.now in
     on_ok c.push_file.result (new ≡ old ++ file ∷ [])
-    (Judges s.contents counts c.args.is_named (file ∷ []) old new findings findings)
+    (Judges s.contents counts free c.args.is_named (file ∷ []) old new doubtful doubtful findings findings)
     (λ pushed. record {
       taken = file ∷ [];
+      left = [];
       told = [];
       files_are = pushed;
+      left_are = nothing_behind doubtful;
       findings_are = nothing_behind findings;
-      judged = judged_sound s.contents counts c.args.is_named file
-          (rw c.in-Ok-None.field-0-is at (c.in-Ok-None.ensures.sound h));
+      judged = judged_good s.contents counts free c.args.is_named file
+          (subst (λ (v : Verdict). IsVerdict s.contents counts free c.args.is_named file v) c.in-Good.is
+          (c.in_ok-judge.ensures.verdict h));
     }) c.push_file.ensures.pushed
 
-pub returns-in-Ok-Some-clause-judged : goal.returns-in-Ok-Some-clause-judged
-returns-in-Ok-Some-clause-judged g c h =
+pub returns-in_ok-push_finding-in-Doubtful-clause-judged :
+    goal.returns-in_ok-push_finding-in-Doubtful-clause-judged
+returns-in_ok-push_finding-in-Doubtful-clause-judged g c h =
     let s = g.D.Disk.state c.args.disk.now in
     let file = c.args.file in
-    let files = c.args.files.now.items in
-    let old = c.args.findings.now.items in
-    let new = c.push_finding.new.findings.items in
+    let files = c.args.taken.now.files.items in
+    let old = c.args.taken.now.doubtful.items in
+    let new = c.push_file-in-Doubtful.new.files.items in
+    let findings = c.args.findings.now.items in
+    let told = c.push_finding.new.findings.items in
     let counts = c.args.counts.now in
-    let fault = c.in-Ok-Some.fault in
-    on_ok c.push_finding.result (new ≡ old ++ record { fault = fault; costs = c.loss_of-costs.result } ∷ [])
-    (Judges s.contents counts c.args.is_named (file ∷ []) files files old new)
-    (λ told. record {
+    let free = c.args.free.now in
+    let fault = c.in-Doubtful.fault in
+    on_ok c.push_file-in-Doubtful.result (new ≡ old ++ file ∷ [])
+    (Judges s.contents counts free c.args.is_named (file ∷ []) files files old new findings told)
+    (λ pushed. record {
       taken = [];
-      told = record { fault = fault; costs = loss_of c.args.is_named file } ∷ [];
+      left = file ∷ [];
+      told = told_of c.args.is_named file fault ∷ [];
       files_are = nothing_behind files;
-      findings_are = told ∙ ap (λ costs. old ++ record { fault = fault; costs = costs } ∷ []) c.loss_of-costs.ensures;
-      judged = judged_blamed s.contents counts c.args.is_named file fault
-          (rw c.in-Ok-Some.field-0-is at (c.in-Ok-Some.ensures.blamed h));
-    }) c.push_finding.ensures.told
+      left_are = pushed;
+      findings_are = c.in_ok-push_finding-in-Doubtful.ensures.told
+          ∙ ap (λ costs. findings ++ record { fault = fault; costs = costs } ∷ []) c.loss_of-costs.ensures;
+      judged = judged_doubtful s.contents counts free c.args.is_named file fault
+          (subst (λ (v : Verdict). IsVerdict s.contents counts free c.args.is_named file v) c.in-Doubtful.is
+          (c.in_ok-judge.ensures.verdict h));
+    }) c.push_file-in-Doubtful.ensures.pushed
+
+pub returns-in-Spoiled-clause-judged : goal.returns-in-Spoiled-clause-judged
+returns-in-Spoiled-clause-judged g c h =
+    let s = g.D.Disk.state c.args.disk.now in
+    let file = c.args.file in
+    let files = c.args.taken.now.files.items in
+    let doubtful = c.args.taken.now.doubtful.items in
+    let findings = c.args.findings.now.items in
+    let told = c.push_finding-in-Spoiled.new.findings.items in
+    let counts = c.args.counts.now in
+    let free = c.args.free.now in
+    let fault = c.in-Spoiled.fault in
+    on_ok c.push_finding-in-Spoiled.result
+    (told ≡ findings ++ record { fault = fault; costs = c.loss_of-costs.result } ∷ [])
+    (Judges s.contents counts free c.args.is_named (file ∷ []) files files doubtful doubtful findings told)
+    (λ pushed. record {
+      taken = [];
+      left = [];
+      told = told_of c.args.is_named file fault ∷ [];
+      files_are = nothing_behind files;
+      left_are = nothing_behind doubtful;
+      findings_are = pushed
+          ∙ ap (λ costs. findings ++ record { fault = fault; costs = costs } ∷ []) c.loss_of-costs.ensures;
+      judged = judged_spoiled s.contents counts free c.args.is_named file fault
+          (subst (λ (v : Verdict). IsVerdict s.contents counts free c.args.is_named file v) c.in-Spoiled.is
+          (c.in_ok-judge.ensures.verdict h));
+    }) c.push_finding-in-Spoiled.ensures.told

@@ -4,7 +4,7 @@ use Rattle.spec_image.specs.Common.{layout_number}
 use Rattle.volume.specs.Common.{file_view}
 use Rattle.salvage.specs.declared.saved.SavedFile.{SavedFile}
 use Rattle.salvage.proofs.ReadSteps.{file_added_on, file_told_on}
-use Rattle.salvage.proofs.Refusals.{file_refused}
+use Rattle.salvage.proofs.Refusals.{file_refused, file_unread}
 use Rattle.salvage.proofs.tree.add_file.Goals as goal
 
 pub returns-in-Ok-clause-read : goal.returns-in-Ok-clause-read
@@ -35,4 +35,5 @@ returns-in-Err-clause-read g c h directories names named new_directory new_name 
     (file_refused s.size (layout_number c.args.layout) s.contents c.args.ppn e.name e.prime c.read_named.result
     c.in-Err.refusal c.in-Err.is c.requires.inside named c.read_named.ensures.only (c.read_named.ensures.bad_version h)
     c.read_named.ensures.named)
+    (file_unread c.read_named.result c.in-Err.refusal c.in-Err.is c.read_named.ensures.only)
     c.report_refusal.ensures.told c.report_refusal.ensures.fault
