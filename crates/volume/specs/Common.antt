@@ -5,7 +5,7 @@ pub use Rattle.volume.specs.FileRead.{IsDamagedData, IsDataRefusal, IsFileFound,
 pub use Rattle.volume.specs.FileRead.{IsReachedTwice, IsVersionRefusal}
 pub use Rattle.volume.specs.FileLaws.{facts_found}
 pub use Rattle.volume.specs.Homes.{IsBare, IsFound, IsFoundInSpace, IsInitBlock, IsNoCopy, bare_map, bit_below}
-pub use Rattle.volume.specs.Homes.{fresh_bit, fresh_words, holds_words, home_in, zero_words}
+pub use Rattle.volume.specs.Homes.{SaysSize, fresh_bit, fresh_words, holds_words, home_in, zero_words}
 pub use Rattle.volume.specs.CurrentMap.{Before, IsBooked, MatchesMap, AgreesOnDirectory, AgreesOnFile, AgreesOnMap}
 pub use Rattle.volume.specs.CurrentMap.{IsNamed}
 pub use Rattle.volume.specs.CurrentMap.{IsWholeDirectory, IsWholeMap, IsWholeVersion, CurrentMap, CurrentDirectory}

@@ -3,7 +3,7 @@ use Rattle.std.specs.Prelude.{◌≡◌, ◌⊎◌, ℕ, ◌+◌, ◌-◌, ◌<�
 use Rattle.std.specs.Prelude.{Some}
 use Rattle.blockdisk.specs.Common.{Contents}
 use Rattle.spec_image.specs.Common.{table_blocks, table_start, space_start, SpecHome, home_block, IsHomeCopy}
-use Rattle.spec_image.specs.Common.{layout_number, InSpace, HasName, found_map, DiskMap}
+use Rattle.spec_image.specs.Common.{layout_number, InSpace, HasName, IsVolumeSize, found_map, DiskMap}
 use Rattle.alloctab.specs.Common.{table_words}
 use Rattle.volume.specs.declared.home.HomeCopy.{HomeCopy}
 use Rattle.volume.specs.declared.home.HomeCopy.TheVariants.{Valid, Named, Unnamed}
@@ -29,6 +29,12 @@ abbrev pub IsFoundInSpace : ℕ → HomeCopy → Type 0
 IsFoundInSpace size (Valid home) = InSpace size home.master
 IsFoundInSpace size Named = Unit {0}
 IsFoundInSpace size Unnamed = Unit {0}
+
+-- The copy in block n is valid on a disk of this size, which a volume may have.
+pub record SaysSize (size : ℕ) (contents : Contents) (n : ℕ) : Type 0 where
+  pub volume : IsVolumeSize size
+  pub home : SpecHome
+  pub copy : IsHomeCopy size contents n home
 
 -- the same block with these words, whatever its number
 abbrev pub holds_words : List ℕ → Contents

@@ -1,15 +1,15 @@
 //! The home copies: their words, and what these say.
-ghost use Rattle.std.specs.Prelude.{◌≡◌, ◌⊎◌, ◌<◌, ◌≤◌, ℕ, IfOk, IfSome, IfNone, IsErrOf, slice_index};
+ghost use Rattle.std.specs.Prelude.{◌≡◌, ◌⊎◌, ◌↔◌, ◌<◌, ◌≤◌, ℕ, Some, IfOk, IfSome, IfNone, IsErrOf, slice_index};
 ghost use Rattle.spec_image.specs.Common.{IsVolumeSize, home_block, IsHome, InSpace, IsNotVolume, IsBadHome};
 ghost use Rattle.spec_image.specs.Common.{IsLayout, layout_number};
-ghost use Rattle.volume.specs.Common.{ReadsDisk, home_in, IsFound, IsFoundInSpace, holds_words};
+ghost use Rattle.volume.specs.Common.{ReadsDisk, SaysSize, home_in, IsFound, IsFoundInSpace, holds_words};
 ghost use Rattle.volume.specs.declared.error.VolumeError.{VolumeError};
 ghost use Rattle.volume.specs.declared.error.VolumeError.TheVariants.{NotVolume, BadHome, Device};
 
 use crate::VolumeError;
 use blockdisk::{Disk, Fault};
 use spec_image::layout::{
-    HOME_COPIES, Layout, is_in_space, is_volume_size, log_images, table_blocks,
+    HOME_COPIES, LARGEST_VOLUME, Layout, is_in_space, is_volume_size, log_images, table_blocks,
 };
 use words36::{BLOCK_WORDS, Block, Word};
 
@@ -18,6 +18,9 @@ const HOME_WORD: u64 = 0o465154634562;
 
 /// The place in a home copy of the word that names the layout.
 const LAYOUT_PLACE: usize = 1;
+
+/// The place in a home copy of the word that says how many blocks the volume has.
+const SIZE_PLACE: usize = 2;
 
 /// The place in a home copy of the word that names the first block of the master directory.
 const MASTER_PLACE: usize = 5;
@@ -50,7 +53,7 @@ pub fn home_block(size: u32, home: Home) -> Block
     let mut words = [Word::ZERO; BLOCK_WORDS];
     words[0] = Word::from_bits(HOME_WORD);
     words[LAYOUT_PLACE] = Word::from_bits(home.layout.number());
-    words[2] = Word::from_bits(u64::from(size));
+    words[SIZE_PLACE] = Word::from_bits(u64::from(size));
     words[3] = Word::from_bits(u64::from(table_blocks(size)));
     words[4] = Word::from_bits(u64::from(log_images(size)));
     words[MASTER_PLACE] = Word::from_bits(u64::from(home.master));
@@ -98,6 +101,22 @@ fn copy_of(size: u32, words: &Block) -> HomeCopy
     match home_at(size, words) {
         Some(home) if *words == home_block(size, home) => HomeCopy::Valid(home),
         _ => HomeCopy::Named,
+    }
+}
+
+/// Returns how many blocks the volume has by the words of a home copy, whatever the size of the disk; `None` if a
+/// volume of no size has a copy with these words.
+pub fn stated_size(words: &Block) -> Option<u32>
+    ensures { (size n : ℕ) → (result ≡ Some size) ↔ SaysSize size (holds_words words.now) n }
+{
+    let blocks = words[SIZE_PLACE].bits();
+    if blocks > u64::from(LARGEST_VOLUME) || !is_volume_size(blocks as u32) {
+        return None;
+    }
+    let size = blocks as u32;
+    match copy_of(size, words) {
+        HomeCopy::Valid(_) => Some(size),
+        _ => None,
     }
 }
 

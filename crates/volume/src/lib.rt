@@ -115,7 +115,7 @@ pub use charge::Charge;
 pub use error::{CallError, CopyError, VolumeError};
 pub use file_facts::FileFacts;
 pub use handles::{Pending, Pin, VersionHandle};
-pub use home::{Home, read_home};
+pub use home::{Home, read_home, stated_size};
 pub use migrate::Migrated;
 pub use open::read_map;
 pub use pending::PendingKind;

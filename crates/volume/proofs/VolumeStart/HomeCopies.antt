@@ -1,19 +1,20 @@
 -- What the words of a home copy say.
 use Rattle.std.proofs.Common.{◌≡◌, Bool, ◌==◌, ℕ, ◌<◌, ◌≤◌, List, [], ◌∷◌, length, get_or, Some, refl, sym, inl, inr}
-use Rattle.std.proofs.Common.{◌∙◌, ap, subst, arith, slice_index, Option, None, IfNone}
+use Rattle.std.proofs.Common.{◌∙◌, ap, subst, arith, replicate, slice_index, Option, None, IfNone}
 use Rattle.std.specs.Bool.{Decides}
 use Rattle.std.specs.Cmp.Lexicographic.{pointwise}
 use Rattle.std.proofs.lemmas.Bool.Decides.{Decides-eqb}
 use Rattle.std.proofs.lemmas.Slice.Eq.{slice_eq-Decides}
 use Rattle.blockdisk.specs.Common.{Contents}
 use Rattle.spec_image.specs.Common.{space_start, filser_word, home_block, IsHomeCopy, IsLayout, layout_number}
-use Rattle.spec_image.specs.Common.{InSpace, HasName}
+use Rattle.spec_image.specs.Common.{InSpace, HasName, log_images, table_blocks}
 use Rattle.spec_image.specs.declared.layout.Layout.{Layout}
 use Rattle.spec_image.specs.declared.layout.Layout.TheVariants.{One, Two}
 use Rattle.spec_image.proofs.Common.{some_same}
 use Rattle.volume.specs.declared.home.HomeCopy.{HomeCopy}
 use Rattle.volume.specs.declared.home.HomeCopy.TheVariants.{Valid, Named, Unnamed}
-use Rattle.volume.specs.Common.{home_in, IsNoCopy, IsFound, holds_words}
+use Rattle.volume.specs.declared.home.Home.{Home}
+use Rattle.volume.specs.Common.{home_in, IsNoCopy, IsFound, SaysSize, holds_words}
 
 -- the number of a layout is one that an image may have
 pub is_allowed : (layout : Layout) → IsLayout (layout_number layout)
@@ -50,6 +51,29 @@ no_copy size n words wrong home copy =
       below = subst (λ (k : ℕ). k < size) master copy.master_below;
     })
     (whole ∙ (λ i. home_block size (home_in (layout i) (master i))))
+
+-- the third word of a block
+pub third : (words : List ℕ) (cell word : ℕ) → length words ≡ 128 → word ≡ get_or words 2 cell
+    → word ≡ slice_index words 2
+third [] cell word long at = absurd (omega arith)
+third (a ∷ []) cell word long at = absurd (omega arith)
+third (a ∷ b ∷ []) cell word long at = absurd (omega arith)
+third (a ∷ b ∷ c ∷ rest) cell word long at = at
+
+-- the size that a valid copy says is one of its words
+pub stated : (size n : ℕ) (words : List ℕ) → SaysSize size (holds_words words) n → size ≡ slice_index words 2
+stated size n words said = sym (ap (λ (l : List ℕ). slice_index l 2) (some_same said.copy.words))
+
+pub no_size : (size n : ℕ) (words : List ℕ) (copy : HomeCopy) → IsFound size (holds_words words) n copy
+    → ((home : Home) → copy ≡ Valid home → ⊥) → SaysSize size (holds_words words) n → ⊥
+no_size size n words (Valid home) found other said = other home refl
+no_size size n words Named found other said = found.1 said.home said.copy
+no_size size n words Unnamed found other said =
+    let home = said.home in
+    found (
+      home.layout ∷ size ∷ table_blocks size ∷ log_images size ∷ home.master ∷ replicate 122 0,
+      said.copy.words,
+    )
 
 pub valid_copy : (size n layout master : ℕ) (words : List ℕ) → IsLayout layout → InSpace size master
     → words ≡ home_block size (home_in layout master) → IsHomeCopy size (holds_words words) n (home_in layout master)
