@@ -2,13 +2,13 @@
 pub use Rattle.imagefile.specs.File.{Bytes, FileFails, FileKeeps, FilePasses, FileState, FileSyncs, FileWrites}
 pub use Rattle.imagefile.specs.File.{Inside, MayRemain, Remains, SameFile}
 unfoldable pub use Rattle.imagefile.specs.File.{window}
-pub use Rattle.imagefile.specs.Image.{IsImageSize, block_content, block_length, image_contents, image_state}
-pub use Rattle.imagefile.specs.Image.{other_form, spelled_blocks, wide_content}
+pub use Rattle.imagefile.specs.Image.{HasTooManyBlocks, IsImageSize, block_content, block_length, image_contents}
+pub use Rattle.imagefile.specs.Image.{image_state, other_form, spelled_blocks, wide_content}
 unfoldable pub use Rattle.imagefile.specs.Image.{are_words, first_words}
 pub use Rattle.imagefile.specs.ImageLaws.{image_counts_now, image_fails, image_keeps, image_only_now}
 pub use Rattle.imagefile.specs.ImageLaws.{image_reaches_back, image_syncs, image_writes, image_writes_run}
 pub use Rattle.imagefile.specs.ImageLaws.{window-same}
-pub use Rattle.imagefile.specs.Measured.{IsImageOf, IsNoImage}
+pub use Rattle.imagefile.specs.Measured.{IsCutImage, IsImageOf, IsNoCutImage, IsNoImage}
 pub use Rattle.imagefile.specs.ImageDisk.{blocks_of, form_of}
 pub use Rattle.imagefile.specs.Memory.{FileLeaves, FileMemory, FileMoment, HasRoom, IsFileReplayed, Step, Synced}
 pub use Rattle.imagefile.specs.Memory.{Wrote, after_step, after_steps, begun, bytes_synced, bytes_written, memory_of}
@@ -29,7 +29,7 @@ pub use Rattle.imagefile.specs.Answered.{HostCall, IsInFile, Measure, ReadAt, Sy
 pub use Rattle.imagefile.specs.RecordedLaws.{recorded_counts_now, recorded_only_now, recorded_reaches_back}
 pub use Rattle.imagefile.specs.SeekingFile.{system_of, unseen_of}
 pub use Rattle.imagefile.specs.Streams.{IsNoStream}
-pub use Rattle.imagefile.specs.Began.{BeganAs, begun_image}
+pub use Rattle.imagefile.specs.Began.{BeganAs, BeganCut, begun_image}
 pub use Rattle.imagefile.specs.Outcomes.{HasCause, IsPastAll, Looked, LookedAndSynced, Measured, Outcome}
 pub use Rattle.imagefile.specs.Outcomes.{move_outcome, size_outcome, sync_outcome}
 pub use Rattle.imagefile.specs.Endings.{EndsSo}

@@ -1,8 +1,8 @@
 -- An image: block n of the disk is the bytes of one block from place n times their number. In the wide form a block
 -- has 1024 bytes, and is damaged if a word has top bits that aren't zero; in the packed form it has 576, and none is
 -- damaged by its bytes.
-use Rattle.std.specs.Prelude.{◌≡◌, ◌<◌, ◌+◌, ◌*◌, ◌/◌, ◌^◌, ◌==◌, ◌&&◌, ◌||◌, if◌then◌else◌, ℕ, zero, suc, Bool, true}
-use Rattle.std.specs.Prelude.{false, List, [], ◌∷◌, ◌++◌, Option, Some, None, take, drop}
+use Rattle.std.specs.Prelude.{◌≡◌, ◌<◌, ◌≤◌, ◌+◌, ◌*◌, ◌/◌, ◌^◌, ◌==◌, ◌&&◌, ◌||◌, if◌then◌else◌, ℕ, zero, suc, Bool}
+use Rattle.std.specs.Prelude.{true, false, List, [], ◌∷◌, ◌++◌, Option, Some, None, take, drop}
 use Rattle.words36.specs.Common.{number_at, nine_words}
 use Rattle.blockdisk.specs.Common.{Contents, DiskState}
 use Rattle.imagefile.specs.File.{Bytes, Remains, FileState, Inside, window}
@@ -74,3 +74,7 @@ image_state form blocks f = record {
 -- the size in bytes of an image that a disk can be made of
 abbrev pub IsImageSize : Form → ℕ → Type 0
 IsImageSize form size = (blocks : ℕ) × (blocks < 2 ^ 32) × (size ≡ block_length form * blocks)
+
+-- a file of this many bytes has 2^32 whole blocks or more
+abbrev pub HasTooManyBlocks : Form → ℕ → Type 0
+HasTooManyBlocks form size = block_length form * 2 ^ 32 ≤ size

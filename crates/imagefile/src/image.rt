@@ -1,10 +1,11 @@
 //! A disk over an image of either form.
-ghost use Rattle.std.specs.Prelude.{◌≡◌, ◌*◌, ◌<◌, ◌↔◌, ℕ, Some, None, IfOk, IfErr, IsSome, List, All, length};
+ghost use Rattle.std.specs.Prelude.{◌≡◌, ◌*◌, ◌<◌, ◌≤◌, ◌↔◌, ℕ, Some, None, IfOk, IfErr, IsSome, List, All, length};
 ghost use Rattle.words36.specs.Common.{IsBlock, block_bytes, nine_bytes};
 ghost use Rattle.blockdisk.specs.declared.fault.Fault.TheVariants.{Device};
-ghost use Rattle.imagefile.specs.Began.{BeganAs};
+ghost use Rattle.imagefile.specs.Began.{BeganAs, BeganCut};
 ghost use Rattle.imagefile.specs.Image.{block_length, image_state, block_content, IsImageSize};
-ghost use Rattle.imagefile.specs.Measured.{IsImageOf, IsNoImage};
+ghost use Rattle.imagefile.specs.Image.{HasTooManyBlocks};
+ghost use Rattle.imagefile.specs.Measured.{IsImageOf, IsCutImage, IsNoImage, IsNoCutImage};
 ghost use Rattle.imagefile.specs.ImageLaws.{image_counts_now, image_only_now, image_reaches_back};
 ghost use Rattle.imagefile.specs.AssumedImage.{assumed_in};
 ghost use Rattle.imagefile.specs.Unseen.{size_of};
@@ -13,7 +14,7 @@ ghost use Rattle.imagefile.specs.declared.size.ImageError.TheVariants.{BadSize};
 ghost use Rattle.imagefile.specs.declared.size.ImageError.TheVariants as ImageError;
 
 use crate::codec::{read_block, read_blocks_through, verify_blocks, write_block, write_blocks};
-use crate::{AssumedImage, Durable, Form, HostFile, ImageError, block_count};
+use crate::{AssumedImage, Durable, Form, HostFile, ImageError, block_count, whole_blocks};
 use blockdisk::{Disk, Fault};
 use std::alloc::Global;
 use std::fs::File;
@@ -22,7 +23,7 @@ use words36::{BLOCK_BYTES, Block};
 /// The number of neighbouring blocks that one call of the file reads, if there is memory for their bytes.
 const RUN_BLOCKS: usize = 128;
 
-/// A disk whose blocks are in a file, one after the other.
+/// A disk whose blocks are in a file, one after the other. The file may have more bytes than they do.
 #[derive(Drop)]
 pub struct ImageDisk<F: Durable> {
     file: F,
@@ -30,7 +31,7 @@ pub struct ImageDisk<F: Durable> {
     blocks: u32,
     // For the bytes of a run that is read.
     room: Option<Vec<u8>>,
-    ghost sized: { (F.state file).honest → (F.state file).size ≡ block_length form * blocks },
+    ghost sized: { (F.state file).honest → block_length form * blocks ≤ (F.state file).size },
 }
 
 impl<F: Durable> ImageDisk<F> {
@@ -77,6 +78,36 @@ impl<F: Durable> ImageDisk<F> {
             }),
             Err(error) => Err((error, file)),
         }
+    }
+
+    /// Makes the disk of the whole blocks of a file in this form, and returns how many bytes follow them. Writes
+    /// nothing.
+    ///
+    /// # Errors
+    ///
+    /// The file is handed back: `BadSize` if it has 2^32 whole blocks or more, `Device` if the device failed.
+    pub fn of_start(file: F, form: Form) -> Result<(Self, u32), (ImageError, F)>
+        ensures form { IfOk result (λ cut. form_of cut.0 ≡ form) }
+        ensures image { IfOk result
+            (λ cut. IsCutImage form (blocks_of cut.0) cut.1 (F.state file) (F.state (file_of cut.0))) }
+        ensures refused { IfErr result (λ refused. IsNoCutImage form refused.0 (F.state file) (F.state refused.1)) }
+    {
+        let mut file = file;
+        let size = match file.len() {
+            Ok(size) => size,
+            Err(_) => return Err((ImageError::Device, file)),
+        };
+        let (blocks, tail) = match whole_blocks(form, size) {
+            Ok(found) => found,
+            Err(error) => return Err((error, file)),
+        };
+        let disk = ImageDisk {
+            file,
+            form,
+            blocks,
+            room: None,
+        };
+        Ok((disk, tail))
     }
 
     /// Returns the same disk, with memory to read up to 128 neighbouring blocks by one call of the file. If there is
@@ -140,6 +171,30 @@ impl ImageDisk<HostFile> {
             → (failures_of refused.1 ≡ 1) × IsSome (failure_of refused.1)) }
     {
         ImageDisk::of_form(HostFile::from_file(file, supposed), form)
+    }
+
+    /// Makes the disk of the whole blocks of an open file that has not been used yet, and returns how many bytes
+    /// follow them. `supposed` is what no call shows of the file. Writes nothing.
+    ///
+    /// # Errors
+    ///
+    /// As for `of_start`. The file comes back and knows why it failed.
+    pub fn open_start(
+        file: File,
+        supposed: AssumedImage,
+        form: Form,
+    ) -> Result<(Self, u32), (ImageError, HostFile)>
+        ensures form { IfOk result (λ cut. form_of cut.0 ≡ form) }
+        ensures began { IfOk result
+            (λ cut. BeganCut form (assumed_in supposed) cut.1 (⟦<ImageDisk<HostFile> as Disk>⟧.state cut.0)) }
+        ensures counted { IfOk result (λ cut. failures_of (file_of cut.0) ≡ 0) }
+        ensures size { IfErr result (λ refused. refused.0 ≡ BadSize → (⟦<HostFile as Durable>⟧.state refused.1).honest
+            → HasTooManyBlocks form (size_of (assumed_in supposed))) }
+        ensures served { IfErr result (λ refused. refused.0 ≡ BadSize → failures_of refused.1 ≡ 0) }
+        ensures failed { IfErr result (λ refused. refused.0 ≡ ImageError.Device
+            → (failures_of refused.1 ≡ 1) × IsSome (failure_of refused.1)) }
+    {
+        ImageDisk::of_start(HostFile::from_file(file, supposed), form)
     }
 }
 

@@ -7,7 +7,8 @@
 //!    those that the file's bytes spell, and it is honest while the file is.
 //! 3. A file is refused exactly if its length is not a multiple of a block's, if it has 2^32 blocks or more, or if it
 //!    fails; nothing is written, and the file is handed back. (`block_count`, `new`) The disk of an open file holds
-//!    what that file began with. (`open_file`, `BeganAs`)
+//!    what that file began with. (`open_file`, `BeganAs`) A disk can also be made of the whole blocks of a file of any
+//!    length below 2^32 blocks; the number of bytes after them is returned. (`of_start`, `open_start`, `BeganCut`)
 //! 4. `MemFile` is a `Durable` without any assumption, and each of its calls leaves exactly what is stated.
 //! 5. `HostFile` is a `Durable` over any system's calls, and honest while they are: an answer may end that, and none
 //!    brings it back. What a call answered is right if the file is honest after it, so nobody has to know future
@@ -52,6 +53,6 @@ pub use packed::PackedDisk;
 pub use seeking_file::{
     SeekingFile, a_file_by_the_model_is_honest, answers_by_the_model_are_honest,
 };
-pub use size::{ImageError, block_count};
+pub use size::{ImageError, block_count, whole_blocks};
 pub use streams::apart;
 pub use system::{HostCalls, SyncData, SystemCalls};

@@ -1,6 +1,6 @@
-//! The number of blocks of an image, by the length of its file.
-ghost use Rattle.std.specs.Prelude.{◌≡◌, ◌*◌, IfOk, IfErr, OnErr};
-ghost use Rattle.imagefile.specs.Image.{block_length, IsImageSize};
+//! The number of blocks of an image, and of the whole blocks of any file, by its length.
+ghost use Rattle.std.specs.Prelude.{◌≡◌, ◌<◌, ◌+◌, ◌*◌, IfOk, IfErr, OnErr};
+ghost use Rattle.imagefile.specs.Image.{block_length, IsImageSize, HasTooManyBlocks};
 
 use crate::Form;
 use thiserror::Error;
@@ -32,4 +32,24 @@ pub fn block_count(form: Form, size: u64) -> Result<u32, ImageError>
         return Err(ImageError::BadSize);
     }
     u32::try_from(size / block).map_err(|_| ImageError::BadSize)
+}
+
+/// Returns the number of whole blocks in a file of this number of bytes, and the number of bytes after them, which is
+/// less than a block's.
+///
+/// # Errors
+///
+/// `BadSize` exactly if the file has 2^32 whole blocks or more.
+pub fn whole_blocks(form: Form, size: u64) -> Result<(u32, u32), ImageError>
+    ensures counted { IfOk result
+        (λ found. (size ≡ block_length form * found.0 + found.1) × (found.1 < block_length form)) }
+    ensures refused { OnErr result (HasTooManyBlocks form size) }
+    ensures bad { IfErr result (λ error. error ≡ ImageError.BadSize) }
+{
+    let block = form.block_bytes();
+    let tail = (size % block) as u32;
+    match u32::try_from(size / block) {
+        Ok(blocks) => Ok((blocks, tail)),
+        Err(_) => Err(ImageError::BadSize),
+    }
 }

@@ -1,6 +1,8 @@
 //! Tests of images in memory, in both forms.
 use blockdisk::{Disk, Fault, NoMemory};
-use imagefile::{Durable, Form, HostFile, ImageDisk, ImageError, MemFile, PackedDisk, block_count};
+use imagefile::{
+    Durable, Form, HostFile, ImageDisk, ImageError, MemFile, PackedDisk, block_count, whole_blocks,
+};
 use std::alloc::{AllocError, Global};
 use std::process::Abort;
 use std::test::Fail;
@@ -212,6 +214,37 @@ fn a_packed_image_in_memory(rt: HostRuntime) -> Result<(), Fail> {
         Err(_refused) => panic!(rt; "the file is an image"),
     }
     Ok(())
+}
+
+/// Three blocks of zeros, which five bytes follow, in both forms.
+#[test]
+fn the_whole_blocks_of_a_file(rt: HostRuntime) -> Result<(), Fail> {
+    for (form, bytes) in [(Form::Wide, 3077), (Form::Packed, 1733)] {
+        let file = file_of(rt.alloc(), vec![in rt.alloc(); 0; bytes]?, 2)?;
+        match ImageDisk::of_start(file, form) {
+            Ok((disk, tail)) => {
+                let mut disk = disk;
+                assert_eq!(rt; (disk.blocks(), tail), (3, 5));
+                expect_block(&rt, &mut disk, 2, Ok(filled(0)));
+            }
+            Err(_refused) => panic!(rt; "the file has whole blocks"),
+        }
+    }
+    Ok(())
+}
+
+/// Fewer bytes than a block has are all left over, and a file may have nearly 2^32 blocks.
+#[test]
+fn whole_blocks_of_a_length(rt: HostRuntime) {
+    for (form, size, wanted) in [
+        (Form::Wide, 1023, Ok((0, 1023))),
+        (Form::Packed, 576, Ok((1, 0))),
+        (Form::Wide, (1 << 42) - 1, Ok((u32::MAX, 1023))),
+        (Form::Wide, 1 << 42, Err(ImageError::BadSize)),
+        (Form::Packed, 576 << 32, Err(ImageError::BadSize)),
+    ] {
+        assert_eq!(rt; whole_blocks(form, size), wanted);
+    }
 }
 
 /// Each error has its text, and a length that is no image's has one of them.
