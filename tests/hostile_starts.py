@@ -9,12 +9,13 @@ Each shape is made at four sizes, each twice the one before, up to images of LAR
 - a loop: the same chain, whose last block leads back to its first;
 - twin names: the same chain, whose last name is that of the first block;
 - one directory: a master directory of the same length, all of whose entries lead to one directory;
-- short runs: a file of a quarter of the disk's blocks, no two of them neighbours; a start, and a get.
+- short runs: a file of a quarter of the disk's blocks, no two of them neighbours; a start, and a get;
+- one chain: a quarter of the blocks are a master directory, all of whose directories have the same chain; `salvage`.
 
 A refusal has to be the one that the image deserves. A start on n blocks takes at most 7,000 * n * log n instructions
-(log to base 2; a block has up to 42 entries), and twice the size at most 2.4 times as many. They are counted by
-valgrind, which gives the same number in each run; without valgrind only the sizes are tried. The last line says how
-many passed.
+(log to base 2; a block has up to 42 entries), a salvage 70,000 of these, and twice the size at most 2.4 times as many.
+They are counted by valgrind, which gives the same number in each run; without valgrind only the sizes are tried. The
+last line says how many passed.
 """
 
 import math
@@ -29,6 +30,8 @@ BLOCK = 1024
 ENTRIES = 42
 STEPS = 2.4
 MOST = 7000
+# A survey has a line for each entry of the directories.
+SURVEYED = 70000
 COUNTER = ["valgrind", "--tool=cachegrind", "--cache-sim=no", "--cachegrind-out-file=/dev/null"]
 COUNTED = re.compile(rb"I\s+refs:\s+([0-9,]+)")
 PROTECTION = 0o775 << 27
@@ -67,13 +70,17 @@ class Image:
     def chain(self, first, entry, last_leads_to=0):
         """Makes a chain of every block from the first, except the last block of the disk. Returns its blocks."""
         chain = [first, *range(self.directory + 1, self.blocks - 1)]
+        self.link(chain, entry, last_leads_to)
+        return chain
+
+    def link(self, chain, entry, last_leads_to=0):
+        """Makes a chain of these blocks."""
         for place, block in enumerate(chain):
             following = chain[place + 1] if place + 1 < len(chain) else last_leads_to
             words = [following, ENTRIES]
             for number in range(place * ENTRIES, (place + 1) * ENTRIES):
                 words += entry(number)
             self.put(block, words)
-        return chain
 
     def save(self):
         with open(self.path, "wb") as file:
@@ -115,11 +122,20 @@ def twin_names(image):
     return f"?Bad directory block {last}\n"
 
 
-def one_directory(image):
-    def entry(number):
-        return [((number >> 17) + 2 << 18) + scattered(number % (1 << 17)) + 1, PROTECTION, image.directory]
+def begins_in(first):
+    return lambda number: [((number >> 17) + 2 << 18) + scattered(number % (1 << 17)) + 1, PROTECTION, first]
 
-    image.chain(image.master, entry)
+
+def one_chain(image):
+    """Makes a quarter of the blocks a master directory, all of whose directories have the same chain, of half the
+    blocks."""
+    quarter, half = image.blocks // 4, image.blocks // 2
+    image.link([image.master, *range(image.directory + 1, image.directory + quarter)], begins_in(half))
+    image.link(list(range(half, image.blocks - 1)), leads_to(image.blocks - 1))
+
+
+def one_directory(image):
+    image.chain(image.master, begins_in(image.directory))
     return f"?Block {image.directory} reached twice\n"
 
 
@@ -160,10 +176,18 @@ class Counts:
         counted = COUNTED.search(done.stderr)
         return int(counted[1].replace(b",", b"")) if counted else 0
 
-    def growth(self, what, sizes, costs):
+    def survey(self, image, words, size):
+        """Returns the instructions of a survey, which must find faults."""
+        done = image.run(*words, counter=self.counter)
+        told = done.returncode == 1 and b"reached twice" in done.stdout
+        self.expect(told, f"a survey of {size} blocks: {done.stdout[:80]!r}")
+        counted = COUNTED.search(done.stderr)
+        return int(counted[1].replace(b",", b"")) if counted else 0
+
+    def growth(self, what, sizes, costs, most=MOST):
         """Checks that the costs are within the bound, and that each is at most this many times the one before."""
         for size, cost in zip(sizes, costs):
-            self.expect(cost <= MOST * size * math.log2(size), f"{what}, {size} blocks: {cost} instructions")
+            self.expect(cost <= most * size * math.log2(size), f"{what}, {size} blocks: {cost} instructions")
         ratios = [after / before for before, after in zip(costs, costs[1:]) if before]
         print(f"{what}: " + ", ".join(f"{cost / 1e6:.1f}" for cost in costs) + " million instructions")
         for ratio in ratios:
@@ -197,6 +221,14 @@ def main():
             os.remove(path)
         counts.growth("short runs, a start", sizes, starts)
         counts.growth("short runs, a get", sizes, gets)
+        costs = []
+        for size in sizes:
+            image = Image(program, path, size)
+            one_chain(image)
+            image.save()
+            costs.append(counts.survey(image, ["salvage", path, os.path.join(folder, "out"), "--list"], size))
+            os.remove(path)
+        counts.growth("one chain, a salvage", sizes, costs, SURVEYED)
     print(f"{counts.count - counts.failed} of {counts.count} as they should be")
     return 1 if counts.failed else 0
 

@@ -154,6 +154,18 @@ class Tries:
             self.so(f"{what}: {sorted(found)} came out", found == saved)
 
 
+    def salvage_lines(self, what, image):
+        """Saves what is on an image, and returns the lines that are printed; status 1, and the image stays."""
+        image.save()
+        before = bytes(image.data)
+        out = f"out{self.count}"
+        done = self.run(["salvage", os.path.basename(image.path), out])
+        self.so(f"{what}: status {done.returncode}", done.returncode == 1)
+        with open(image.path, "rb") as file:
+            self.so(f"{what}: the image changed", file.read() == before)
+        return done.stdout.decode().replace(f"{out}/", "out/").replace(f"{out}:", "out:").splitlines()
+
+
 def line(name, owner="10,20", text=None, apart=""):
     return f"out/{apart}{owner}/{name}: {text or ENCODED[name] + ' OK'}"
 
@@ -300,8 +312,8 @@ def losses_told(tries):
 
 
 def tangled_image(tries):
-    """Tests that a check abandons its search if the same blocks are read again and again, and reports at most 100
-    faults."""
+    """Tests that a check reports at most 100 faults, and that it finds them though many directories lead to one chain:
+    that is read for the first of them."""
     image = tries.make("T.IMG", 2048)
     chain = list(range(500, 1000))
     for place, block in enumerate(chain):
@@ -324,7 +336,10 @@ def tangled_image(tries):
     wanted.append("filser: more is wrong: see filser salvage --list")
     tries.so(f"a hundred faults: {lines[:2]}, {lines[-1:]}", lines == wanted)
     lines = told(42)
-    tries.so(f"too many reads: {lines[:3]}", lines == ["filser: which files are lost: see filser salvage --list"])
+    tries.so(f"one chain for all: {lines[:2]}, {lines[-1:]}", lines == wanted)
+    done = tries.run(["salvage", "T.IMG", "tangled", "10,61", "--list"])
+    tries.so(f"the last of them: {done.stdout!r}",
+             done.stdout == f"tangled/10,61: ?Block {chain[0]} reached twice\n".encode() and done.returncode == 1)
 
 
 def shared_blocks(tries):
@@ -372,6 +387,45 @@ def deleted_files(tries):
     wanted = {f"out/unnamed/10,20/{data}: bytes OK", f"out/unnamed/10,20/{small}: text OK", WHOLE[3]} | fault
     tries.salvage("deleted files", image, wanted, 1,
                   saved={f"unnamed/10,20/{data}": BYTES, f"unnamed/10,20/{small}": b"NEWER", "10,21/FOO.TXT": TEXT})
+
+
+def searches(tries):
+    """Tests which files come out that no directory names: none with --named, and deleted ones with --all alone."""
+    fresh = tries.make("X.IMG")
+    tries.run(["delete", "X.IMG", "10,20", "FOO.TXT"])
+    image = Image(tries.path("X.IMG"))
+    kept, files = set(WHOLE) - {line("FOO.TXT")}, without("10,20/FOO.TXT")
+    lines, deleted = unnamed(fresh, "10,20/FOO.TXT")
+    tries.salvage("a deleted file", image, kept, 0, saved=files)
+    tries.salvage("a deleted file, --named", image, kept, 0, "--named", saved=files)
+    tries.salvage("a deleted file, --all", image, kept | lines, 0, "--all", saved=files | deleted)
+    tries.salvage("a deleted file, of its directory", image, kept - {WHOLE[3]} | lines, 0, "10,20", "--all",
+                  saved=deleted | {place: data for place, data in files.items() if place.startswith("10,20/")})
+    tries.salvage("a deleted file, of another directory", image, {WHOLE[3]}, 0, "10,21", "--all",
+                  saved={"10,21/FOO.TXT": TEXT})
+    paths = {text.split(":")[0] for text in kept | lines}
+    tries.salvage("a list of deleted files", image, paths, 0, "--list", "--all", saved={})
+    directory = image.directories()[PPN]
+    small = image.files(PPN)[name_of("S", "")]
+    image.damage(directory)
+    told, others = {WHOLE[3], f"out/10,20: ?Bad directory block {directory}"}, {"10,21/FOO.TXT": TEXT}
+    tries.salvage("no directory, --named", image, told, 1, "--named", saved=others)
+    lines, found = unnamed(fresh, "10,20/DATA.BIN", "10,20/S")
+    tries.salvage("no directory", image, told | lines, 1, saved=others | found)
+    tries.salvage("no directory, --all", image, told | lines | unnamed(fresh, "10,20/FOO.TXT")[0], 1, "--all",
+                  saved=others | found | deleted)
+    words = image.words(small)
+    image.set_words(small, [*words[:16], 1 << 18 | image.size, *words[17:]])
+    tries.salvage("no directory and a bad prime block, --named", image, told, 1, "--named", saved=others)
+    image.save()
+    done = tries.run(["salvage", "X.IMG", "both", "--named", "--all"])
+    tries.so(f"both flags: {done.stdout!r}, {done.stderr!r}, status {done.returncode}",
+             done.returncode == 2 and not done.stdout
+             and done.stderr == b"?Bad argument\nfilser: --named and --all exclude each other\n")
+    tries.so("no folder is made for both flags", not os.path.exists(tries.path("both")))
+    for flag in ("--named", "--all"):
+        done = tries.run(["export", "X.IMG", "flagged", flag])
+        tries.so(f"export {flag}: status {done.returncode}", done.returncode == 2)
 
 
 def pointers(tries):
@@ -505,14 +559,71 @@ def silence(tries):
                       or faults[0].endswith(f": ?Block {number} is free")))
 
 
+def lengths(tries):
+    """Tests images that were cut, or that have something after their end: the volume has the size that a home copy says,
+    and every file whose blocks are there comes out."""
+    fresh = tries.make("G.IMG", 200)
+
+    def changed(data):
+        image = Image(tries.path("G.IMG"))
+        image.data = bytearray(data)
+        return image
+
+    def blocks_of(prime):
+        return [prime, *fresh.data_blocks(prime)]
+
+    primes = [*fresh.files(PPN).values(), *fresh.files(OTHER).values()]
+    last = max(block for prime in primes for block in blocks_of(prime))
+    missing = "out: ?Blocks missing at the end: {}"
+    for blocks in (199, last + 1):
+        lines = set(WHOLE) | {missing.format(200 - blocks)}
+        tries.salvage(f"cut to {blocks} blocks", changed(fresh.data[:blocks * BLOCK]), lines, 1, saved=ALL)
+    lines = set(WHOLE) | {missing.format(1), "out: ?Bytes after the last block: 1023"}
+    tries.salvage("cut by a byte", changed(fresh.data[:-1]), lines, 1, saved=ALL)
+    done = tries.run(["check", "G.IMG"])
+    tries.so(f"check refuses it: {done.stdout!r}", done.stdout == b"?Not a volume\n" and done.returncode == 3)
+    lines = set(WHOLE) | {"out: ?Bytes after the last block: 5"}
+    tries.salvage("five bytes more", changed(fresh.data + b"FIVE\n"), lines, 1, saved=ALL)
+    lines = set(WHOLE) | {"out: ?Blocks after the end: 3"}
+    tries.salvage("three blocks more", changed(fresh.data + bytes(3 * BLOCK)), lines, 1, saved=ALL)
+    image = changed(fresh.data + bytes(3 * BLOCK))
+    image.damage(1)
+    tries.salvage("three blocks more, and one home copy", image, lines, 1, saved=ALL)
+    image.damage(2)
+    lines, files = unnamed(fresh)
+    done = tries.salvage_lines("no home copy, and three blocks more", image)
+    tries.so(f"the length decides: {done}", "out: ?Not a volume" in done and lines <= set(done))
+    # Two home copies that differ: the one that agrees with the length is believed, as by a start.
+    image = changed(fresh.data[:100 * BLOCK])
+    words = image.words(2)
+    words[2] = 100
+    image.set_words(2, words)
+    tries.salvage("a copy that agrees with the length", image, set(WHOLE), 0, saved=ALL)
+    # A copy that is cut to fewer blocks than any volume has.
+    image = changed(fresh.data[:50 * BLOCK])
+    kept = {text: place for text, place in zip((line("DATA.BIN"), line("FOO.TXT"), line("S"), line("FOO.TXT", "10,21")),
+                                               ("10,20/DATA.BIN", "10,20/FOO.TXT", "10,20/S", "10,21/FOO.TXT"))}
+    done = tries.salvage_lines("fifty blocks", image)
+    tries.so(f"fifty blocks: {done}", missing.format(150) in done)
+    for text, place in kept.items():
+        owner, name = place.split("/")
+        stem, _, extension = name.partition(".")
+        prime = fresh.files(PPN if owner == "10,20" else OTHER)[name_of(stem, extension)]
+        tries.so(f"{place} of fifty blocks: {done}", (text in done) == (max(blocks_of(prime)) < 50))
+    # In form 2 a block has 576 bytes.
+    for given in (["init", "K.IMG", "64", "--form", "2"], ["import", "K.IMG", "10,20", tries.hosts()[0], "--form", "2"]):
+        tries.so(f"{given[0]} in form 2", tries.run(given).returncode == 0)
+    with open(tries.path("K.IMG"), "ab") as file:
+        file.write(bytes(575))
+    done = tries.run(["salvage", "K.IMG", "short", "--form", "2"])
+    lines = done.stdout.decode().splitlines()
+    tries.so(f"a tail in form 2: {lines}", done.returncode == 1 and set(lines)
+             == {"short: ?Bytes after the last block: 575", "short/10,20/FOO.TXT: text OK"})
+
+
 def odd_images(tries):
-    """Tests images that are truncated, empty, or missing."""
-    image = tries.make("G.IMG")
-    last = max(n for prime in image.files(PPN).values() for n in (prime, *image.data_blocks(prime)))
-    last = max(last, *(n for prime in image.files(OTHER).values() for n in (prime, *image.data_blocks(prime))))
-    image.data = image.data[:max(64, last + 1) * BLOCK]
-    lines, files = unnamed(image)
-    tries.salvage("an image that is cut off", image, lines | {"out: ?Bad home blocks"}, 1, saved=files)
+    """Tests images that are empty, or missing."""
+    image = tries.make("J.IMG")
     image.data = bytearray(10 * BLOCK)
     tries.salvage("ten blocks", image, ["?Not a volume"], 3, saved={})
     image.data = bytearray(64 * BLOCK)
@@ -559,9 +670,9 @@ def spoiled_images(tries, count):
 
 def damaged_structures(tries, count):
     """Tests images of which only the structure is damaged: home copies, table, directories and retrieval blocks are
-    zeroed, filled or exchanged, and bits of the table and of pointers flipped. Each file in its place has the bytes
-    that were put, unless a fault is reported that hides whose a block is: of the table, or of the retrieval blocks of
-    another file. Something is reported if a file isn't there."""
+    zeroed, filled or exchanged, bits of the table and of pointers flipped, and the end cut off or replaced. Each file
+    in its place has the bytes that were put, unless a fault is reported that hides whose a block is: of the table, or of
+    the retrieval blocks of another file. Something is reported if a file isn't there."""
     chance = random.Random(1971)
     fresh = {name: tries.make(name, 80, *options) for name, options in
              (("U.IMG", ()), ("V.IMG", ("--layout", "2")))}
@@ -572,7 +683,7 @@ def damaged_structures(tries, count):
         primes = [*whole.files(PPN).values(), *whole.files(OTHER).values()]
         structure = [1, 2, whole.table, whole.words(1)[5], *whole.directories().values(), *primes]
         for _ in range(chance.randrange(1, 4)):
-            block, way = chance.choice(structure), chance.randrange(5)
+            block, way = chance.choice(structure), chance.randrange(6)
             if way == 0:
                 image.set_words(block, [0] * 128)
             elif way == 1:
@@ -582,6 +693,9 @@ def damaged_structures(tries, count):
                 words = image.words(block)
                 image.data[block * BLOCK:(block + 1) * BLOCK] = image.data[other * BLOCK:(other + 1) * BLOCK]
                 image.set_words(other, words) if max(words) < 1 << 36 else image.damage(other)
+            elif way == 5:
+                cut = chance.randrange(70 * BLOCK, whole.size * BLOCK)
+                image.data = image.data[:cut] + bytes(chance.randrange(2) * chance.randrange(4 * BLOCK))
             elif way == 3 and max(image.words(whole.table)) < 1 << 36:
                 words, bit = image.words(whole.table), chance.randrange(whole.size)
                 words[bit // 36] ^= 1 << 35 - bit % 36
@@ -618,7 +732,7 @@ def main():
     with tempfile.TemporaryDirectory() as folder:
         tries = Tries(program, folder)
         for part in (whole_image, damaged_blocks, losses_told, tangled_image, shared_blocks, pointers, old_versions,
-                     deleted_files, logs, silence, odd_images):
+                     deleted_files, searches, logs, silence, lengths, odd_images):
             part(tries)
         spoiled_images(tries, count)
         damaged_structures(tries, count)

@@ -23,7 +23,8 @@ _filser() {
         put) options='--words --bytes --new --date --minute --form --help' ;;
         get) options='--words --bytes --date --minute --form --help' ;;
         import) options='--text --bytes --words --shorten --dates --date --minute --form --help' ;;
-        export | salvage) options='--text --bytes --words --list --form --help' ;;
+        export) options='--text --bytes --words --list --form --help' ;;
+        salvage) options='--text --bytes --words --list --named --all --form --help' ;;
         help) options=--help ;;
     esac
     if [[ $word == -* ]]; then

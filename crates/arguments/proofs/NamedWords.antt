@@ -7,8 +7,8 @@ use Rattle.clap.specs.Words.{Row, Text, all_of, first_of, subcommand_of}
 use Rattle.arguments.specs.CommandLine.{adapted, calls_app, check_app, command_line, convert_app, converting, dated}
 use Rattle.arguments.specs.CommandLine.{delete_app, encoded, export_app, filed, filing, formed, gathered, get_app}
 use Rattle.arguments.specs.CommandLine.{import_app, init_app, laid_out, list_app, located, looking, making, migrate_app}
-use Rattle.arguments.specs.CommandLine.{moving, put_app, run_app, salvage_app, scattered, serving, sized, unloaded}
-use Rattle.arguments.specs.CommandLine.{wire_app}
+use Rattle.arguments.specs.CommandLine.{moving, put_app, run_app, salvage_app, scattered, searched, serving, sized}
+use Rattle.arguments.specs.CommandLine.{unloaded, wire_app}
 use Rattle.arguments.proofs.WalkedWords.{all_are_words, first_is_a_word, is_placed}
 
 -- each subcommand that has this argument finds it by its place
@@ -19,7 +19,7 @@ ArePlaced id = list_all (λ s. list_all (is_placed id) s.rules) (built command_l
 unfoldable line_on_literals : ⊤
 unfolding command_line making serving filing moving looking init_app dated located filed run_app
     calls_app wire_app put_app get_app delete_app import_app export_app salvage_app list_app check_app convert_app
-    migrate_app converting formed sized laid_out encoded gathered adapted scattered unloaded
+    migrate_app converting formed sized laid_out encoded gathered adapted scattered unloaded searched
 line_on_literals = tt
 
 images_placed : ArePlaced (codes "IMAGE")

@@ -132,8 +132,12 @@ unloaded app = with_rule (encoded (with_rule (scattered app) (new_rule (codes "P
 unfoldable pub export_app : App
 export_app = formed (unloaded (new_app (codes "export")))
 
+-- with flags for the blocks that are searched for files that no directory names
+unfoldable pub searched : App → App
+searched app = with_rule (with_rule app (flag (codes "named"))) (flag (codes "all"))
+
 unfoldable pub salvage_app : App
-salvage_app = formed (unloaded (new_app (codes "salvage")))
+salvage_app = formed (searched (unloaded (new_app (codes "salvage"))))
 
 unfoldable pub list_app : App
 list_app = formed (with_rule (with_rule (with_rule (new_app (codes "list")) (wanted (codes "IMAGE")))

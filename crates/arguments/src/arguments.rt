@@ -4,7 +4,7 @@ ghost use Rattle.clap.specs.Words.{app_of, new_rule, rule_of, with_rule};
 ghost use Rattle.clap.specs.declared.builder.command.Command.TheViews.{out-Command as fields_of};
 ghost use Rattle.arguments.specs.CommandLine.{adapted, date_rule, dated, encoded, filed, flag, form_rule, formed};
 ghost use Rattle.arguments.specs.CommandLine.{gathered, laid_out, layout_rule, located, numbered, optional};
-ghost use Rattle.arguments.specs.CommandLine.{scattered, several, sized, unloaded, wanted};
+ghost use Rattle.arguments.specs.CommandLine.{scattered, searched, several, sized, unloaded, wanted};
 
 use clap::{Arg, ArgAction, Command};
 use std::alloc::{AllocError, Global};
@@ -303,6 +303,38 @@ fn listed<'a>(alloc: Global) -> Arg<'a>
         .long("list")
         .action(ArgAction::SetTrue)
         .help("Print what would be done, and write nothing")
+}
+
+/// Returns the flag that files without a name in a directory are left out.
+fn named<'a>(alloc: Global) -> Arg<'a>
+    ensures rule { rule_of result ≡ flag (codes "named") }
+    ensures local { result.global ≡ false }
+{
+    Arg::new(alloc, "named")
+        .long("named")
+        .action(ArgAction::SetTrue)
+        .help("Leave out files that no directory names")
+}
+
+/// Returns the flag that free blocks are searched too.
+fn all<'a>(alloc: Global) -> Arg<'a>
+    ensures rule { rule_of result ≡ flag (codes "all") }
+    ensures local { result.global ≡ false }
+{
+    Arg::new(alloc, "all")
+        .long("all")
+        .action(ArgAction::SetTrue)
+        .help("Search free blocks too: deleted files are found")
+}
+
+/// Returns a command with the flags for the blocks that are searched for files that no directory names.
+#[tactic(auto, unfolding(crate::specs::CommandLine::searched))]
+pub(crate) fn searched<'a>(alloc: Global, command: Command<'a>) -> Result<Command<'a>, AllocError>
+    ensures app { IfOk result (λ c. app_of c ≡ searched (app_of command.entry)) }
+    ensures local { IfOk result (λ c. (fields_of c).has_globals ≡ (fields_of command.entry).has_globals) }
+{
+    let command = with_argument(command, named(alloc))?;
+    with_argument(command, all(alloc))
 }
 
 /// Returns the flag that an existing file stays.

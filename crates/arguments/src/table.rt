@@ -10,7 +10,7 @@ ghost use Rattle.arguments.specs.CommandLine.{salvage_app, serving, versioned, w
 
 use crate::arguments::{
     about, adapted, dated, encoded, filed, formed, fresh, gathered, laid_out, located, place,
-    shown, sized, tsv, unloaded, wanted, with_argument,
+    searched, shown, sized, tsv, unloaded, wanted, with_argument,
 };
 use clap::Command;
 use std::alloc::{AllocError, Global};
@@ -79,8 +79,14 @@ Example:
 
 /// The text below the arguments of `salvage` in its help.
 const SALVAGE_NOTES: &str = "\
-Nothing is written to the image. A fault costs the file that is named beside it;
-all others are written, as export writes them.
+Nothing is written to the image. A fault costs the file that is named beside
+it; all others are written, as export writes them:
+  FOLDER/10,20/FOO.TXT               a file in its place
+  FOLDER/doubtful/10,20/FOO.TXT      one with a block that may not be its own
+  FOLDER/unnamed/10,20/FOO%1234.TXT  one that no directory names, and the
+                                     number of its prime block
+Without --named or --all the search for files that no directory names leaves
+out the blocks that the allocation table says are free.
 
 Example:
   filser salvage DISK.IMG saved";
@@ -238,7 +244,8 @@ fn salvage_command<'a>(alloc: Global) -> Result<Command<'a>, AllocError>
         Command::new(alloc, "salvage"),
         "Write the files that are whole on a damaged image to new files of the host",
     );
-    formed(alloc, unloaded(alloc, shown(command, SALVAGE_NOTES))?)
+    let command = unloaded(alloc, shown(command, SALVAGE_NOTES))?;
+    formed(alloc, searched(alloc, command)?)
 }
 
 #[tactic(auto, unfolding(crate::specs::CommandLine::list_app))]

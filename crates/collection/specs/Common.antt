@@ -13,4 +13,4 @@ pub use Rattle.collection.specs.Export.{IsOwnerDone, IsStored, IsTakenOut, MayEx
 pub use Rattle.collection.specs.Save.{AreApartSaved, AreFilesSaved, AreFindingsDone, IsFileDone, IsFindingDone}
 pub use Rattle.collection.specs.Save.{IsReadStored, IsSalvageRun, IsSavedAt, IsWanted, IsWantedCost, IsWantedDone}
 pub use Rattle.collection.specs.Save.{MayFillApart, MayNumber, MayRescue, MaySave, defect_text, fault_text}
-pub use Rattle.collection.specs.Save.{head_findings, is_device, path_of_cost, saved_path, words_read}
+pub use Rattle.collection.specs.Save.{is_device, path_of_cost, saved_path, words_read}

@@ -1,6 +1,6 @@
 -- The files that a survey of a disk found, which become files of the host, and its faults, which have a line each.
 use Rattle.std.specs.Prelude.{◌≡◌, ◌⊎◌, ℕ, true, false, List, Option, Some, None, Result, Ok, Err, IfOk, IsSomeAnd}
-use Rattle.std.specs.Prelude.{Bool, IsErrOf, not, ◌==◌, [], ◌∷◌, ◌++◌, codes, if◌then◌else◌, length}
+use Rattle.std.specs.Prelude.{Bool, IsErrOf, [], ◌∷◌, ◌++◌, codes, length}
 use Rattle.std.specs.Fmt.{decimal}
 use Rattle.std.specs.List.{AllByRecursion}
 use Rattle.std.specs.declared.alloc.AllocError.{AllocError}
@@ -17,7 +17,7 @@ use Rattle.commands.specs.declared.error.SessionError.TheVariants.{NoMemory}
 use Rattle.commands.specs.declared.export_file.Exported.{Exported}
 use Rattle.salvage.specs.declared.finding.Cost.{Cost}
 use Rattle.salvage.specs.declared.finding.Defect.{Defect}
-use Rattle.salvage.specs.declared.finding.Defect.TheVariants.{Start, FreeBlock}
+use Rattle.salvage.specs.declared.finding.Defect.TheVariants.{Start, FreeBlock, TwoOwners, Missing, Surplus, Tail}
 use Rattle.salvage.specs.declared.finding.Finding.{Finding}
 use Rattle.salvage.specs.declared.error.SalvageError.{SalvageError}
 use Rattle.salvage.specs.declared.saved.SavedFile.{SavedFile}
@@ -195,6 +195,10 @@ IsWantedCost owner cost.Nothing = Unit {0}
 abbrev pub defect_text : Defect → List ℕ
 defect_text (Start fault) = fault_text fault
 defect_text (FreeBlock block) = codes "?Block " ++ decimal block ++ codes " is free"
+defect_text (TwoOwners block) = codes "?Block " ++ decimal block ++ codes " reached twice"
+defect_text (Missing blocks) = codes "?Blocks missing at the end: " ++ decimal blocks
+defect_text (Surplus blocks) = codes "?Blocks after the end: " ++ decimal blocks
+defect_text (Tail bytes) = codes "?Bytes after the last block: " ++ decimal bytes
 
 -- the device failed, which counts for more than other faults
 abbrev pub is_device : Defect → Bool
@@ -209,14 +213,6 @@ IsFindingDone task finding sink full old new result =
     (defect_text finding.fault) (is_device finding.fault) sink full result)
     ⊎ ((IsWantedCost task.owner finding.costs → ⊥) × IsPassedOver sink full old new result)
     ⊎ IsUnnamed sink full old new result
-
--- the finding of a fault that costs no file, if there is such a fault
-abbrev pub fault_if : Bool → VolumeError → List Finding
-fault_if stands fault = if stands then record { fault = Start fault; costs = cost.Nothing } ∷ [] else []
-
--- the first findings: for a log that isn't valid though the gate is open, and for blocks that couldn't be read
-abbrev pub head_findings : Bool → ℕ → List Finding
-head_findings lost unread = fault_if lost BadLog ++ fault_if (not (unread == 0)) Device
 
 -- The lines of these faults were written, and nothing else was done.
 abbrev pub AreFindingsDone : {D : Type 0} → ExportTask → List Finding → Option (List ℕ) → Option (List ℕ) → D → D

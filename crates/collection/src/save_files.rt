@@ -6,12 +6,10 @@ ghost use Rattle.salvage.specs.Common.{FitsDisk};
 ghost use Rattle.collection.specs.Common.{EachDone, Then, none_counted, AreApartSaved, AreFilesSaved};
 ghost use Rattle.collection.specs.Common.{AreFindingsDone, IsFileDone, IsFindingDone, IsReadStored, IsSalvageRun};
 ghost use Rattle.collection.specs.Common.{IsSavedAt, IsWanted, IsWantedCost, IsWantedDone, MayRescue, MaySave};
-ghost use Rattle.collection.specs.Common.{defect_text, doubtful_folder as doubtful_text, fault_text, head_findings};
+ghost use Rattle.collection.specs.Common.{defect_text, doubtful_folder as doubtful_text, fault_text};
 ghost use Rattle.collection.specs.Common.{is_device, numbered_path as numbered_text, path_of_cost, saved_path};
 ghost use Rattle.collection.specs.Common.{unnamed_folder as unnamed_text, words_read};
 ghost use Rattle.salvage.specs.declared.error.SalvageError.TheVariants.{NotVolume};
-ghost use Rattle.salvage.specs.declared.finding.Cost.TheVariants as cost;
-ghost use Rattle.salvage.specs.declared.finding.Defect.TheVariants as defect;
 
 use crate::exports::store;
 use crate::lines::{added, say_path, turn_down};
@@ -323,6 +321,10 @@ fn defect_text(alloc: Global, fault: Defect) -> Result<String, AllocError>
     match fault {
         Defect::Start(fault) => fault_text(alloc, fault),
         Defect::FreeBlock(block) => format!(in alloc; "?Block {block} is free"),
+        Defect::TwoOwners(block) => format!(in alloc; "?Block {block} reached twice"),
+        Defect::Missing(blocks) => format!(in alloc; "?Blocks missing at the end: {blocks}"),
+        Defect::Surplus(blocks) => format!(in alloc; "?Blocks after the end: {blocks}"),
+        Defect::Tail(bytes) => format!(in alloc; "?Bytes after the last block: {bytes}"),
     }
 }
 
@@ -375,16 +377,6 @@ fn is_device(fault: Defect) -> bool
     }
 }
 
-/// Returns the finding of a fault that costs no file.
-fn costing_nothing(fault: VolumeError) -> Finding
-    ensures { result ≡ record { fault = defect.Start fault; costs = cost.Nothing } }
-{
-    Finding {
-        fault: Defect::Start(fault),
-        costs: Cost::Nothing,
-    }
-}
-
 /// Writes the line of a fault, if it is wanted.
 fn report_finding<W: Write>(
     alloc: Global,
@@ -425,24 +417,17 @@ fn report_findings<W: Write>(
     Ok(tally)
 }
 
-/// Writes the first lines: for a log that isn't valid though the gate is open, and for blocks that couldn't be read.
+/// Writes the first lines: what is wrong with the copy, before any file of it is read.
 fn report_copy<W: Write>(
     alloc: Global,
     task: &ExportTask<'_>,
     copied: &Copied,
     writer: &mut W,
 ) -> Result<Tally, SessionError>
-    ensures { EachDone (IsFindingDone task.now) (head_findings copied.now.has_bad_log copied.now.unread) none_counted
-        (W.contents writer.old) (W.contents writer.new) tt tt result }
+    ensures { EachDone (IsFindingDone task.now) copied.now.findings.items none_counted (W.contents writer.old)
+        (W.contents writer.new) tt tt result }
 {
-    let faults = [
-        costing_nothing(VolumeError::BadLog),
-        costing_nothing(VolumeError::Device),
-    ];
-    let faults = &faults[..];
-    let first = if copied.has_bad_log { 0 } else { 1 };
-    let end = if copied.unread > 0 { 2 } else { 1 };
-    report_findings(alloc, task, &faults[first..end], writer)
+    report_findings(alloc, task, copied.findings.as_slice(), writer)
 }
 
 /// Saves the files that no directory names, and writes the lines of the faults.
@@ -549,7 +534,7 @@ pub fn save_survey<H: HostFiles, W: Write, E: Write>(
         × AllByRecursion (FitsDisk (length copied.old.disk.blocks)) found.now.unnamed.items }
     requires allowed { MayRescue (H.files host.now) task.now }
     ensures { IsSalvageRun (H.files host.now) memory_state task.now
-        (head_findings copied.old.has_bad_log copied.old.unread) found.now.files.items found.now.doubtful.items
+        copied.old.findings.items found.now.files.items found.now.doubtful.items
         found.now.unnamed.items found.now.findings.items (W.contents writer.old) (W.contents writer.new)
         copied.old.disk copied.new.disk result }
 {

@@ -21,12 +21,15 @@ use Rattle.arguments.specs.CommandLine.{command_line, making, serving, filing, l
 use Rattle.arguments.specs.CommandLine.{put_app, get_app, delete_app, list_app, check_app, convert_app, converting}
 use Rattle.arguments.specs.CommandLine.{dated, filed, formed, laid_out, located, migrate_app, sized, wire_app}
 use Rattle.arguments.specs.CommandLine.{adapted, encoded, export_app, gathered, import_app, moving, salvage_app}
-use Rattle.arguments.specs.CommandLine.{scattered, unloaded}
+use Rattle.arguments.specs.CommandLine.{scattered, searched, unloaded}
 use Rattle.filser.specs.Common.{Asks, IsAsked, IsTask, IsAt, IsNamedFile, IsListedPlace, HasText, HasNumber, AsksFor}
 use Rattle.filser.specs.Common.{HasLayout, HasOwner, IsEncoding, IsImportTask, IsOneEncoding, LacksOwned, NamesEncoding}
-use Rattle.filser.specs.Common.{HasDate, IsDateNumber, IsMistaken, IsUsage, NamesNoDate, SaysDate, Spells, task_name}
+use Rattle.filser.specs.Common.{HasDate, IsAskedSearch, IsDateNumber, IsMistaken, IsSalvageTask, IsUsage, NamesNoDate}
+use Rattle.filser.specs.Common.{SaysDate, Spells, task_name}
 use Rattle.collection.specs.declared.task.ImportTask.{ImportTask}
+use Rattle.salvage.specs.declared.search.Search.{Search}
 use Rattle.filser.specs.declared.task.NamedFile.{NamedFile}
+use Rattle.filser.specs.declared.task.SalvageTask.{SalvageTask}
 use Rattle.filser.specs.declared.task.Task.{Task}
 use Rattle.filser.specs.declared.task.Task.TheVariants.{Run, Calls, Wire, Put, Get, Delete, List as ListAll, Check}
 use Rattle.filser.specs.declared.error.RequestError.{RequestError}
@@ -43,13 +46,13 @@ use Rattle.blockcache.proofs.CachedContents.{none_some}
 pub line-simple : is_simple command_line ≡ true
 unfolding clap_on_literals command_line making serving filing moving looking init_app dated located filed run_app
     calls_app wire_app put_app get_app delete_app import_app export_app salvage_app list_app check_app convert_app
-    migrate_app converting formed sized laid_out encoded gathered adapted scattered unloaded
+    migrate_app converting formed sized laid_out encoded gathered adapted scattered unloaded searched
 line-simple = refl
 
 pub line-free : is_simple_and_free command_line ≡ true
 unfolding clap_on_literals command_line making serving filing moving looking init_app dated located filed run_app
     calls_app wire_app put_app get_app delete_app import_app export_app salvage_app list_app check_app convert_app
-    migrate_app converting formed sized laid_out encoded gathered adapted scattered unloaded
+    migrate_app converting formed sized laid_out encoded gathered adapted scattered unloaded searched
 line-free = refl
 
 -- Texts and numbers.
@@ -169,6 +172,11 @@ no_one_encoding rows none t is = none t.encoding is.encoding
 
 pub no_moment : (rows : List Row) → ((at : Moment) → IsAt rows at → ⊥) → (t : ImportTask) → IsImportTask rows t → ⊥
 no_moment rows none t is = none t.moment is.moment
+
+-- the task of `salvage` wants a search
+pub no_search : (rows : List Row) → ((s : Search) → IsAskedSearch rows s → ⊥) → (t : SalvageTask)
+    → IsSalvageTask rows t → ⊥
+no_search rows none t is = none t.search is.search
 
 pub no_place : (rows : List Row) (text : Text) → HasText rows (codes "PPN") text
     → ((owner : ℕ) → IsOwnerName text owner → ⊥) → (place : Option ℕ) → IsListedPlace rows place → ⊥

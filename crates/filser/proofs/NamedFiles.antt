@@ -57,5 +57,5 @@ allows_moved files words (Some found) (Import image form task) is asks allows =
 allows_moved files words (Some found) (Export image form task) is asks allows = λ makes. text_is_a_word (MayFill files)
     words found (codes "FOLDER") task.folder.now is (inr (inr refl)) asks.3.folder allows.fill
 allows_moved files words (Some found) (Salvage image form task) is asks allows = λ makes.
-    text_is_a_word (MayFillApart files) words found (codes "FOLDER") task.folder.now is (inr (inr refl)) asks.3.folder
-    allows.rescue
+    text_is_a_word (MayFillApart files) words found (codes "FOLDER") task.export.folder.now is (inr (inr refl))
+    asks.3.export.folder allows.rescue

@@ -27,7 +27,7 @@ module _ (form : Form) (u : Unseen) (d : DiskState) (began : BeganAs form u d) (
   abbrev begun : DiskState
   begun = begun_image form d.size u
 
-  pub same : d.honest → d.contents ≡ begun.contents
+  same : d.honest → d.contents ≡ begun.contents
   same h = same_contents begun.contents d.contents (began.still h).contents
 
   -- what only reads came to since then, a longer stretch comes to

@@ -5,7 +5,7 @@ use Rattle.std.specs.IoError.{error_kind}
 use Rattle.std.specs.declared.fs.TryLockError.TheVariants.{WouldBlock, Error as LockFailed}
 use Rattle.std.specs.declared.io.Error.{Error}
 use Rattle.std.specs.declared.io.ErrorKind.TheVariants.{AlreadyExists}
-use Rattle.imagefile.specs.Common.{FileState, IsImageSize, Unseen, size_of}
+use Rattle.imagefile.specs.Common.{FileState, HasTooManyBlocks, IsImageSize, Unseen, size_of}
 use Rattle.imagefile.specs.declared.form.Form.{Form}
 use Rattle.volume.specs.declared.error.VolumeError.TheVariants.{Device, NotVolume}
 use Rattle.filser.specs.HostFaults.{forbids_output}
@@ -65,11 +65,19 @@ IsCleared facts path fault = IsUnmade facts path fault
 abbrev pub IsDeviceFault : ImageFault → Type 0
 IsDeviceFault fault = (fault.refusal ≡ Start Device) × ((error : Option Error) × (fault.host ≡ option_map System error))
 
--- A file is not an image in this form, as its length shows; or its length couldn't be read.
-abbrev pub IsNoImage : Form → Unseen → FileState → ImageFault → Type 0
-IsNoImage form u file fault =
-    ((fault ≡ record { refusal = Start NotVolume; host = None }) × (file.honest → IsImageSize form (size_of u) → ⊥))
+-- No disk is made of a file, as its length shows; or its length couldn't be read.
+abbrev pub IsNoDisk : Type 0 → FileState → ImageFault → Type 0
+IsNoDisk Shown file fault =
+    ((fault ≡ record { refusal = Start NotVolume; host = None }) × (file.honest → Shown))
     ⊎ (IsDeviceFault fault × (file.failures ≡ 1))
+
+-- A file is not an image in this form.
+abbrev pub IsNoImage : Form → Unseen → FileState → ImageFault → Type 0
+IsNoImage form u file fault = IsNoDisk (IsImageSize form (size_of u) → ⊥) file fault
+
+-- A file isn't one, even if it may be cut in the middle of a block: it has too many blocks.
+abbrev pub IsNoCutImage : Form → Unseen → FileState → ImageFault → Type 0
+IsNoCutImage form u file fault = IsNoDisk (HasTooManyBlocks form (size_of u)) file fault
 
 -- What is printed.
 

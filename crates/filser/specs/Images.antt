@@ -1,5 +1,5 @@
 -- What became of the images that a run worked on: of an existing one, and of a new one.
-use Rattle.std.specs.Prelude.{◌≡◌, ◌≢◌, ◌⊎◌, ◌*◌, ℕ, List, Option, Some, None as Nothing, option_map}
+use Rattle.std.specs.Prelude.{◌≡◌, ◌≢◌, ◌⊎◌, ◌<◌, ◌+◌, ◌*◌, ℕ, List, Option, Some, None as Nothing, option_map}
 use Rattle.std.specs.declared.io.Error.{Error}
 use Rattle.blockdisk.specs.Common.{DiskState, LeavesOnly, NoneOpen, Still, one_more}
 use Rattle.changeset.specs.Common.{IsRecovered, AtRest}
@@ -13,8 +13,8 @@ use Rattle.volume.specs.declared.error.CopyError.{CopyError}
 use Rattle.volume.specs.declared.error.CopyError.TheVariants.{Source, Target}
 use Rattle.volume.specs.declared.error.VolumeError.{VolumeError}
 use Rattle.volume.specs.declared.error.VolumeError.TheVariants.{NotVolume, Device}
-use Rattle.filser.specs.Denials.{IsCleared, IsDeviceFault, IsExplained, IsNoImage, IsUnfilled, IsUnmade, IsUnopened}
-use Rattle.filser.specs.Denials.{of_host}
+use Rattle.filser.specs.Denials.{IsCleared, IsDeviceFault, IsExplained, IsNoCutImage, IsNoImage, IsUnfilled}
+use Rattle.filser.specs.Denials.{IsUnmade, IsUnopened, of_host}
 use Rattle.filser.specs.Hosts.{HostFacts, IsMade, IsOpened}
 use Rattle.filser.specs.Lines.{IsLine}
 use Rattle.filser.specs.Refusals.{converted_text}
@@ -50,6 +50,11 @@ IsTaskRun {D} state begun task source left sink full end status =
 pub record IsWhole (form : Form) (u : Unseen) (d : DiskState) : Type 0 where
   pub size : d.honest → size_of u ≡ block_length form * d.size
 
+-- It has a block for each whole one that the file has, and `tail` bytes follow these.
+pub record IsCut (form : Form) (u : Unseen) (tail : ℕ) (d : DiskState) : Type 0 where
+  pub size : d.honest → size_of u ≡ block_length form * d.size + tail
+  pub short : tail < block_length form
+
 -- A task on the image of this form at a path.
 
 -- why it wasn't done
@@ -63,6 +68,17 @@ IsDenied facts views path access form u fault (Unserved disk) =
     IsOpened facts path access u × BeganAs form u (views.disk disk) × (fault ≡ of_host NoMemory)
 IsDenied facts views path access form u fault (Served image) = ⊥
 IsDenied facts views path access form u fault (Made disk right) = ⊥
+
+-- the same for an image that may be cut in the middle of a block, and is only read
+abbrev pub IsDeniedCut : {H L M F D I : Type 0} → HostFacts H → Views M F D I → List ℕ → Form → Unseen → ImageFault
+    → Disks L F D I → Type 0
+IsDeniedCut facts views path form u fault None = IsUnopened facts path Read fault
+IsDeniedCut facts views path form u fault (Unasked leave) = ⊥
+IsDeniedCut facts views path form u fault (NoImage file) =
+    IsOpened facts path Read u × IsNoCutImage form u (views.file file) fault
+IsDeniedCut facts views path form u fault (Unserved disk) = ⊥
+IsDeniedCut facts views path form u fault (Served image) = ⊥
+IsDeniedCut facts views path form u fault (Made disk right) = ⊥
 
 -- no disk was made of its file
 abbrev pub HasNoDisk : {L F D I : Type 0} → Disks L F D I → Type 0

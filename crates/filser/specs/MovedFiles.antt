@@ -20,4 +20,4 @@ AllowsMoved files (Convert image new form) = Unit
 AllowsMoved files (Migrate image form) = Unit
 AllowsMoved files (Import image form task) = All files.may_read (map (λ p. p.now) task.paths.items)
 AllowsMoved files (Export image form task) = MayExport files task
-AllowsMoved files (Salvage image form task) = MayRescue files task
+AllowsMoved files (Salvage image form task) = MayRescue files task.export

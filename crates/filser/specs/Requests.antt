@@ -22,10 +22,13 @@ use Rattle.filser.specs.declared.request.Request.{Request}
 use Rattle.filser.specs.declared.request.Request.TheVariants.{Fresh, Init, Work, Convert, Migrate, Import, Export}
 use Rattle.filser.specs.declared.request.Request.TheVariants.{Salvage}
 use Rattle.filser.specs.declared.error.WrongArgument.{WrongArgument}
-use Rattle.filser.specs.declared.error.WrongArgument.TheVariants.{Owner, Name, Encodings, Date}
+use Rattle.filser.specs.declared.error.WrongArgument.TheVariants.{Owner, Name, Encodings, Searches, Date}
 use Rattle.collection.specs.declared.task.ExportTask.{ExportTask}
 use Rattle.collection.specs.declared.task.ImportTask.{ImportTask}
+use Rattle.salvage.specs.declared.search.Search.{Search}
+use Rattle.salvage.specs.declared.search.Search.TheVariants.{Named, Every}
 use Rattle.filser.specs.declared.task.NamedFile.{NamedFile}
+use Rattle.filser.specs.declared.task.SalvageTask.{SalvageTask}
 use Rattle.filser.specs.declared.task.Task.{Task}
 use Rattle.filser.specs.declared.task.Task.TheVariants.{Run, Calls, Wire, Put, Get, Delete, List as ListAll, Check}
 
@@ -164,6 +167,17 @@ pub record IsExportTask (rows : List Row) (task : ExportTask) : Type 0 where
   pub encoding : IsOneEncoding rows task.encoding
   pub lists : IsFlag rows (codes "list") task.lists
 
+-- which blocks are searched for files that no directory names, by the flags that are given
+abbrev pub IsAskedSearch : List Row → Search → Type 0
+IsAskedSearch rows search =
+    ((search ≡ Named) ↔ HasText rows (codes "named") (codes "true"))
+    × ((search ≡ Every) ↔ HasText rows (codes "all") (codes "true"))
+
+-- a folder of the host, what is written there, and where it is looked for
+pub record IsSalvageTask (rows : List Row) (task : SalvageTask) : Type 0 where
+  pub export : IsExportTask rows task.export
+  pub search : IsAskedSearch rows task.search
+
 abbrev pub IsAsked : Text → List Row → Request → Type 0
 IsAsked name rows Fresh = ⊥
 IsAsked name rows (Init image blocks form layout) =
@@ -181,7 +195,7 @@ IsAsked name rows (Import image form task) =
 IsAsked name rows (Export image form task) =
     (name ≡ codes "export") × HasText rows (codes "IMAGE") image.now × HasForm rows form × IsExportTask rows task
 IsAsked name rows (Salvage image form task) =
-    (name ≡ codes "salvage") × HasText rows (codes "IMAGE") image.now × HasForm rows form × IsExportTask rows task
+    (name ≡ codes "salvage") × HasText rows (codes "IMAGE") image.now × HasForm rows form × IsSalvageTask rows task
 
 -- without a subcommand a fresh volume is requested
 abbrev pub Asks : Option (Text × List Row) → Request → Type 0
@@ -203,6 +217,7 @@ IsWrong rows (Owner text) = HasText rows (codes "PPN") text.now × ((owner : ℕ
 IsWrong rows (Name text) =
     HasText rows (codes "NAME") text.now × ((name ext : ℕ) → IsFileName (map upper text.now) name ext → ⊥)
 IsWrong rows (Encodings one other) = (one ≢ other) × AsksFor rows one × AsksFor rows other
+IsWrong rows Searches = HasText rows (codes "named") (codes "true") × HasText rows (codes "all") (codes "true")
 IsWrong rows (Date text) = HasText rows (codes "date") text.now × ((n : ℕ) → SaysDate text.now n → ⊥)
 
 -- these arguments are valid, if they are given
@@ -216,12 +231,16 @@ NamesFile rows =
 abbrev pub NamesEncoding : List Row → Type 0
 NamesEncoding rows = (one other : Encoding) → AsksFor rows one → AsksFor rows other → one ≡ other
 
+abbrev pub NamesSearch : List Row → Type 0
+NamesSearch rows = HasText rows (codes "named") (codes "true") → HasText rows (codes "all") (codes "true") → ⊥
+
 abbrev pub NamesDate : List Row → Type 0
 NamesDate rows = (text : Text) → HasText rows (codes "date") text → (n : ℕ) × SaysDate text n
 
 -- the argument at fault; or it is another one, and these are valid
 abbrev pub IsFaultIn : List Row → Option WrongArgument → Type 0
-IsFaultIn rows None = NamesOwner rows × NamesFile rows × NamesEncoding rows × NamesDate rows
+IsFaultIn rows None =
+    NamesOwner rows × NamesFile rows × NamesEncoding rows × NamesSearch rows × NamesDate rows
 IsFaultIn rows (Some wrong) = IsWrong rows wrong
 
 abbrev pub IsMistaken : Option (Text × List Row) → Option WrongArgument → Type 0

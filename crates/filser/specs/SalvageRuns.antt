@@ -1,6 +1,6 @@
 -- What became of an image whose whole files were to be written to files of the host.
-use Rattle.std.specs.Prelude.{◌≡◌, ◌⊎◌, ◌≤◌, ℕ, Bool, List, [], Option, Result}
-use Rattle.blockdisk.specs.Common.{DiskState, Still, one_more, Memory, held, memory_state}
+use Rattle.std.specs.Prelude.{◌≡◌, ◌⊎◌, ◌+◌, ◌*◌, ◌<◌, ◌≤◌, ℕ, List, [], Option, Result, length}
+use Rattle.blockdisk.specs.Common.{Contents, DiskState, Still, one_more, Memory, held, memory_state}
 use Rattle.changeset.specs.Common.{OnlyReads}
 use Rattle.imagefile.specs.Common.{begun_image, Unseen}
 use Rattle.imagefile.specs.declared.form.Form.{Form}
@@ -8,17 +8,18 @@ use Rattle.spec_image.specs.Common.{File, Files, SpecHome, IsHome, IsVolumeSize,
 use Rattle.volume.specs.declared.error.VolumeError.{VolumeError}
 use Rattle.commands.specs.declared.answer.Tally.{Tally}
 use Rattle.commands.specs.declared.error.SessionError.{SessionError}
-use Rattle.salvage.specs.Common.{IsCopyOf, failed_by, AreTheFiles, IsSurveyed}
+use Rattle.salvage.specs.Common.{AreLengths, AreTheFiles, HasHome, IsCopyOf, IsSurveyed, copy_findings, failed_by}
+use Rattle.salvage.specs.Common.{held_to}
+use Rattle.salvage.specs.declared.copied.CopyFaults.{CopyFaults}
 use Rattle.salvage.specs.declared.error.SalvageError.{SalvageError}
 use Rattle.salvage.specs.declared.error.SalvageError.TheVariants.{NotVolume, Device, NoMemory}
 use Rattle.salvage.specs.declared.finding.Finding.{Finding}
 use Rattle.salvage.specs.declared.saved.SavedFile.{SavedFile}
-use Rattle.salvage.specs.declared.search.Search.TheVariants.{Used}
-use Rattle.collection.specs.Common.{FileFacts, IsSalvageRun, head_findings}
-use Rattle.collection.specs.declared.task.ExportTask.{ExportTask}
+use Rattle.salvage.specs.declared.search.Search.TheVariants.{Every}
+use Rattle.collection.specs.Common.{FileFacts, IsSalvageRun}
 use Rattle.filser.specs.Denials.{IsExplained}
 use Rattle.filser.specs.Hosts.{HostFacts, IsOpened}
-use Rattle.filser.specs.Images.{IsDenied, IsWhole}
+use Rattle.filser.specs.Images.{IsCut, IsDeniedCut}
 use Rattle.filser.specs.Lines.{IsLine}
 use Rattle.filser.specs.Refusals.{start_code, start_text}
 use Rattle.filser.specs.ServedDisks.{IsEnding}
@@ -28,6 +29,7 @@ use Rattle.filser.specs.declared.disks.Disks.TheVariants.{Unserved}
 use Rattle.filser.specs.declared.fault.ImageFault.{ImageFault}
 use Rattle.filser.specs.declared.host.Access.TheVariants.{Read}
 use Rattle.filser.specs.declared.status.Status.{Status}
+use Rattle.filser.specs.declared.task.SalvageTask.{SalvageTask}
 use Rattle.volume.specs.declared.error.VolumeError.TheVariants as volume
 
 -- why there is no survey, as a start's error
@@ -37,26 +39,34 @@ start_error Device = volume.Device
 start_error NoMemory = volume.NoMemory
 
 -- A copy was surveyed, and what was found was written to files of the host and printed as lines: the files in their
--- place, the doubtful ones, and those that no directory names, at blocks that aren't free by the allocation table.
-pub record AreFound (facts : FileFacts) (task : ExportTask) (sink full : Option (List ℕ)) (copy last : Memory)
-    (unread : ℕ) (lost : Bool) (files doubtful : List SavedFile) (status : Status) : Type 0 where
+-- place, the doubtful ones, and those that no directory names, at blocks that the task requires to be searched.
+pub record AreFound (facts : FileFacts) (task : SalvageTask) (sink full : Option (List ℕ)) (copy last : Memory)
+    (faults : CopyFaults) (files doubtful unnamed : List SavedFile) (status : Status) : Type 0 where
   pub layout : ℕ
-  pub unnamed : List SavedFile
   pub findings : List Finding
   pub middle : Memory
   pub result : Result Tally SessionError
   -- the layout of the home copy, or layout 2 if neither copy is valid
   pub layout_is : (home : SpecHome) → IsHome (memory_state copy).size (held copy.blocks) home → layout ≡ home.layout
   pub no_layout : ((home : SpecHome) → IsHome (memory_state copy).size (held copy.blocks) home → ⊥) → layout ≡ 2
-  pub surveyed : IsSurveyed (memory_state copy).size layout (held copy.blocks) Used files doubtful unnamed findings
+  pub surveyed : IsSurveyed (memory_state copy).size layout (held copy.blocks) task.search files doubtful unnamed
+      findings
   -- nothing was found wrong only with a copy that stands for files
   pub silent : findings ≡ [] → (stored : Files File)
       × SettledStands (memory_state copy).size (held copy.blocks) stored
   -- the words were read from the very copy
   pub read : OnlyReads (memory_state copy) (memory_state middle)
-  pub saved : IsSalvageRun facts memory_state task (head_findings lost unread) files doubtful unnamed findings sink full
-      middle last result
+  pub saved : IsSalvageRun facts memory_state task.export (copy_findings faults) files doubtful unnamed findings
+      sink full middle last result
   pub ends : IsEnding status result
+
+-- These are the files that contents stand for: all are in their place, and no others were found, unless free blocks
+-- were searched too.
+pub record AreAllFound (contents : Contents) (task : SalvageTask) (files doubtful unnamed : List SavedFile)
+    (stored : Files File) : Type 0 where
+  pub in_place : AreTheFiles contents files stored
+  pub sure : doubtful ≡ []
+  pub alone : (task.search ≡ Every → ⊥) → unnamed ≡ []
 
 -- No survey was made of a copy, which was read and is `last` now, as is printed: memory ran out, or the copy failed.
 pub record IsUnsurveyed (copy last : Memory) (sink full : Option (List ℕ)) (status : Status) : Type 0 where
@@ -66,45 +76,53 @@ pub record IsUnsurveyed (copy last : Memory) (sink full : Option (List ℕ)) (st
       ⊎ ((error ≡ Device) × (last.failures ≡ one_more copy.failures))
   pub said : IsLine sink full status (start_code (start_error error)) (start_text (start_error error))
 
--- The disk was copied, and this became of the copy, which is `last` at the end. Each block that couldn't be read is a
--- failure of the disk.
-pub record IsCopied (facts : FileFacts) (task : ExportTask) (sink full : Option (List ℕ)) (begun end : DiskState)
-    (status : Status) : Type 0 where
+-- The disk, which `tail` bytes follow, was copied, and this became of the copy, which is `last` at the end. Each time
+-- that a block couldn't be read is a failure of the disk.
+pub record IsCopied (facts : FileFacts) (task : SalvageTask) (tail : ℕ) (sink full : Option (List ℕ))
+    (begun end : DiskState) (status : Status) : Type 0 where
   pub copy : Memory
   pub last : Memory
-  pub unread : ℕ
-  pub lost : Bool
-  pub copied : end.honest → IsCopyOf begun copy unread lost
-  pub few : unread ≤ begun.size
-  pub failures : end.failures ≡ failed_by unread begun.failures
-  pub ran : ((files : List SavedFile) × (doubtful : List SavedFile)
-      × AreFound facts task sink full copy last unread lost files doubtful status
-      -- if all was read, and the disk stood for files, exactly these were found in their place, and none is doubtful
-      × (end.honest → unread ≡ 0 → (stored : Files File) → Stands begun.size begun.contents stored
-      → AreTheFiles (held copy.blocks) files stored × (doubtful ≡ [])))
+  pub faults : CopyFaults
+  pub copied : end.honest → IsCopyOf begun copy faults
+  pub lengths : AreLengths begun.size tail (length copy.blocks) faults
+  pub few : faults.unread ≤ 2 * begun.size + 2
+  pub failures : end.failures ≡ failed_by faults.unread begun.failures
+  pub ran : ((files : List SavedFile) × (doubtful : List SavedFile) × (unnamed : List SavedFile)
+      × AreFound facts task sink full copy last faults files doubtful unnamed status
+      -- if all was read, and the disk stood for files, exactly these were found
+      × (end.honest → faults.unread ≡ 0 → (stored : Files File) → Stands begun.size begun.contents stored
+      → AreAllFound (held copy.blocks) task files doubtful unnamed stored))
       ⊎ IsUnsurveyed copy last sink full status
 
--- The disk wasn't copied, as is printed: it doesn't have a volume's size, and nothing was read; or memory ran out.
+-- Why a disk isn't copied: neither it nor a home copy has a volume's size; or a home copy couldn't be read, and its
+-- size isn't known; or memory ran out.
+abbrev pub IsNoCopy : DiskState → DiskState → ℕ → SalvageError → Type 0
+IsNoCopy begun end unread NotVolume = (IsVolumeSize begun.size → ⊥) × (end.failures ≡ begun.failures)
+    × (end.honest → (size : ℕ) → HasHome size (held_to begun.size begun.contents) → ⊥)
+IsNoCopy begun end unread Device = 0 < unread
+IsNoCopy begun end unread NoMemory = Unit {0}
+
+-- The disk wasn't copied, as is printed.
 pub record IsUncopied (begun end : DiskState) (sink full : Option (List ℕ)) (status : Status) : Type 0 where
   pub error : SalvageError
-  pub cause : ((error ≡ NotVolume) × (IsVolumeSize begun.size → ⊥) × (end.failures ≡ begun.failures))
-      ⊎ (error ≡ NoMemory)
   pub unread : ℕ
-  pub few : unread ≤ begun.size
+  pub cause : IsNoCopy begun end unread error
+  pub few : unread ≤ 2 * begun.size + 2
   pub failures : end.failures ≡ failed_by unread begun.failures
   pub said : IsLine sink full status (start_code (start_error error)) (start_text (start_error error))
 
--- The disk was copied, or it wasn't. Nothing was written.
-pub record IsSalvagedFrom (facts : FileFacts) (task : ExportTask) (sink full : Option (List ℕ)) (begun end : DiskState)
-    (status : Status) : Type 0 where
+-- The disk, which `tail` bytes follow, was copied, or it wasn't. Nothing was written.
+pub record IsSalvagedFrom (facts : FileFacts) (task : SalvageTask) (tail : ℕ) (sink full : Option (List ℕ))
+    (begun end : DiskState) (status : Status) : Type 0 where
   pub still : end.honest → Still begun end
-  pub done : IsCopied facts task sink full begun end status ⊎ IsUncopied begun end sink full status
+  pub done : IsCopied facts task tail sink full begun end status ⊎ IsUncopied begun end sink full status
 
--- What became of the image: its file was opened, and its disk salvaged only by calls of it since; or it wasn't, for a
--- reason that holds.
-abbrev pub IsOnSalvaged : {H L M F D I : Type 0} → HostFacts H → Views M F D I → List ℕ → Form → ExportTask → Unseen
+-- What became of the image, which may be cut in the middle of a block: its file was opened, and the disk of its whole
+-- blocks salvaged only by calls of it since; or it wasn't, for a reason that holds.
+abbrev pub IsOnSalvaged : {H L M F D I : Type 0} → HostFacts H → Views M F D I → List ℕ → Form → SalvageTask → Unseen
     → Option (List ℕ) → Option (List ℕ) → Disks L F D I → Status → Type 0
 IsOnSalvaged {D = D} facts views path form task u sink full disks status =
-    ((disk : D) × (disks ≡ Unserved disk) × IsOpened facts path Read u × IsWhole form u (views.disk disk)
-    × IsSalvagedFrom facts.files task sink full (begun_image form (views.disk disk).size u) (views.disk disk) status)
-    ⊎ ((fault : ImageFault) × IsDenied facts views path Read form u fault disks × IsExplained sink full status fault)
+    ((disk : D) × (tail : ℕ) × (disks ≡ Unserved disk) × IsOpened facts path Read u
+    × IsCut form u tail (views.disk disk) × IsSalvagedFrom facts.files task tail sink full
+    (begun_image form (views.disk disk).size u) (views.disk disk) status)
+    ⊎ ((fault : ImageFault) × IsDeniedCut facts views path form u fault disks × IsExplained sink full status fault)

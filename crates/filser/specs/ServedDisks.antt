@@ -1,5 +1,5 @@
 -- What a run makes of the disk of an image. `begun` is the disk before its first call.
-use Rattle.std.specs.Prelude.{◌≡◌, ◌⊎◌, ◌≤◌, ℕ, List, Option, Result, Ok, Err, false, max, if◌then◌else◌}
+use Rattle.std.specs.Prelude.{◌≡◌, ◌⊎◌, ◌+◌, ◌*◌, ◌≤◌, ℕ, List, Option, Result, Ok, Err, false, max, if◌then◌else◌}
 use Rattle.blockdisk.specs.Common.{DiskState, LeavesOnly, NoneOpen, SameDisk, Still, one_more}
 use Rattle.changeset.specs.Common.{IsRecovered}
 use Rattle.spec_image.specs.Common.{File, Files, pack_of, StandsOn, Stands}
@@ -82,12 +82,13 @@ pub record IsUnserved (begun end : DiskState) (source left sink full : Option (L
   pub said : IsLine sink full status (start_code error) (start_text error)
   pub unread : left ≡ source
 
--- A disk was read to find what its faults cost, and nothing was written: each block that couldn't be read is a failure.
+-- A disk was read to find what its faults cost, and nothing was written: each time that a block couldn't be read is a
+-- failure.
 pub record IsSearched (old new : DiskState) : Type 0 where
   pub same : SameDisk old new
   pub still : new.honest → Still old new
   pub unread : ℕ
-  pub few : unread ≤ old.size
+  pub few : unread ≤ 2 * old.size + 2
   pub failures : new.failures ≡ failed_by unread old.failures
 
 -- What a task did with a disk that was refused: nothing, or a check searched it.

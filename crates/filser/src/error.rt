@@ -19,6 +19,9 @@ pub enum WrongArgument<'a> {
     /// Two flags that choose different encodings of a file's bytes.
     #[error("--{} and --{} exclude each other", flag_of(.0), flag_of(.1))]
     Encodings(Encoding, Encoding),
+    /// The two flags that choose which blocks are searched for files that no directory names.
+    #[error("--named and --all exclude each other")]
+    Searches,
     /// The date.
     #[error("--date {}: a day from 1964-01-01 to 2052-02-01, as 1975-01-04 or 4-Jan-1975, or its number", Escaped(.0))]
     Date(&'a str),

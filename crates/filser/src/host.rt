@@ -1,6 +1,6 @@
 //! The files of the host: the calls that the program makes on them, and the system that serves these.
 ghost use Rattle.std.specs.Prelude.{◌≡◌, Ok, Err, IfOk, IfErr, IfSome, pos, ◌<ℤ◌};
-ghost use Rattle.imagefile.specs.Common.{BeganAs, IsImageSize, assumed_in, size_of};
+ghost use Rattle.imagefile.specs.Common.{BeganAs, BeganCut, HasTooManyBlocks, IsImageSize, assumed_in, size_of};
 ghost use Rattle.imagefile.specs.declared.size.ImageError.TheVariants.{BadSize, Device};
 ghost use Rattle.filser.specs.Hosts.{HostFacts};
 
@@ -112,6 +112,28 @@ pub trait Host {
         ensures counted { IfOk result (λ disk. (⟦<ImageDisk<HostFile> as Disk>⟧.state disk).failures ≡ 0) }
         ensures size { IfErr result (λ refused. refused.0 ≡ BadSize → (⟦<HostFile as Durable>⟧.state refused.1).honest
             → IsImageSize form (size_of (assumed_in supposed)) → ⊥) }
+        ensures failed { IfErr result (λ refused. refused.0 ≡ Device
+            → (⟦<HostFile as Durable>⟧.state refused.1).failures ≡ 1) };
+
+    /// Returns the disk of the whole blocks of this form in an open file that began as supposed, and how many bytes
+    /// follow them. Only the length of the file was read.
+    ///
+    /// # Errors
+    ///
+    /// The file: `BadSize` if it has 2^32 whole blocks or more, `Device` if the length couldn't be read.
+    fn start_of(
+        &self,
+        file: Self::File,
+        form: Form,
+        supposed: AssumedImage,
+    ) -> Result<(ImageDisk<HostFile>, u32), (ImageError, HostFile)>
+        requires { pos 2 <ℤ (facts self.now).number file }
+        ensures supposed { (facts self.now).supposed file (assumed_in supposed) }
+        ensures began { IfOk result
+            (λ cut. BeganCut form (assumed_in supposed) cut.1 (⟦<ImageDisk<HostFile> as Disk>⟧.state cut.0)) }
+        ensures counted { IfOk result (λ cut. (⟦<ImageDisk<HostFile> as Disk>⟧.state cut.0).failures ≡ 0) }
+        ensures size { IfErr result (λ refused. refused.0 ≡ BadSize → (⟦<HostFile as Durable>⟧.state refused.1).honest
+            → HasTooManyBlocks form (size_of (assumed_in supposed))) }
         ensures failed { IfErr result (λ refused. refused.0 ≡ Device
             → (⟦<HostFile as Durable>⟧.state refused.1).failures ≡ 1) };
 
@@ -428,6 +450,15 @@ impl<F: Files<File = File>> Host for SystemHost<'_, F> {
         supposed: AssumedImage,
     ) -> Result<ImageDisk<HostFile>, (ImageError, HostFile)> {
         ImageDisk::open_file(file, supposed, form)
+    }
+
+    fn start_of(
+        &self,
+        file: File,
+        form: Form,
+        supposed: AssumedImage,
+    ) -> Result<(ImageDisk<HostFile>, u32), (ImageError, HostFile)> {
+        ImageDisk::open_start(file, supposed, form)
     }
 
     fn remove(&self, path: &str, right: RemovalRight) -> io::Result<()> {

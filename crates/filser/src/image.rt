@@ -1,11 +1,15 @@
 //! Images: opening an existing one, and making a new one.
-ghost use Rattle.std.specs.Prelude.{◌≡◌, Ok, Err, IfOk, IfErr, IfSome, OnOk, option_map, pos, ◌<ℤ◌, ℕ};
+ghost use Rattle.std.specs.Prelude.{◌≡◌, Ok, Err, None, IfOk, IfErr, IfSome, OnOk, option_map, pos, ◌<ℤ◌, ℕ};
 ghost use Rattle.blockdisk.specs.Common.{SameDisk};
-ghost use Rattle.imagefile.specs.Common.{BeganAs, failure_of as reason_of, assumed_in, Unseen};
+ghost use Rattle.imagefile.specs.Common.{BeganAs, BeganCut, failure_of as reason_of, assumed_in, Unseen};
 ghost use Rattle.imagefile.specs.declared.form.Form.{Form as Forms};
+ghost use Rattle.imagefile.specs.declared.size.ImageError.TheVariants.{BadSize, Device as NoLength};
+ghost use Rattle.volume.specs.declared.error.VolumeError.TheVariants.{NotVolume};
 ghost use Rattle.filser.specs.Common.{IsNoImage, IsUnfilled, IsUnfit, IsUnlocked, IsUnmade, IsUnopened, of_host};
 ghost use Rattle.filser.specs.Common.{IsKept, IsOpened, IsOwn, HasNoDisk, IsDenied, IsEmptyVolume, IsNewDisk};
-ghost use Rattle.filser.specs.Common.{IsCleared, IsNoNewDisk, IsNotMade};
+ghost use Rattle.filser.specs.Common.{IsCleared, IsDeniedCut, IsDeviceFault, IsNoCutImage, IsNoNewDisk, IsNotMade};
+ghost use Rattle.filser.specs.declared.host.Access.TheVariants.{Read};
+ghost use Rattle.filser.specs.declared.refusal.Refusal.TheVariants.{Start};
 ghost use Rattle.filser.specs.declared.fault.HostFault.TheVariants.{System, Memory as OutOfMemory};
 ghost use Rattle.filser.specs.declared.disks.Disks.TheVariants as disks;
 
@@ -140,6 +144,23 @@ fn open_file<H: Host>(
     }
 }
 
+/// Returns why no disk was made of a file.
+fn no_disk(error: ImageError, file: &HostFile) -> ImageFault
+    ensures bad { error ≡ BadSize → result ≡ record { refusal = Start NotVolume; host = None } }
+    ensures failed { error ≡ NoLength → IsDeviceFault result }
+{
+    match error {
+        ImageError::BadSize => ImageFault {
+            refusal: Refusal::Start(VolumeError::NotVolume),
+            host: None,
+        },
+        ImageError::Device => ImageFault {
+            refusal: Refusal::Start(VolumeError::Device),
+            host: failure_of(file),
+        },
+    }
+}
+
 /// Returns the disk of this form in a file that began as supposed.
 ///
 /// # Errors
@@ -161,20 +182,32 @@ fn disk_in<H: Host>(
 {
     match host.disk_of(file, form, supposed) {
         Ok(disk) => Ok(disk),
-        Err((ImageError::BadSize, file)) => Err((
-            ImageFault {
-                refusal: Refusal::Start(VolumeError::NotVolume),
-                host: None,
-            },
-            file,
-        )),
-        Err((ImageError::Device, file)) => Err((
-            ImageFault {
-                refusal: Refusal::Start(VolumeError::Device),
-                host: failure_of(&file),
-            },
-            file,
-        )),
+        Err((error, file)) => Err((no_disk(error, &file), file)),
+    }
+}
+
+/// Returns the disk of the whole blocks of this form in a file that began as supposed, and how many bytes follow them.
+///
+/// # Errors
+///
+/// The file: `NotVolume` if it has 2^32 whole blocks or more, `Device` if the device failed.
+fn start_in<H: Host>(
+    host: &H,
+    file: H::File,
+    form: Form,
+    supposed: AssumedImage,
+) -> Result<(ImageDisk<HostFile>, u32), (ImageFault, HostFile)>
+    requires { pos 2 <ℤ (H.facts host.now).number file }
+    ensures supposed { (H.facts host.now).supposed file (assumed_in supposed) }
+    ensures began { IfOk result
+        (λ cut. BeganCut form (assumed_in supposed) cut.1 (⟦<ImageDisk<HostFile> as Disk>⟧.state cut.0)) }
+    ensures counted { IfOk result (λ cut. (⟦<ImageDisk<HostFile> as Disk>⟧.state cut.0).failures ≡ 0) }
+    ensures refused { IfErr result (λ refused. IsNoCutImage form (assumed_in supposed)
+        (⟦<HostFile as Durable>⟧.state refused.1) refused.0) }
+{
+    match host.start_of(file, form, supposed) {
+        Ok(cut) => Ok(cut),
+        Err((error, file)) => Err((no_disk(error, &file), file)),
     }
 }
 
@@ -204,6 +237,35 @@ pub(crate) fn open_disk<H: Host>(
     };
     match disk_in(host, file, form, supposed) {
         Ok(disk) => Ok(disk),
+        Err((fault, file)) => Err((fault, Disks::NoImage(file))),
+    }
+}
+
+/// Returns the disk of the whole blocks of an image of this form at a path, which is only to be read, and how many
+/// bytes follow them. Its file is locked for this process and began as supposed.
+///
+/// # Errors
+///
+/// As of `open_file` and `start_in`.
+pub(crate) fn open_start<H: Host>(
+    host: &H,
+    path: &str,
+    form: Form,
+    leave: OpeningLeave,
+) -> Result<(ImageDisk<HostFile>, u32), Denied>
+    ensures opened { IfOk result (λ cut. IsOpened (H.facts host.now) path.now Read (assumed_in leave.supposed)) }
+    ensures began { IfOk result (λ cut. BeganCut form (assumed_in leave.supposed) cut.1
+        (⟦<ImageDisk<HostFile> as Disk>⟧.state cut.0)) }
+    ensures counted { IfOk result (λ cut. (⟦<ImageDisk<HostFile> as Disk>⟧.state cut.0).failures ≡ 0) }
+    ensures denied { IfErr result (λ denied. IsDeniedCut (H.facts host.now) (⟦<Run as Seen>⟧.views) path.now form
+        (assumed_in leave.supposed) denied.0 denied.1) }
+{
+    let (file, supposed) = match open_file(host, path, Access::Read, leave) {
+        Ok(opened) => opened,
+        Err(fault) => return Err((fault, Disks::None)),
+    };
+    match start_in(host, file, form, supposed) {
+        Ok(cut) => Ok(cut),
         Err((fault, file)) => Err((fault, Disks::NoImage(file))),
     }
 }

@@ -87,22 +87,22 @@ fn report_findings<E: Write>(errors: &mut E, findings: &[Finding]) {
 ///
 /// # Errors
 ///
-/// `NotVolume` if it has a number of blocks that no volume has; `Device` if a block couldn't be read, or if the faults
-/// lead to the same blocks again and again; `NoMemory` if there is no memory: the search takes twice what the disk
-/// holds.
+/// `NotVolume` if neither it nor a home copy has a volume's size; `Device` if a block couldn't be read, or if the
+/// faults lead to the same blocks again and again; `NoMemory` if there is no memory: the search takes twice what the
+/// volume holds.
 fn search<D: Disk>(alloc: Global, disk: &mut D) -> Result<Survey, SalvageError>
     ensures { IsSearched (D.state disk.old) (D.state disk.new) }
 {
-    let size = disk.blocks();
     let Copied {
         disk: copy,
-        unread,
+        faults,
         ..
-    } = Copied::of(alloc, disk)?;
-    if unread > 0 {
+    } = Copied::of(alloc, disk, 0)?;
+    if faults.unread > 0 {
         return Err(SalvageError::Device); // a disk that keeps blocks doesn't give the neighbours either
     }
-    let mut copy = FuseDisk::new(copy, READS_PER_BLOCK * u64::from(size), Fail::All);
+    let reads = READS_PER_BLOCK * u64::from(copy.blocks());
+    let mut copy = FuseDisk::new(copy, reads, Fail::All);
     survey_disk(alloc, &mut copy, Search::Used)
 }
 

@@ -24,8 +24,8 @@
 //!    none, and hands the disk back. (`IsTaskRun`) Only a check reads a disk that was refused, and it writes nothing to
 //!    it. (`IsGivenBack`) A new image has the requested layout. (`IsEmptyVolume`) A migration changes the home copies
 //!    alone, besides gate and log, and its line is printed only if the volume has layout 2. (`IsMigrationRun`)
-//! 9. A refusal has its cause (`IsDenied`, `IsNotMade`), and its line is printed whole, or a beginning of it if the
-//!    writer fails. (`IsExplained`, `IsLine`)
+//! 9. A refusal has its cause (`IsDenied`, `IsDeniedCut`, `IsNotMade`), and its line is printed whole, or a beginning
+//!    of it if the writer fails. (`IsExplained`, `IsLine`)
 //! 10. A run hands back the images that it worked on, so that its contract states what became of them. (`WasRun`)
 //! 11. Words that make no request print nothing into a file that one of them names. (`SparesNamed`) A request prints
 //!    nothing into an image that it names. (`IsHandled`) Nothing that a run reports lands in an image that its request
@@ -93,7 +93,7 @@ use std::process::ExitCode;
 use std::rt::Env;
 use streams::is_at_errors;
 pub use streams::{MissingStreams, Streams};
-pub use task::{NamedFile, Task};
+pub use task::{NamedFile, SalvageTask, Task};
 
 /// How many bytes the path of a file has at most, with its end.
 const PATH_BYTES: usize = 4096;

@@ -9,26 +9,32 @@ ghost use Rattle.filser.specs.Common.{Asks, IsAsked, IsAt, IsNamedFile, AsksFor,
 ghost use Rattle.filser.specs.Common.{IsExportTask, IsImportTask, IsOneEncoding, LacksOwned, IsListedPlace, IsStyle};
 ghost use Rattle.filser.specs.Common.{IsTask, HasForm, HasLayout, HasText, HasDate, HasNumber, IsFaultIn, IsMistaken};
 ghost use Rattle.filser.specs.Common.{IsUsage, IsWrong, NamesDate, IsEncoding, NamesEncoding, IsDateNumber, LacksDate};
-ghost use Rattle.filser.specs.Common.{NamesFile, NamesNoDate, NamesOwner, SaysDate, InRange};
+ghost use Rattle.filser.specs.Common.{NamesFile, NamesNoDate, NamesOwner, SaysDate, InRange, IsAskedSearch};
+ghost use Rattle.filser.specs.Common.{IsSalvageTask};
 ghost use Rattle.words36.specs.declared.moment.Moment.{Moment as Moments};
 ghost use Rattle.imagefile.specs.declared.form.Form.{Form as Forms};
 ghost use Rattle.spec_image.specs.declared.layout.Layout.{Layout as Layouts};
 ghost use Rattle.filser.specs.declared.task.NamedFile.{NamedFile as NamedFiles};
+ghost use Rattle.filser.specs.declared.task.SalvageTask.{SalvageTask as SalvageTasks};
 ghost use Rattle.filser.specs.declared.task.Task.{Task as Tasks};
 ghost use Rattle.spec_language.specs.declared.encoding.Encoding.{Encoding as Encodings};
 ghost use Rattle.collection.specs.declared.task.ExportTask.{ExportTask as ExportTasks};
 ghost use Rattle.collection.specs.declared.task.ImportTask.{ImportTask as ImportTasks};
+ghost use Rattle.salvage.specs.declared.search.Search.{Search as Searches};
 ghost use Rattle.filser.specs.declared.request.Request.{Request as Asked};
 ghost use Rattle.filser.specs.declared.error.RequestError.TheVariants.{Usage, BadArgument};
 ghost use Rattle.filser.specs.declared.error.WrongArgument.{WrongArgument as WrongArguments};
 ghost use Rattle.filser.specs.declared.error.WrongArgument.TheVariants as wrong;
 
-use crate::{ExportTask, ImportTask, NamedFile, Request, RequestError, Task, WrongArgument};
+use crate::{
+    ExportTask, ImportTask, NamedFile, Request, RequestError, SalvageTask, Task, WrongArgument,
+};
 use arguments::command_line;
 use clap::error::ErrorKind;
 use clap::{ArgMatches, Error};
 use commands::{Encoding, Existing, Style, date_named, file_named, owner_named};
 use imagefile::Form;
+use salvage::Search;
 use spec_image::layout::Layout;
 use std::alloc::{AllocError, Global};
 use std::num::IntErrorKind;
@@ -176,7 +182,7 @@ fn other_than_import<'a>(name: &'a str, matches: &ArgMatches<'a>) -> Option<Requ
             Some(Request::Export(image, form, task))
         }
         "salvage" => {
-            let Some(task) = export_task(matches) else {
+            let Some(task) = salvage_task(matches) else {
                 return None;
             };
             Some(Request::Salvage(image, form, task))
@@ -199,6 +205,31 @@ fn export_task<'a>(matches: &ArgMatches<'a>) -> Option<ExportTask<'a>>
         encoding,
         lists: given(matches, "list"),
     })
+}
+
+/// Returns the task of `salvage`.
+fn salvage_task<'a>(matches: &ArgMatches<'a>) -> Option<SalvageTask<'a>>
+    ensures { MatchOption result ((t : SalvageTasks) → IsSalvageTask (rows_of (found_of matches.entry.now)) t → ⊥)
+        (IsSalvageTask (rows_of (found_of matches.entry.now))) }
+{
+    let search = search_asked(matches)?;
+    let Some(export) = export_task(matches) else {
+        return None;
+    };
+    Some(SalvageTask { export, search })
+}
+
+/// Returns which blocks are searched for files that no directory names, if at most one flag chooses them.
+fn search_asked(matches: &ArgMatches) -> Option<Search>
+    ensures { MatchOption result ((s : Searches) → IsAskedSearch (rows_of (found_of matches.now)) s → ⊥)
+        (IsAskedSearch (rows_of (found_of matches.now))) }
+{
+    match (given(matches, "named"), given(matches, "all")) {
+        (true, true) => None,
+        (true, false) => Some(Search::Named),
+        (false, true) => Some(Search::Every),
+        (false, false) => Some(Search::Used),
+    }
 }
 
 /// Returns the form of the image.
@@ -345,6 +376,9 @@ fn wrong_argument<'a>(matches: &ArgMatches<'a>) -> Option<WrongArgument<'a>>
     }
     if let Some((one, other)) = two_encodings(matches) {
         return Some(WrongArgument::Encodings(one, other));
+    }
+    if both_given(matches, "named", "all") {
+        return Some(WrongArgument::Searches);
     }
     if let Some(text) = wrong_date(matches) {
         return Some(WrongArgument::Date(text));

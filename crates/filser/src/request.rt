@@ -2,7 +2,7 @@
 ghost use Rattle.std.specs.Prelude.{◌≡◌, option_map};
 ghost use Rattle.filser.specs.Common.{image_named, new_named};
 
-use crate::{ExportTask, ImportTask, Task};
+use crate::{ExportTask, ImportTask, SalvageTask, Task};
 use imagefile::Form;
 use spec_image::layout::Layout;
 
@@ -24,7 +24,7 @@ pub enum Request<'a> {
     /// `export`: write files of this image, which has this form, to new files of the host.
     Export(&'a str, Form, ExportTask<'a>),
     /// `salvage`: write the files that are whole on this image, which has this form, to new files of the host.
-    Salvage(&'a str, Form, ExportTask<'a>),
+    Salvage(&'a str, Form, SalvageTask<'a>),
 }
 
 impl<'a> Request<'a> {

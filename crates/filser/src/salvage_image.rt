@@ -1,26 +1,24 @@
 //! `salvage`: what is whole on an image, written to files of the host.
-ghost use Rattle.std.specs.Prelude.{◌≡◌, ◌≢◌, ◌⊎◌, List, [], length};
+ghost use Rattle.std.specs.Prelude.{◌≡◌, ◌≢◌, ◌⊎◌, List, length};
 ghost use Rattle.blockdisk.specs.Common.{SameDisk, held};
 ghost use Rattle.imagefile.specs.Common.{assumed_in};
 ghost use Rattle.spec_image.specs.Common.{File as StoredFile, Files, IsVolumeSize, SettledStands};
 ghost use Rattle.collection.specs.Common.{MayRescue};
-ghost use Rattle.salvage.specs.Common.{AreTheFiles};
+ghost use Rattle.salvage.specs.Common.{copy_findings};
 ghost use Rattle.salvage.specs.declared.saved.SavedFile.{SavedFile};
-ghost use Rattle.filser.specs.Common.{AreFound, IsOnSalvaged, IsSalvagedFrom, IsUnsurveyed, start_error};
+ghost use Rattle.filser.specs.Common.{AreAllFound, AreFound, IsOnSalvaged, IsSalvagedFrom, IsUnsurveyed, start_error};
 ghost use Rattle.filser.specs.declared.status.Status.TheVariants.{BadArguments};
 
 use crate::fault::report_fault;
 use crate::host::Shelf;
-use crate::image::{NamedImage, failure_of, open_disk};
+use crate::image::{NamedImage, failure_of, open_start};
 use crate::program::refuse_image;
 use crate::reasons::report_ending;
 use crate::serve_image::{ending, say};
-use crate::{
-    Access, Disks, ExportTask, Host, ImageDisks, OpeningLeave, Refusal, Run, Seen, Status,
-};
+use crate::{Disks, Host, ImageDisks, OpeningLeave, Refusal, Run, SalvageTask, Seen, Status};
 use blockdisk::Disk;
 use collection::save_survey;
-use salvage::{Copied, SalvageError, Search, survey_disk};
+use salvage::{Copied, SalvageError, survey_disk};
 use std::alloc::Global;
 use std::io::Write;
 use volume::VolumeError;
@@ -41,24 +39,25 @@ fn salvage_copy<H: Host, W: Write, E: Write>(
     shelf: &Shelf<'_, H>,
     alloc: Global,
     copied: &mut Copied,
-    task: &ExportTask<'_>,
+    task: &SalvageTask<'_>,
     writer: &mut W,
     errors: &mut E,
 ) -> Status
     requires size { IsVolumeSize (length copied.old.disk.blocks) }
-    requires allowed { MayRescue (H.facts shelf.now.host.now).files task.now }
+    requires findings { copied.old.findings.items ≡ copy_findings copied.old.faults }
+    requires allowed { MayRescue (H.facts shelf.now.host.now).files task.now.export }
     ensures serving { result ≢ BadArguments }
-    ensures ran { ((files : List SavedFile) × (doubtful : List SavedFile)
+    ensures ran { ((files : List SavedFile) × (doubtful : List SavedFile) × (unnamed : List SavedFile)
         × AreFound (H.facts shelf.now.host.now).files task.now (W.contents writer.old) (W.contents writer.new)
-        copied.old.disk copied.new.disk copied.old.unread copied.old.has_bad_log files doubtful result
+        copied.old.disk copied.new.disk copied.old.faults files doubtful unnamed result
         × ((stored : Files StoredFile) → SettledStands (length copied.old.disk.blocks)
         (held copied.old.disk.blocks) stored
-        → AreTheFiles (held copied.old.disk.blocks) files stored × (doubtful ≡ [])))
+        → AreAllFound (held copied.old.disk.blocks) task.now files doubtful unnamed stored))
         ⊎ IsUnsurveyed copied.old.disk copied.new.disk (W.contents writer.old) (W.contents writer.new) result }
 {
-    match survey_disk(alloc, &mut copied.disk, Search::Used) {
+    match survey_disk(alloc, &mut copied.disk, task.search) {
         Ok(found) => {
-            let saved = save_survey(shelf, alloc, task, &found, copied, writer, errors);
+            let saved = save_survey(shelf, alloc, &task.export, &found, copied, writer, errors);
             let status = ending(saved);
             report_ending(errors, status, &saved);
             status
@@ -67,49 +66,50 @@ fn salvage_copy<H: Host, W: Write, E: Write>(
     }
 }
 
-/// Writes what is whole on a disk to files of the host.
+/// Writes what is whole on a disk, which `tail` bytes follow, to files of the host.
 fn salvage_from<H: Host, D: Disk, W: Write, E: Write>(
     shelf: &Shelf<'_, H>,
     alloc: Global,
     disk: &mut D,
-    task: &ExportTask<'_>,
+    tail: u32,
+    task: &SalvageTask<'_>,
     writer: &mut W,
     errors: &mut E,
 ) -> Status
-    requires { MayRescue (H.facts shelf.now.host.now).files task.now }
+    requires { MayRescue (H.facts shelf.now.host.now).files task.now.export }
     ensures serving { result ≢ BadArguments }
-    ensures ran { IsSalvagedFrom (H.facts shelf.now.host.now).files task.now
+    ensures ran { IsSalvagedFrom (H.facts shelf.now.host.now).files task.now tail
         (W.contents writer.old) (W.contents writer.new) (D.state disk.old) (D.state disk.new) result }
     ensures same { SameDisk (D.state disk.old) (D.state disk.new) }
 {
-    match Copied::of(alloc, disk) {
+    match Copied::of(alloc, disk, tail) {
         Ok(mut copied) => salvage_copy(shelf, alloc, &mut copied, task, writer, errors),
         Err(error) => say(writer, Refusal::Start(start_error(error))),
     }
 }
 
 /// Writes what is whole on an image to files of the host, if these don't exist, and prints a line for each and for each
-/// fault. As for a task, nothing is assumed of the host.
+/// fault. The image may be cut in the middle of a block. As for a task, nothing is assumed of the host.
 pub(crate) fn salvage_image<H: Host, W: Write, E: Write>(
     shelf: &Shelf<'_, H>,
     alloc: Global,
     image: &NamedImage<'_>,
     leave: OpeningLeave,
-    task: &ExportTask<'_>,
+    task: &SalvageTask<'_>,
     writer: &mut W,
     errors: &mut E,
 ) -> (Status, ImageDisks)
-    requires { MayRescue (H.facts shelf.now.host.now).files task.now }
+    requires { MayRescue (H.facts shelf.now.host.now).files task.now.export }
     ensures serving { result.0 ≢ BadArguments }
     ensures ran { IsOnSalvaged (H.facts shelf.now.host.now) (⟦<Run as Seen>⟧.views) image.now.path.now
         image.now.form task.now (assumed_in leave.supposed) (W.contents writer.old) (W.contents writer.new)
         result.1 result.0 }
 {
     let (path, form) = (image.path, image.form);
-    match open_disk(shelf.host, path, form, Access::Read, leave) {
-        Ok(disk) => {
+    match open_start(shelf.host, path, form, leave) {
+        Ok((disk, tail)) => {
             let mut disk = disk;
-            let status = salvage_from(shelf, alloc, &mut disk, task, writer, errors);
+            let status = salvage_from(shelf, alloc, &mut disk, tail, task, writer, errors);
             if let Some(fault) = &failure_of(disk.file()) {
                 report_fault(errors, path, fault);
             }

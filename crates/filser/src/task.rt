@@ -3,7 +3,9 @@ ghost use Rattle.std.specs.Prelude.{◌≡◌};
 ghost use Rattle.filser.specs.Common.{access_of};
 
 use crate::Access;
+use collection::ExportTask;
 use commands::{Encoding, Existing, Style};
+use salvage::Search;
 use words36::{FileName, Moment, Ppn};
 
 /// A file as the words of a command line name it, and the encoding of the bytes from which it is put or as which it is
@@ -16,6 +18,15 @@ pub struct NamedFile {
     pub name: FileName,
     /// The encoding of its bytes.
     pub encoding: Encoding,
+}
+
+/// Files of a damaged image that will become files of the host.
+#[derive(Clone, Copy, Debug, PartialEq, Eq)]
+pub struct SalvageTask<'a> {
+    /// What becomes of those that are found.
+    pub export: ExportTask<'a>,
+    /// Which blocks are searched for files that no directory names.
+    pub search: Search,
 }
 
 /// What is done on an image, and at which moment if that matters.

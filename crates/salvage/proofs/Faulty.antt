@@ -16,7 +16,7 @@ use Rattle.salvage.specs.Common.{told_of, uses}
 use Rattle.salvage.specs.Findings.{HasBlock, IsNamedTwice}
 use Rattle.salvage.specs.declared.saved.SavedFile.{SavedFile}
 use Rattle.salvage.specs.declared.finding.Defect.{Defect}
-use Rattle.salvage.specs.declared.finding.Defect.TheVariants.{Start, FreeBlock}
+use Rattle.salvage.specs.declared.finding.Defect.TheVariants.{Start, FreeBlock, TwoOwners, Missing, Surplus, Tail}
 use Rattle.salvage.proofs.Members.{contains_none}
 use Rattle.spec_image.proofs.Common.{all_append, each_times}
 use Rattle.directory.proofs.GatheredEntries.{all_of}
@@ -157,6 +157,10 @@ module _ (size layout : ℕ) (contents : Contents) (counts : List ℕ) (named : 
     has_block file n is doubt.0,
     (is_free n (block_inside size layout contents file n is.1 doubt.0).below).0 doubt.1,
   )
+  doubt_concerns file (TwoOwners n) is doubt = absurd doubt
+  doubt_concerns file (Missing n) is doubt = absurd doubt
+  doubt_concerns file (Surplus n) is doubt = absurd doubt
+  doubt_concerns file (Tail n) is doubt = absurd doubt
   doubt_concerns file (Start NotVolume) is doubt = absurd doubt
   doubt_concerns file (Start BadHome) is doubt = absurd doubt
   doubt_concerns file (Start BadLog) is doubt = absurd doubt
@@ -183,6 +187,10 @@ module _ (size layout : ℕ) (contents : Contents) (counts : List ℕ) (named : 
     },
   )
   spoiled_concerns file (FreeBlock n) is spoiled = absurd spoiled
+  spoiled_concerns file (TwoOwners n) is spoiled = absurd spoiled
+  spoiled_concerns file (Missing n) is spoiled = absurd spoiled
+  spoiled_concerns file (Surplus n) is spoiled = absurd spoiled
+  spoiled_concerns file (Tail n) is spoiled = absurd spoiled
   spoiled_concerns file (Start NotVolume) is spoiled = absurd spoiled
   spoiled_concerns file (Start BadHome) is spoiled = absurd spoiled
   spoiled_concerns file (Start BadLog) is spoiled = absurd spoiled
@@ -224,6 +232,10 @@ unnamed_stands size layout contents file fault is spoiled = by fault spoiled
       concerns = record { file = file; at_is = refl; read = is.0; among = met.0; damaged = met.1 };
     }
     by (FreeBlock n) met = absurd met
+    by (TwoOwners n) met = absurd met
+    by (Missing n) met = absurd met
+    by (Surplus n) met = absurd met
+    by (Tail n) met = absurd met
     by (Start NotVolume) met = absurd met
     by (Start BadHome) met = absurd met
     by (Start BadLog) met = absurd met

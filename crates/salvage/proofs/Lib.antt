@@ -1,6 +1,7 @@
 pub mod CopySteps
 pub mod Agreement
 pub mod SettledCopies
+pub mod CopySizes
 pub mod CarriedFacts
 pub mod SavedFiles
 pub mod Refusals
@@ -20,6 +21,10 @@ pub mod WholeBodies
 pub mod SurveySteps
 pub mod StandingChains
 pub mod NothingLost
+pub mod StandingUnnamed
 pub mod WalkedChains
+pub mod ClaimedChains
+pub mod MarkedExtensions
+pub mod ClaimedVersions
 pub mod FreeTables
 pub mod MarkedCounts

@@ -1,16 +1,16 @@
 -- Blocks that are checked one after the other, and what is there.
 use Rattle.std.proofs.Common.{◌≡◌, ◌⊎◌, inl, inr, ⊎_elim, ℕ, ◌+◌, ◌<◌, Bool, List, [], ◌∷◌, ◌++◌, map, slice_index}
-use Rattle.std.proofs.Common.{refl, sym, ap, subst, ◌∙◌, arith}
+use Rattle.std.proofs.Common.{refl, sym, ap, subst, ◌∙◌, arith, Result, Ok, Err, IfOk}
 use Rattle.std.specs.List.{AllByRecursion}
 use Rattle.std.proofs.lemmas.Bool.{cases_eq}
 use Rattle.std.proofs.lemmas.List.{append_assoc}
 use Rattle.words36.specs.declared.names.FileName.{FileName}
 use Rattle.blockdisk.specs.Common.{Contents}
-use Rattle.spec_image.specs.Common.{InSpace, Place, place_of, times}
+use Rattle.spec_image.specs.Common.{InSpace, Place, place_of, space_start, times}
 use Rattle.spec_image.proofs.Common.{times-append, all_append}
 use Rattle.changeset.specs.Common.{times_tail}
 use Rattle.directory.proofs.GatheredEntries.{all_of}
-use Rattle.salvage.specs.Common.{AreAdded, AreApart, AreFound, AreFree, CountTo, IsAmong, IsFinding, IsLostBy}
+use Rattle.salvage.specs.Common.{AreAdded, AreAlone, AreApart, AreFound, AreFree, CountTo, IsAmong, IsFinding, IsLostBy}
 use Rattle.salvage.specs.Common.{IsPrimeAt, IsRead, IsReadAt, IsScanned, IsSearched, IsWanted, claims}
 use Rattle.salvage.specs.declared.saved.SavedFile.{SavedFile}
 use Rattle.salvage.specs.declared.search.Search.{Search}
@@ -18,7 +18,7 @@ use Rattle.salvage.specs.declared.search.Search.TheVariants.{Named, Used, Every}
 use Rattle.salvage.specs.declared.finding.Cost.{Cost}
 use Rattle.salvage.specs.declared.finding.Finding.{Finding}
 use Rattle.salvage.specs.declared.finding.Cost.TheVariants as cost
-use Rattle.salvage.proofs.Members.{contains_left, contains_right, map_behind}
+use Rattle.salvage.proofs.Members.{contains_left, contains_right, map_behind, nothing_behind}
 
 -- By the marks of the free blocks those are checked that are to be searched.
 
@@ -71,6 +71,20 @@ lost_behind findings more costs is = record {
 either : {A B C D : Type 0} → (A → C) → (B → D) → A ⊎ B → C ⊎ D
 either f g (inl a) = inl (f a)
 either f g (inr b) = inr (g b)
+
+-- Before the first block nothing was found.
+pub none_found : (size layout : ℕ) (contents : Contents) (search : Search) (counts : List ℕ) (findings : List Finding)
+    (n : ℕ) → n ≡ space_start size → AreFound size layout contents search counts [] findings findings n
+none_found size layout contents search counts findings n start = record {
+  read = tt;
+  apart = λ m. omega arith;
+  earlier = tt;
+  at = tt;
+  added = [];
+  told_is = nothing_behind findings;
+  stand = tt;
+  all = λ prime ppn name inside before searched uncounted says. absurd (let from = inside.from in omega arith);
+}
 
 -- After the blocks before it.
 
@@ -176,14 +190,15 @@ module _ (size layout : ℕ) (contents : Contents) (search : Search) (counts : L
 
 pub all_scanned : (size layout : ℕ) (contents : Contents) (search : Search) (counts : List ℕ)
     (named files : List SavedFile) (findings told : List Finding) → CountTo counts (claims named)
-    → AreFound size layout contents search counts files findings told size
+    → AreFound size layout contents search counts files findings told size → AreAlone size layout contents files
     → IsScanned size layout contents search named files told
-all_scanned size layout contents search counts named files findings told counted found = record {
+all_scanned size layout contents search counts named files findings told counted found alone = record {
   read = found.read;
   apart = found.apart;
   at = all_of (λ file. InSpace size file.at × IsSearched search size contents file.at
       × (slice_index counts file.at ≡ 0)) (λ file. InSpace size file.at × IsSearched search size contents file.at
       × (claims named file.at ≡ 0)) files (λ file is. (is.0, is.1, unclaimed file.at is.2)) found.at;
+  alone = alone;
   all = λ prime ppn name inside searched none says. either (λ among. among)
       (λ lost. subst (λ (l : List Finding). IsLostBy l (cost.Unnamed ppn name prime)) (sym found.told_is)
       (lost_behind findings found.added (cost.Unnamed ppn name prime) lost))
@@ -225,3 +240,9 @@ pub found_end : (size layout : ℕ) (contents : Contents) (search : Search) (cou
     → AreFound size layout contents search counts files findings told size
 found_end size layout contents search counts files findings told n same =
     subst (AreFound size layout contents search counts files findings told) same
+
+-- what holds of a result that is there, both facts together
+pub ok_both : {T E : Type 0} (result : Result T E) (P Q R : T → Type 0) → ((x : T) → P x → Q x → R x) → IfOk result P
+    → IfOk result Q → IfOk result R
+ok_both (Ok x) P Q R then p q = then x p q
+ok_both (Err e) P Q R then p q = tt

@@ -35,11 +35,11 @@ use Rattle.salvage.specs.declared.search.Search.{Search}
 use Rattle.salvage.specs.declared.survey.Survey.{Survey}
 use Rattle.salvage.specs.declared.finding.Cost.{Cost}
 use Rattle.salvage.specs.declared.finding.Defect.{Defect}
-use Rattle.salvage.specs.declared.finding.Defect.TheVariants.{Start, FreeBlock}
+use Rattle.salvage.specs.declared.finding.Defect.TheVariants.{Start, FreeBlock, TwoOwners, Missing, Surplus, Tail}
 use Rattle.salvage.specs.declared.finding.Finding.{Finding}
 use Rattle.salvage.proofs.CarriedFacts.{element_has}
 use Rattle.salvage.proofs.SavedFiles.{blocks_at}
-use Rattle.salvage.proofs.StandingChains.{no_chain_block, no_free_block}
+use Rattle.salvage.proofs.StandingChains.{no_chain_block, no_free_block, no_shared_chain}
 use Rattle.spec_image.specs.Faults as faults
 use Rattle.salvage.specs.declared.finding.Cost.TheVariants as cost
 
@@ -81,7 +81,7 @@ module _ (size : ℕ) (contents : Contents) (m : DiskMap) (s : HasMap size conte
       }
 
   -- and so are the files
-  file_there : (ppn : ℕ) (d : StoredDirectory) (name : FileName) (f : StoredFile) → get m.directories ppn ≡ Some d
+  pub file_there : (ppn : ℕ) (d : StoredDirectory) (name : FileName) (f : StoredFile) → get m.directories ppn ≡ Some d
       → get d.files name ≡ Some f → IsFileNamed size contents m.layout (place_of ppn name) f.prime
   file_there ppn d name f at has =
       let chain = (s.mapped.directories ppn d at).chain in
@@ -106,13 +106,13 @@ module _ (size : ℕ) (contents : Contents) (m : DiskMap) (s : HasMap size conte
       }
 
   -- A file that was read is the map's.
-  record IsMapped (layout : ℕ) (saved : SavedFile) : Type 0 where
-    mapped : IsMappedFile size contents m layout (place_in saved) saved.at
-    facts : with_length saved.stored.prime saved.stored.version.words ≡ prime_of (place_in saved) mapped.file.file
-    ribs : saved.stored.version.ribs ≡ mapped.file.extensions
-    blocks : saved.stored.version.blocks ≡ mapped.file.blocks
+  pub record IsMapped (layout : ℕ) (saved : SavedFile) : Type 0 where
+    pub mapped : IsMappedFile size contents m layout (place_in saved) saved.at
+    pub facts : with_length saved.stored.prime saved.stored.version.words ≡ prime_of (place_in saved) mapped.file.file
+    pub ribs : saved.stored.version.ribs ≡ mapped.file.extensions
+    pub blocks : saved.stored.version.blocks ≡ mapped.file.blocks
 
-  read_is_mapped : (layout : ℕ) (saved : SavedFile) → IsNamedRead size layout contents saved → IsMapped layout saved
+  pub read_is_mapped : (layout : ℕ) (saved : SavedFile) → IsNamedRead size layout contents saved → IsMapped layout saved
   read_is_mapped layout saved read =
       let place = place_in saved in
       let there = file_named size contents m s layout place saved.at read.named in
@@ -149,7 +149,7 @@ module _ (size : ℕ) (contents : Contents) (m : DiskMap) (s : HasMap size conte
       omega arith)
       (cases_eq q.ppn p.ppn)
 
-  mapped_blocks : (layout : ℕ) (saved : SavedFile) (is : IsMapped layout saved) (n : ℕ)
+  pub mapped_blocks : (layout : ℕ) (saved : SavedFile) (is : IsMapped layout saved) (n : ℕ)
       → times n (blocks_of saved) ≡ reaches_in_file n is.mapped.file
   mapped_blocks layout saved is n = λ i. times n (sym is.mapped.prime_is i ∷ (is.ribs i ++ is.blocks i))
 
@@ -269,11 +269,15 @@ module _ (size : ℕ) (contents : Contents) (m : DiskMap) (s : HasMap size conte
           let some = block_reached layout place met.prime n there is.0 in
           no_free_block size contents m s place.ppn there.directory place.name there.file n there.directory_is
           there.file_is some (there.inside n some).below is.1
+      by (TwoOwners n) is = is
+      by (Missing n) is = is
+      by (Surplus n) is = is
+      by (Tail n) is = is
 
   no_directory_fault : (layout ppn : ℕ) (fault : VolumeError) → IsFaultOfDirectory size layout contents ppn fault → ⊥
   no_directory_fault layout ppn fault met = by fault met.concerns
     where
-      by : (e : VolumeError) → IsFaultOfChain size contents met.first e → ⊥
+      by : (e : VolumeError) → IsFaultOfChain size layout contents ppn met.first e → ⊥
       by NotVolume is = is
       by BadHome is = is
       by BadLog is = is
@@ -289,33 +293,35 @@ module _ (size : ℕ) (contents : Contents) (m : DiskMap) (s : HasMap size conte
         }),
       )
       by (BadRetrieval n) is = is
-      by (BlockTwice n) is = no_fault size contents m s (faults.StartFault.BlockTwice n) (
-        is.0,
-        record {
-          m = record {
-            nodes = met.named.nodes;
-            last = met.named.last;
-            directories = (ppn, record { nodes = is.1.before; last = n; files = [] }) ∷ [];
-          };
-          read = record {
-            layout = layout;
-            walk = met.named.walk;
-            once = (refl, tt);
-            directories = (
-              record {
-                word = met.word;
-                first = met.first;
-                entry = met.named.entry;
-                walk = is.1.walk;
-                once = tt;
-                files = tt;
-              },
-              tt,
-            );
-          };
-          twice = let t = is.1.twice in omega arith;
-        },
-      )
+      by (BlockTwice n) is = ⊎_elim
+          (λ twice. no_fault size contents m s (faults.StartFault.BlockTwice n) (
+            is.0,
+            record {
+              m = record {
+                nodes = met.named.nodes;
+                last = met.named.last;
+                directories = (ppn, record { nodes = twice.before; last = n; files = [] }) ∷ [];
+              };
+              read = record {
+                layout = layout;
+                walk = met.named.walk;
+                once = (refl, tt);
+                directories = (
+                  record {
+                    word = met.word;
+                    first = met.first;
+                    entry = met.named.entry;
+                    walk = twice.walk;
+                    once = tt;
+                    files = tt;
+                  },
+                  tt,
+                );
+              };
+              twice = let t = twice.twice in omega arith;
+            },
+          ))
+          (λ shared. no_shared_chain size contents m s layout ppn met.word met.first n met.named shared) is.1
       by (TableWrong n) is = is
       by Device is = is
       by NoMemory is = is
@@ -352,6 +358,10 @@ module _ (size : ℕ) (contents : Contents) (m : DiskMap) (s : HasMap size conte
       → IsStartFault P fault → ⊥
   no_start_fault P none (Start e) is = none e is
   no_start_fault P none (FreeBlock n) is = is
+  no_start_fault P none (TwoOwners n) is = is
+  no_start_fault P none (Missing n) is = is
+  no_start_fault P none (Surplus n) is = is
+  no_start_fault P none (Tail n) is = is
 
   finding_at : (layout : ℕ) (findings : List Finding) (costs : Cost)
       → AllByRecursion (IsFinding size layout contents) findings → (lost : IsLostBy findings costs)
@@ -359,12 +369,12 @@ module _ (size : ℕ) (contents : Contents) (m : DiskMap) (s : HasMap size conte
   finding_at layout findings costs stand lost = element_has (IsFinding size layout contents) findings
       (record { fault = lost.fault; costs = costs }) stand lost.among
 
-  no_told : (layout : ℕ) (findings : List Finding) (ppn : ℕ) (name : FileName)
+  pub no_told : (layout : ℕ) (findings : List Finding) (ppn : ℕ) (name : FileName)
       → AllByRecursion (IsFinding size layout contents) findings → IsLostBy findings (cost.File ppn name) → ⊥
   no_told layout findings ppn name stand lost = no_file_fault layout (place_of ppn name) lost.fault
       (finding_at layout findings (cost.File ppn name) stand lost)
 
-  no_directory_loss : (layout : ℕ) (findings : List Finding) (ppn : ℕ)
+  pub no_directory_loss : (layout : ℕ) (findings : List Finding) (ppn : ℕ)
       → AllByRecursion (IsFinding size layout contents) findings → IsDirectoryLoss findings ppn → ⊥
   no_directory_loss layout findings ppn stand loss = ⊎_elim
       (λ lost. no_start_fault (IsFaultOfDirectory size layout contents ppn) (no_directory_fault layout ppn) lost.fault

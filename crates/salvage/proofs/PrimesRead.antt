@@ -1,19 +1,20 @@
 -- A block that is read as a prime block: its file is added, or what is wrong with it is reported.
 use Rattle.std.proofs.Common.{◌≡◌, inl, inr, ℕ, ◌<◌, ◌^◌, List, [], ◌∷◌, ◌++◌, Result, Some, OnOk, refl, sym, ap}
 use Rattle.std.proofs.Common.{subst, ◌∙◌, arith}
+use Rattle.words36.specs.Common.{IsPpn}
 use Rattle.blockdisk.specs.Common.{Contents}
-use Rattle.spec_image.specs.Common.{InSpace, IsBadVersion, IsPrime, Place, place_of, SpecPrime, SpecRun}
+use Rattle.spec_image.specs.Common.{InSpace, IsPrime, Place, place_of, SpecPrime, SpecRun}
 use Rattle.spec_image.specs.Common.{prime_block, first_extension}
 use Rattle.spec_image.proofs.Common.{some_same, prime_ext_same, prime_same}
 use Rattle.retrieval.specs.Common.{with_length, SpellsPrime}
 use Rattle.retrieval.specs.declared.prime.Prime.{Prime as PrimeValue}
-use Rattle.volume.specs.declared.error.VolumeError.TheVariants.{BadRetrieval}
+use Rattle.volume.specs.Common.{IsOtherPlace}
 use Rattle.volume.proofs.common.MarkedBlocks.{on_ok}
-use Rattle.salvage.specs.Common.{IsLostBy, IsPrimeAt, IsRead, IsReadAt, IsReported, place_in}
+use Rattle.salvage.specs.Common.{ConcernsUnnamed, IsLostBy, IsPrimeAt, IsRead, IsReadAt, IsReported, place_in}
 use Rattle.salvage.specs.declared.error.SalvageError.{SalvageError}
 use Rattle.salvage.specs.declared.saved.SavedFile.{SavedFile}
 use Rattle.salvage.specs.declared.finding.Cost.{Cost}
-use Rattle.salvage.specs.declared.finding.Defect.TheVariants.{Start}
+use Rattle.salvage.specs.declared.finding.Defect.{Defect}
 use Rattle.salvage.specs.declared.finding.Finding.{Finding}
 use Rattle.salvage.specs.declared.finding.Cost.TheVariants as cost
 use Rattle.salvage.proofs.Members.{contains_here, nothing_behind}
@@ -46,6 +47,21 @@ file_place size layout contents file place read is =
     block_place layout p is.p a.runs is.runs (first_extension a.further) is.next a.fits is.spells.fits (omega arith)
     is.spells.ext_fits (same ∙ is.spells.words_are) ∙ is.place_is
 
+-- Words that aren't those of a prime block are those of no prime block of this place.
+pub unspelled : (layout : ℕ) (contents : Contents) (n : ℕ) (place : Place) (words : List ℕ) → contents n ≡ Some words
+    → IsPpn place.ppn → place.name.ext < 2 ^ 18
+    → ((p : SpecPrime) (runs : List SpecRun) (next : ℕ) → SpellsPrime layout words p runs next → ⊥)
+    → IsOtherPlace layout contents place n
+unspelled layout contents n place words here ppn_fits ext_fits none p runs next is same fits few are =
+    none p runs next (record {
+      words_are = some_same (sym here ∙ is);
+      ppn_fits = subst (λ (q : Place). IsPpn q.ppn) (sym same) ppn_fits;
+      ext_fits = subst (λ (q : Place). q.name.ext < 2 ^ 18) (sym same) ext_fits;
+      fits = fits;
+      few = few;
+      are_runs = are;
+    })
+
 -- What is reported of it.
 
 pub none_reported : (size layout : ℕ) (contents : Contents) (n : ℕ) (words : List ℕ) (old : List Finding)
@@ -61,13 +77,13 @@ none_reported size layout contents n words old here none = record {
       is.spells));
 }
 
-pub one_reported : (size layout : ℕ) (contents : Contents) (n bad : ℕ) (words : List ℕ) (prime : PrimeValue)
-    (long : ℕ) (runs : List SpecRun) (next : ℕ) (old new : List Finding) → InSpace size n
-    → IsBadVersion size contents layout n bad → contents n ≡ Some words
+pub one_reported : (size layout : ℕ) (contents : Contents) (n : ℕ) (fault : Defect) (words : List ℕ)
+    (prime : PrimeValue) (long : ℕ) (runs : List SpecRun) (next : ℕ) (old new : List Finding) → InSpace size n
+    → ConcernsUnnamed size layout contents n fault → contents n ≡ Some words
     → SpellsPrime layout words (with_length prime long) runs next
-    → new ≡ old ++ record { fault = Start (BadRetrieval bad); costs = cost.Unnamed prime.ppn prime.file n } ∷ []
+    → new ≡ old ++ record { fault = fault; costs = cost.Unnamed prime.ppn prime.file n } ∷ []
     → IsReported size layout contents n old new
-one_reported size layout contents n bad words prime long runs next old new inside is_bad here spells is = record {
+one_reported size layout contents n fault words prime long runs next old new inside concerns here spells is = record {
   added = finding ∷ [];
   new_is = is;
   stand = (
@@ -82,7 +98,7 @@ one_reported size layout contents n bad words prime long runs next old new insid
         spells = spells;
         place_is = refl;
       };
-      concerns = is_bad;
+      concerns = concerns;
     },
     tt,
   );
@@ -91,11 +107,11 @@ one_reported size layout contents n bad words prime long runs next old new insid
       words (with_length prime long) runs next here spells says in
       subst (λ (costs : Cost). IsLostBy (finding ∷ []) costs)
       (ap (λ (place : Place). cost.Unnamed place.ppn place.name n) same)
-      (record { fault = Start (BadRetrieval bad); among = contains_here finding [] });
+      (record { fault = fault; among = contains_here finding [] });
 }
   where
     finding : Finding
-    finding = record { fault = Start (BadRetrieval bad); costs = cost.Unnamed prime.ppn prime.file n }
+    finding = record { fault = fault; costs = cost.Unnamed prime.ppn prime.file n }
 
 -- Its file was added.
 pub file_here : (size layout : ℕ) (contents : Contents) (n : ℕ) (files new : List SavedFile)
@@ -137,15 +153,17 @@ told_here size layout contents n files findings told is = record {
 }
 
 -- The same along a disk that was only read.
-pub told_along : (size size' layout : ℕ) (contents contents' : Contents) (n bad : ℕ) (files : List SavedFile)
-    (findings told : List Finding) (result : Result (Unit {0}) SalvageError) → size' ≡ size → contents' ≡ contents
-    → (IsBadVersion size' contents' layout n bad → OnOk result (IsReported size' layout contents' n findings told))
-    → IsBadVersion size contents layout n bad
+pub told_along : (size size' layout : ℕ) (contents contents' : Contents) (n : ℕ) (fault : Defect)
+    (files : List SavedFile) (findings told : List Finding) (result : Result (Unit {0}) SalvageError) → size' ≡ size
+    → contents' ≡ contents
+    → (ConcernsUnnamed size' layout contents' n fault → OnOk result (IsReported size' layout contents' n findings told))
+    → ConcernsUnnamed size layout contents n fault
     → OnOk result (IsReadAt size layout contents n files files findings told)
-told_along size size' layout contents contents' n bad files findings told result same same' step is_bad =
+told_along size size' layout contents contents' n fault files findings told result same same' step concerns =
     on_ok result (IsReported size layout contents n findings told)
     (IsReadAt size layout contents n files files findings told)
     (told_here size layout contents n files findings told)
-    (subst (λ (d : Contents). IsBadVersion size d layout n bad → OnOk result (IsReported size layout d n findings told))
-    same' (subst (λ (z : ℕ). IsBadVersion z contents' layout n bad
-    → OnOk result (IsReported z layout contents' n findings told)) same step) is_bad)
+    (subst (λ (d : Contents). ConcernsUnnamed size layout d n fault
+    → OnOk result (IsReported size layout d n findings told))
+    same' (subst (λ (z : ℕ). ConcernsUnnamed z layout contents' n fault
+    → OnOk result (IsReported z layout contents' n findings told)) same step) concerns)

@@ -9,7 +9,7 @@ use Rattle.spec_image.specs.Common.{IsDirectoryNamed, LeadsAlong}
 use Rattle.spec_image.proofs.Common.{file_apart}
 use Rattle.directory.specs.Common.{ChainState, nodes_of, IsChain, IsOn}
 use Rattle.volume.specs.Common.{home_in}
-use Rattle.salvage.specs.Common.{IsNamedIn, IsReadTo, IsTree}
+use Rattle.salvage.specs.Common.{AreApartFrom, IsNamedIn, IsReadTo, IsTree}
 use Rattle.salvage.specs.declared.saved.SavedFile.{SavedFile}
 use Rattle.salvage.specs.declared.finding.Finding.{Finding}
 use Rattle.salvage.proofs.CarriedFacts.{moved, on_ok}
@@ -26,21 +26,21 @@ pub directory_on : {T E : Type 0} (size size' layout : ℕ) (contents contents' 
     → IsChain name_cmp IsFileEntry chain → IsOn file_words contents chain
     → LeadsAlong file_words contents e.1.1 (nodes_of chain.blocks chain.entries) 0
     → head_or_zero chain.blocks ≡ e.1.1 → AllByRecursion (InSpace size) chain.blocks
-    → IsReadTo size layout contents directories 0 [] files findings
+    → AreApartFrom size contents directories e.1.1 → IsReadTo size layout contents directories 0 [] files findings
     → ((ds : List SpecMasterEntry) → AllByRecursion (IsNamedIn size' layout contents' e.0) chain.entries
     → EachOnce name_cmp chain.entries → find nat_cmp e.0 ds ≡ None
     → IsReadTo size' layout contents' ds e.0 [] files findings
     → OnOk result (IsReadTo size' layout contents' ds e.0 chain.entries files' findings'))
     → OnOk result (IsReadTo size layout contents (directories ++ e ∷ []) 0 [] files' findings')
 directory_on size size' layout contents contents' directories e word chain files files' findings findings' result sizes
-    same named new is on walk begins inside before added =
+    same named new is on walk begins inside apart before added =
     let names = files_named size layout contents e.0 word e.1.1 chain named is walk in
     let here = moved (λ n c. (ds : List SpecMasterEntry) → AllByRecursion (IsNamedIn n layout c e.0) chain.entries
     → EachOnce name_cmp chain.entries → find nat_cmp e.0 ds ≡ None → IsReadTo n layout c ds e.0 [] files findings
     → OnOk result (IsReadTo n layout c ds e.0 chain.entries files' findings')) size size' contents contents' sizes same
     added in
     on_ok result
-    (λ r. directory_read size layout contents directories files' findings' e chain.entries r
+    (λ r. directory_read size layout contents directories files' findings' e chain.entries apart r
     (walked_entries file_words file_apart IsFileEntry size contents e.1.1 chain is on begins inside))
     (here directories names is.each_once new
     (directory_begun size layout contents directories files findings e.0 0 before))

@@ -8,9 +8,9 @@ use Rattle.std.specs.List.{AllByRecursion}
 use Rattle.std.specs.Ordering.{eq_by_cmp}
 use Rattle.blockdisk.specs.Common.{Contents}
 use Rattle.spec_image.specs.Common.{SpecMasterEntry, SpecFileEntry, name_cmp, EachOnce, IsDirectoryNamed}
-use Rattle.spec_image.proofs.Common.{some_none, tied, find_first, name_total, name_exact}
+use Rattle.spec_image.proofs.Common.{all_left, some_none, tied, find_first, name_total, name_exact}
 use Rattle.volume.proofs.common.Lookups.{viewed_more, viewed_split, viewed_at}
-use Rattle.salvage.specs.Common.{IsNamedIn, IsReadTo}
+use Rattle.salvage.specs.Common.{AreWalked, IsNamedIn, IsReadTo}
 use Rattle.salvage.specs.declared.saved.SavedFile.{SavedFile}
 use Rattle.salvage.specs.declared.finding.Finding.{Finding}
 use Rattle.salvage.proofs.CarriedFacts.{moved}
@@ -58,28 +58,37 @@ files_go_on view size size' layout contents contents' directories ppn es i e fil
 -- One more directory.
 pub directories_go_on : {E : Type 0} (view : E → SpecMasterEntry) (size size' layout : ℕ)
     (contents contents' : Contents)
-    (es : List E) (i : ℕ) (e : E) (files files' : List SavedFile) (findings findings' : List Finding)
+    (es : List E) (i : ℕ) (e : E) (marks : List Bool) (files files' : List SavedFile)
+    (findings findings' : List Finding)
     → i < length es → e ≡ get_or es i e → size' ≡ size → contents' ≡ contents
     → AllByRecursion (λ (x : SpecMasterEntry). IsDirectoryNamed size contents layout x.0 x.1.0 x.1.1) (map view es)
-    → EachOnce nat_cmp (map view es)
+    → EachOnce nat_cmp (map view es) → AreWalked size contents (map view (take i es)) marks
     → IsReadTo size layout contents (map view (take i es)) 0 [] files findings
     → ((directories : List SpecMasterEntry) (word : ℕ)
+    → AllByRecursion (λ (x : SpecMasterEntry). IsDirectoryNamed size' contents' layout x.0 x.1.0 x.1.1) directories
+    → AreWalked size' contents' directories marks
     → IsDirectoryNamed size' contents' layout (view e).0 word (view e).1.1
     → find nat_cmp (view e).0 directories ≡ None
     → IsReadTo size' layout contents' directories 0 [] files findings
     → IsReadTo size' layout contents' (directories ++ view e ∷ []) 0 [] files' findings')
     → IsReadTo size layout contents (map view (take (i + 1) es)) 0 [] files' findings'
-directories_go_on view size size' layout contents contents' es i e files files' findings findings' below is sizes same
-    named once before added =
+directories_go_on view size size' layout contents contents' es i e marks files files' findings findings' below is sizes
+    same named once walked before added =
+    let front = all_left (λ (x : SpecMasterEntry). IsDirectoryNamed size contents layout x.0 x.1.0 x.1.1)
+    (map view (take i es)) (view e ∷ map view (drop (i + 1) es))
+    (subst (AllByRecursion (λ (x : SpecMasterEntry). IsDirectoryNamed size contents layout x.0 x.1.0 x.1.1))
+    (viewed_split view es i e below is) named) in
     let here = viewed_at view es i e below is
     (λ (x : SpecMasterEntry). IsDirectoryNamed size contents layout x.0 x.1.0 x.1.1) named in
     let new : find nat_cmp (view e).0 (map view (take i es)) ≡ None = new_key nat_cmp_total nat_cmp-IsAntisymmetric
     (map view (take i es)) (view e) (map view (drop (i + 1) es))
     (subst (EachOnce nat_cmp) (viewed_split view es i e below is) once) in
     let on = moved (λ n c. (directories : List SpecMasterEntry) (word : ℕ)
-    → IsDirectoryNamed n c layout (view e).0 word (view e).1.1 → find nat_cmp (view e).0 directories ≡ None
+    → AllByRecursion (λ (x : SpecMasterEntry). IsDirectoryNamed n c layout x.0 x.1.0 x.1.1) directories
+    → AreWalked n c directories marks → IsDirectoryNamed n c layout (view e).0 word (view e).1.1
+    → find nat_cmp (view e).0 directories ≡ None
     → IsReadTo n layout c directories 0 [] files findings
     → IsReadTo n layout c (directories ++ view e ∷ []) 0 [] files' findings') size size' contents contents' sizes same
     added in
     subst (λ (l : List SpecMasterEntry). IsReadTo size layout contents l 0 [] files' findings')
-    (sym (viewed_more view es i e below is)) (on (map view (take i es)) (view e).1.0 here new before)
+    (sym (viewed_more view es i e below is)) (on (map view (take i es)) (view e).1.0 front walked here new before)

@@ -1,25 +1,27 @@
 -- One more file or directory was read, or reported.
 use Rattle.std.proofs.Common.{◌≡◌, ◌⊎◌, inl, inr, ⊎_elim, ℕ, true, false, cond, List, [], ◌∷◌, ◌++◌, Some, None}
 use Rattle.std.proofs.Common.{refl, sym, ap, subst, ◌∙◌, nat_cmp, Ordering, Result, OnOk}
-use Rattle.std.proofs.lemmas.List.Elements.{Contains-push}
+use Rattle.std.proofs.lemmas.List.Elements.{Contains-push, Contains-push_cases}
 use Rattle.std.specs.Cmp.{IsTotalOrder, nat_cmp_total}
 use Rattle.std.specs.FinMap.Entries.{find}
-use Rattle.std.specs.List.{AllByRecursion}
+use Rattle.std.specs.List.{AllByRecursion, Contains}
 use Rattle.std.specs.Ordering.{eq_by_cmp}
 use Rattle.words36.specs.declared.names.FileName.{FileName}
 use Rattle.blockdisk.specs.Common.{Contents}
 use Rattle.spec_image.specs.Common.{Node, items, SpecMasterEntry, SpecFileEntry, file_words, InSpace, Place, name_cmp}
 use Rattle.spec_image.specs.Common.{place_of, LeadsAlong, IsFileNamed}
 use Rattle.spec_image.proofs.Common.{some_none, find_first, found_holds, name_total, name_exact, none_front}
+use Rattle.volume.specs.Common.{IsOtherPlace}
 use Rattle.volume.specs.declared.error.VolumeError.{VolumeError}
 use Rattle.volume.specs.declared.error.VolumeError.TheVariants.{BadRetrieval}
 use Rattle.volume.proofs.common.Lookups.{all_both, all_each, all_push}
-use Rattle.salvage.specs.Common.{IsFaultAt, IsFinding, IsIn, IsNamedIn, IsNoFault, IsReadTo, IsToldDirectory}
+use Rattle.salvage.specs.Common.{AreApartChains, AreApartFrom, IsFaultAt, IsFileWalked, IsFinding, IsIn, IsLostBy}
+use Rattle.salvage.specs.Common.{IsNamedIn, IsNoFault, IsReadTo, IsToldDirectory}
 use Rattle.salvage.specs.Common.{IsToldFile, MayRefuse, IsNamedRead, IsRead, place_in}
 use Rattle.salvage.specs.declared.saved.SavedFile.{SavedFile}
 use Rattle.salvage.specs.declared.finding.Defect.TheVariants.{Start}
 use Rattle.salvage.specs.declared.finding.Finding.{Finding}
-use Rattle.salvage.proofs.CarriedFacts.{on_ok, on_ok_both}
+use Rattle.salvage.proofs.CarriedFacts.{moved, on_ok, on_ok_both}
 use Rattle.salvage.proofs.Refusals.{fault_stands}
 use Rattle.salvage.proofs.SavedFiles.{Grows, same_place, apart_push, one_file_more, one_finding_more, lost_here}
 use Rattle.salvage.proofs.SavedFiles.{unread_here}
@@ -50,6 +52,42 @@ module _ (files : List SavedFile) (findings : List Finding) (files' : List Saved
   directory_carried contents e told nodes last walk name prime found = ⊎_elim
       (λ is. inl (told_carried e.0 (name, prime) is)) (λ lost. inr (more.lost (cost.Directory e.0) lost))
       (told nodes last walk name prime found)
+
+  chains_carried : (size : ℕ) (contents : Contents) (directories : List SpecMasterEntry)
+      → AreApartChains size contents findings directories → AreApartChains size contents findings' directories
+  chains_carried size contents directories apart d e n in_d in_e differ walk other = ⊎_elim
+      (λ lost. inl (more.lost (cost.Directory d.0) lost)) (λ lost. inr (more.lost (cost.Directory e.0) lost))
+      (apart d e n in_d in_e differ walk other)
+
+-- One more chain.
+module _ (size : ℕ) (contents : Contents) (findings : List Finding) (directories : List SpecMasterEntry)
+    (e : SpecMasterEntry) (before : AreApartChains size contents findings directories) where
+  -- what two of the directories have in common, if the new one is settled
+  with_another : ((d : SpecMasterEntry) (n : ℕ) → Contains directories d → IsFileWalked size contents d.1.1 n
+      → IsFileWalked size contents e.1.1 n → IsLostBy findings (cost.Directory e.0))
+      → AreApartChains size contents findings (directories ++ e ∷ [])
+  with_another settled d f n in_d in_f differ walk other = ⊎_elim
+      (λ d_there. ⊎_elim
+      (λ f_there. before d f n d_there f_there differ walk other)
+      (λ (same : e ≡ f). inr (subst (λ (x : SpecMasterEntry). IsLostBy findings (cost.Directory x.0)) same
+      (settled d n d_there walk
+      (subst (λ (x : SpecMasterEntry). IsFileWalked size contents x.1.1 n) (sym same) other))))
+      (Contains-push_cases directories e f in_f))
+      (λ (same : e ≡ d). ⊎_elim
+      (λ f_there. inl (subst (λ (x : SpecMasterEntry). IsLostBy findings (cost.Directory x.0)) same
+      (settled f n f_there other
+      (subst (λ (x : SpecMasterEntry). IsFileWalked size contents x.1.1 n) (sym same) walk))))
+      (λ (own : e ≡ f). absurd (differ (ap (λ (x : SpecMasterEntry). x.0) (sym same ∙ own))))
+      (Contains-push_cases directories e f in_f))
+      (Contains-push_cases directories e d in_d)
+
+  chains_apart : AreApartFrom size contents directories e.1.1
+      → AreApartChains size contents findings (directories ++ e ∷ [])
+  chains_apart apart = with_another (λ d n there walk own. absurd (apart d n there walk own))
+
+  chains_lost : IsLostBy findings (cost.Directory e.0)
+      → AreApartChains size contents findings (directories ++ e ∷ [])
+  chains_lost lost = with_another (λ d n there walk own. lost)
 
 -- A file.
 
@@ -92,6 +130,7 @@ module _ (size layout : ℕ) (contents : Contents) (directories : List SpecMaste
           at_is = at;
           place_is = λ i. place_of (own_ppn i) (own_name i);
         }));
+    chains = r.chains;
   }
     where
       differ : (g : SavedFile) → IsNamedRead size layout contents g → IsIn directories ppn names g → g.at ≡ f.at → ⊥
@@ -121,6 +160,7 @@ module _ (size layout : ℕ) (contents : Contents) (directories : List SpecMaste
             (all_each (IsToldFile files findings ppn) (IsToldFile files (findings ++ finding ∷ []) ppn) names
             (told_carried files findings files (findings ++ finding ∷ []) more ppn) r.told_names)
             (inr (unread_here findings n ppn e.0));
+        chains = chains_carried files findings files (findings ++ finding ∷ []) more size contents directories r.chains;
       }
 
 -- A file, with what pushing it returns.
@@ -166,6 +206,38 @@ file_told_on size layout contents directories ppn names files findings findings'
     (subst (λ (x : VolumeError). IsFaultAt size layout contents (Start x) (cost.File ppn e.0)) met.1
     (fault_stands size layout contents (cost.File ppn e.0) fault refused is)))) unread)) told stands
 
+-- At the prime block is no file of this place.
+pub elsewhere_told_on : {T E : Type 0} (size layout : ℕ) (contents : Contents) (directories : List SpecMasterEntry)
+    (ppn : ℕ) (names : List SpecFileEntry) (files : List SavedFile) (findings findings' : List Finding)
+    (e : SpecFileEntry) (result : Result T E) → IsReadTo size layout contents directories ppn names files findings
+    → IsNamedIn size layout contents ppn e → InSpace size e.1 → IsOtherPlace layout contents (place_of ppn e.0) e.1
+    → OnOk result (findings' ≡ findings ++ record { fault = Start (BadRetrieval e.1); costs = cost.File ppn e.0 } ∷ [])
+    → OnOk result (IsReadTo size layout contents directories ppn (names ++ e ∷ []) files findings')
+elsewhere_told_on size layout contents directories ppn names files findings findings' e result r named inside other
+    told = on_ok result
+    (λ pushed. subst
+    (λ (fs : List Finding). IsReadTo size layout contents directories ppn (names ++ e ∷ []) files fs) (sym pushed)
+    (file_told size layout contents directories ppn names files findings r e e.1
+    (record { prime = e.1; named = named; concerns = (inside, inr (refl, other)) }))) told
+
+-- And the file was read on the disk as it is later.
+pub file_later : {T E : Type 0} (size size' layout : ℕ) (contents contents' : Contents)
+    (directories : List SpecMasterEntry) (ppn : ℕ) (names : List SpecFileEntry) (files files' : List SavedFile)
+    (findings findings' : List Finding) (e : SpecFileEntry) (result : Result T E) → size' ≡ size
+    → contents' ≡ contents → find nat_cmp ppn directories ≡ None → find name_cmp e.0 names ≡ None
+    → IsNamedIn size layout contents ppn e → IsReadTo size layout contents directories ppn names files findings
+    → ((ds : List SpecMasterEntry) (ns : List SpecFileEntry) → IsNamedIn size' layout contents' ppn e
+    → find nat_cmp ppn ds ≡ None → find name_cmp e.0 ns ≡ None
+    → IsReadTo size' layout contents' ds ppn ns files findings
+    → OnOk result (IsReadTo size' layout contents' ds ppn (ns ++ e ∷ []) files' findings'))
+    → OnOk result (IsReadTo size layout contents directories ppn (names ++ e ∷ []) files' findings')
+file_later size size' layout contents contents' directories ppn names files files' findings findings' e result sizes
+    same new_directory new_name named r added =
+    moved (λ n c. (ds : List SpecMasterEntry) (ns : List SpecFileEntry) → IsNamedIn n layout c ppn e
+    → find nat_cmp ppn ds ≡ None → find name_cmp e.0 ns ≡ None → IsReadTo n layout c ds ppn ns files findings
+    → OnOk result (IsReadTo n layout c ds ppn (ns ++ e ∷ []) files' findings')) size size' contents contents' sizes same
+    added directories names named new_directory new_name r
+
 -- A directory.
 
 module _ (size layout : ℕ) (contents : Contents) (directories : List SpecMasterEntry) (files : List SavedFile)
@@ -181,6 +253,7 @@ module _ (size layout : ℕ) (contents : Contents) (directories : List SpecMaste
     stand = r.stand;
     told = r.told;
     told_names = tt;
+    chains = r.chains;
   }
 
   module _ (e : SpecMasterEntry) where
@@ -193,12 +266,13 @@ module _ (size layout : ℕ) (contents : Contents) (directories : List SpecMaste
 
     -- after its last file
     pub directory_read : (names : List SpecFileEntry)
+        → AreApartFrom size contents directories e.1.1
         → IsReadTo size layout contents directories e.0 names files findings
         → ((nodes : List (Node SpecFileEntry)) (last : ℕ) → LeadsAlong file_words contents e.1.1 nodes last
         → (name : FileName) (prime : ℕ) → find name_cmp name (items nodes) ≡ Some prime
         → find name_cmp name names ≡ Some prime)
         → IsReadTo size layout contents (directories ++ e ∷ []) 0 [] files findings
-    directory_read names r all = record {
+    directory_read names apart r all = record {
       read = r.read;
       places = all_each (IsIn directories e.0 names) (IsIn (directories ++ e ∷ []) 0 []) files (in_one_more names)
           r.places;
@@ -209,6 +283,7 @@ module _ (size layout : ℕ) (contents : Contents) (directories : List SpecMaste
           (λ (k : FileName) (n : ℕ). IsToldFile files findings e.0 (k, n)) names name prime r.told_names
           (all nodes last walk name prime found)));
       told_names = tt;
+      chains = chains_apart size contents findings directories e r.chains apart;
     }
 
     -- or its chain can't be read
@@ -232,6 +307,9 @@ module _ (size layout : ℕ) (contents : Contents) (directories : List SpecMaste
               (directory_carried files findings files (findings ++ finding ∷ []) more contents) r.told)
               (λ nodes last walk name prime found. inr (lost_here findings (Start fault) (cost.Directory e.0)));
           told_names = tt;
+          chains = chains_lost size contents (findings ++ finding ∷ []) directories e
+              (chains_carried files findings files (findings ++ finding ∷ []) more size contents directories r.chains)
+              (lost_here findings (Start fault) (cost.Directory e.0));
         }
 
 pub directory_told_on : {T E : Type 0} (size layout : ℕ) (contents : Contents) (directories : List SpecMasterEntry)

@@ -104,7 +104,7 @@ directory_refused size layout contents ppn word first result error is named only
       word = word;
       first = first;
       named = named;
-      concerns = (where_bad met.0 (inr (is ∙ ap Err met.1)), twice met.0 (is ∙ ap Err met.1));
+      concerns = (where_bad met.0 (inr (is ∙ ap Err met.1)), inl (twice met.0 (is ∙ ap Err met.1)));
     })) some))
     (refusal IsChainRefusal result error is only)
 

@@ -6,7 +6,8 @@ use Rattle.std.specs.Cmp.{nat_cmp_total}
 use Rattle.std.specs.FinMap.{nat_cmp-IsAntisymmetric}
 use Rattle.words36.specs.declared.names.FileName.{FileName}
 use Rattle.blockdisk.specs.Common.{Contents}
-use Rattle.spec_image.specs.Common.{DiskMap, FinMap, HasMap, IsFileEntry, IsMasterEntry, IsMasterEntryOf, IsSpelled}
+use Rattle.spec_image.specs.Common.{DiskMap, FinMap, HasMap, IsDirectoryNamed, IsFileEntry, IsMasterEntry}
+use Rattle.spec_image.specs.Common.{IsMasterEntryOf, IsSpelled}
 use Rattle.spec_image.specs.Common.{Node, StoredDirectory, StoredFile, bit_in, file_words, first_of, get, head_or_zero}
 use Rattle.spec_image.specs.Common.{home_of, master_words, numbers, reaches_in_directory, reaches_in_file, table_bit}
 use Rattle.spec_image.specs.Common.{table_blocks, table_start, times}
@@ -16,7 +17,8 @@ use Rattle.spec_image.proofs.Common.{head-numbers, home_same, master_apart, name
 use Rattle.spec_image.proofs.Common.{times_here, times_later, times_other, two-le-sum_entries}
 use Rattle.spec_image.proofs.Excluded.{directory_named}
 use Rattle.volume.specs.Common.{home_in}
-use Rattle.salvage.specs.Common.{IsChainBlock, IsFreeBlock, IsWalked, of_directory, of_master}
+use Rattle.salvage.specs.Common.{IsChainBlock, IsChainShared, IsFileWalked, IsFreeBlock, IsWalked, of_directory}
+use Rattle.salvage.specs.Common.{of_master}
 use Rattle.salvage.specs.Chains.{at_first, onward}
 
 -- The next block of one of a chain is in the chain too.
@@ -69,6 +71,31 @@ table_clear size contents n below free = by (ltb n (4608 * table_blocks size)) r
     by false e = refl
 
 module _ (size : ℕ) (contents : Contents) (m : DiskMap) (s : HasMap size contents m) where
+  -- A block of a directory's chain is in that of the map's directory.
+  directory_there : (layout ppn word first n : ℕ) → IsDirectoryNamed size contents layout ppn word first
+      → IsFileWalked size contents first n
+      → (d : StoredDirectory) × (get m.directories ppn ≡ Some d) × (0 < times n d.chain)
+  directory_there layout ppn word first n named walked =
+      let d = directory_named size contents m s layout ppn word first named in (
+        d.0,
+        d.1,
+        walked_there file_words file_apart IsFileEntry IsFileEntry size contents d.0.chain _
+            (s.mapped.directories ppn d.0 d.1).chain first (sym (ap (λ e. e.1) d.2)) n walked,
+      )
+
+  -- No two of them have a block in common.
+  pub no_shared_chain : (layout ppn word first n : ℕ) → IsDirectoryNamed size contents layout ppn word first
+      → IsChainShared size layout contents ppn first n → ⊥
+  no_shared_chain layout ppn word first n named shared =
+      let d = directory_there layout ppn word first n named shared.walked in
+      let e = directory_there layout shared.other shared.word shared.start n shared.named shared.reached in
+      let in_first : 0 < times n d.0.chain = d.2 in
+      let in_second : 0 < times n e.0.chain = e.2 in
+      let two = two-le-sum_entries nat_cmp_total nat_cmp-IsAntisymmetric (λ (k : ℕ). reaches_in_directory n)
+      m.directories ppn shared.other d.0 e.0 d.1 e.1 shared.differs in
+      let few = once size contents m s.marked n in
+      omega arith
+
   -- A block of a chain is in the master directory's of the map, or in that of one of its directories.
   chain_there : (layout n : ℕ) → IsChainBlock size layout contents n → (0 < times n m.chain)
       ⊎ ((ppn : ℕ) × (d : StoredDirectory) × (get m.directories ppn ≡ Some d) × (0 < times n d.chain))
@@ -77,14 +104,7 @@ module _ (size : ℕ) (contents : Contents) (m : DiskMap) (s : HasMap size conte
       inl (walked_there master_words master_apart (IsMasterEntryOf 2) IsMasterEntry size contents m.chain _
       s.mapped.master first (ap (λ h. h.master) same) n walked)
   chain_there layout n (of_directory ppn word first named walked) =
-      let d = directory_named size contents m s layout ppn word first named in
-      inr (
-        ppn,
-        d.0,
-        d.1,
-        walked_there file_words file_apart IsFileEntry IsFileEntry size contents d.0.chain _
-            (s.mapped.directories ppn d.0 d.1).chain first (sym (ap (λ e. e.1) d.2)) n walked,
-      )
+      let d = directory_there layout ppn word first n named walked in inr (ppn, d.0, d.1, d.2)
 
   -- A file of the map has no block of a chain.
   pub no_chain_block : (layout ppn : ℕ) (d : StoredDirectory) (name : FileName) (f : StoredFile) (n : ℕ)

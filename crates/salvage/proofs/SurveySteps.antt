@@ -7,8 +7,8 @@ use Rattle.blockdisk.specs.Common.{Contents}
 use Rattle.spec_image.specs.Common.{InSpace, Place, place_of}
 use Rattle.spec_image.proofs.Common.{all_append}
 use Rattle.directory.proofs.GatheredEntries.{all_of}
-use Rattle.salvage.specs.Common.{AreAdded, ArePlaced, AreTaken, IsAmong, IsDamaged, IsDirectoryLoss, IsFinding}
-use Rattle.salvage.specs.Common.{IsLostBy, IsScanned, IsSearched, IsSurveyed, IsTold, IsTree, IsUnread}
+use Rattle.salvage.specs.Common.{AreAdded, AreChainsTold, ArePlaced, AreTaken, IsAmong, IsDamaged, IsDirectoryLoss}
+use Rattle.salvage.specs.Common.{IsFinding, IsLostBy, IsScanned, IsSearched, IsSurveyed, IsTold, IsTree, IsUnread}
 use Rattle.salvage.specs.Common.{IsWholeFile, claims}
 use Rattle.salvage.specs.declared.saved.SavedFile.{SavedFile}
 use Rattle.salvage.specs.declared.search.Search.{Search}
@@ -28,13 +28,19 @@ module _ (size layout : ℕ) (contents : Contents) where
     unread_added ppn name is = subst (λ (l : List Finding). IsUnread l ppn name) (sym more.new_is)
         (unread_more old more.added ppn name is)
 
+    pub loss_added : (ppn : ℕ) → IsDirectoryLoss old ppn → IsDirectoryLoss new ppn
+    loss_added ppn loss = ⊎_elim (λ own. inl (lost_added (cost.Directory ppn) own))
+        (λ all. inr (lost_added cost.Directories all)) loss
+
     pub unnamed_added : (files : List SavedFile) (ppn : ℕ) (name : FileName) (prime : ℕ)
         → IsAmong files (place_of ppn name) prime ⊎ (IsUnread old ppn name ⊎ IsDirectoryLoss old ppn)
         → IsAmong files (place_of ppn name) prime ⊎ (IsUnread new ppn name ⊎ IsDirectoryLoss new ppn)
     unnamed_added files ppn name prime is = ⊎_elim (λ there. inl there)
-        (λ lost. inr (⊎_elim (λ bad. inl (unread_added ppn name bad))
-        (λ loss. inr (⊎_elim (λ own. inl (lost_added (cost.Directory ppn) own))
-        (λ all. inr (lost_added cost.Directories all)) loss)) lost)) is
+        (λ lost. inr (⊎_elim (λ bad. inl (unread_added ppn name bad)) (λ loss. inr (loss_added ppn loss)) lost)) is
+
+    pub chains_added : AreChainsTold size layout contents old → AreChainsTold size layout contents new
+    chains_added told ppn word first n named shared = ⊎_elim (λ loss. inl (loss_added ppn loss))
+        (λ loss. inr (loss_added shared.other loss)) (told ppn word first n named shared)
 
     pub told_added : (file : SavedFile) → IsTold old file → IsTold new file
     told_added file is = lost_added (cost.File file.stored.prime.ppn file.stored.prime.file) is
@@ -59,6 +65,7 @@ module _ (size layout : ℕ) (contents : Contents) where
     read_named = is.read_named;
     read_all = λ ppn name prime named. unnamed_added old new more is.read ppn name prime
         (is.read_all ppn name prime named);
+    chains_told = chains_added old new more is.chains_told;
     judged = all_of
         (λ file. Contains files file ⊎ ((Contains doubtful file ⊎ IsDamaged contents file) × IsTold old file))
         (λ file. Contains files file ⊎ ((Contains doubtful file ⊎ IsDamaged contents file) × IsTold new file)) is.read
@@ -71,6 +78,7 @@ module _ (size layout : ℕ) (contents : Contents) where
         (λ file here. (here.0, here.1, told_added old new more file here.2)) is.doubted;
     unnamed_whole = is.unnamed_whole;
     unnamed_apart = is.unnamed_apart;
+    unnamed_alone = is.unnamed_alone;
     unnamed_at = is.unnamed_at;
     stand = stand_added old new more is.stand;
     unnamed_all = λ prime ppn name inside searched free says. ⊎_elim (λ there. inl there)
@@ -112,6 +120,7 @@ module _ (size layout : ℕ) (contents : Contents) where
       read_named = tree.read;
       read_all = λ ppn name prime is. unnamed_added first fifth from_first named ppn name prime
           (tree.named ppn name prime is);
+      chains_told = chains_added first fifth from_first tree.chains_told;
       judged = all_of
           (λ file. Contains files file ⊎ ((Contains doubtful file ⊎ IsDamaged contents file) × IsTold fourth file))
           (λ file. Contains files file ⊎ ((Contains doubtful file ⊎ IsDamaged contents file) × IsTold fifth file)) named
@@ -124,6 +133,8 @@ module _ (size layout : ℕ) (contents : Contents) where
           (λ file here. (here.0, here.1, told_added fourth fifth four file here.2)) placed.doubted;
       unnamed_whole = taken.whole;
       unnamed_apart = taken.apart;
+      unnamed_alone = λ f g n in_f in_g. scanned.alone f g n (element_has (Contains found) unnamed f taken.only in_f)
+          (element_has (Contains found) unnamed g taken.only in_g);
       unnamed_at = all_of (Contains found) IsAt unnamed (λ file there. element_has IsAt found file scanned.at there)
           taken.only;
       stand = stand_added first fifth from_first tree.stand;

@@ -11,7 +11,7 @@ use Rattle.salvage.specs.Common.{IsLostBy, IsNamedRead, IsRead, IsSpoiled, IsTol
 use Rattle.salvage.specs.Common.{blocks_of, claims, loss_of, told_of, uses}
 use Rattle.salvage.specs.declared.saved.SavedFile.{SavedFile}
 use Rattle.salvage.specs.declared.finding.Defect.{Defect}
-use Rattle.salvage.specs.declared.finding.Defect.TheVariants.{Start, FreeBlock}
+use Rattle.salvage.specs.declared.finding.Defect.TheVariants.{Start, FreeBlock, TwoOwners, Missing, Surplus, Tail}
 use Rattle.salvage.specs.declared.finding.Finding.{Finding}
 use Rattle.salvage.proofs.CarriedFacts.{element_has}
 use Rattle.salvage.proofs.Faulty.{IsOne, claims_each, doubt_stands, in_place, spoiled_stands, unnamed_stands}
@@ -27,6 +27,10 @@ pub spoiled_damaged : (contents : Contents) (file : SavedFile) (fault : Defect) 
     → IsDamaged contents file
 spoiled_damaged contents file (Start (BadData n)) is = record { block = n; among = is.0; damaged = is.1 }
 spoiled_damaged contents file (FreeBlock n) is = absurd is
+spoiled_damaged contents file (TwoOwners n) is = absurd is
+spoiled_damaged contents file (Missing n) is = absurd is
+spoiled_damaged contents file (Surplus n) is = absurd is
+spoiled_damaged contents file (Tail n) is = absurd is
 spoiled_damaged contents file (Start volume.NotVolume) is = absurd is
 spoiled_damaged contents file (Start volume.BadHome) is = absurd is
 spoiled_damaged contents file (Start volume.BadLog) is = absurd is

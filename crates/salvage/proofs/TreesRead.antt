@@ -5,7 +5,7 @@ use Rattle.std.specs.Prelude.{◌↔◌}
 use Rattle.std.specs.Cmp.{nat_cmp_total}
 use Rattle.std.specs.FinMap.{nat_cmp-IsAntisymmetric}
 use Rattle.std.specs.FinMap.Entries.{find}
-use Rattle.std.specs.List.{AllByRecursion}
+use Rattle.std.specs.List.{AllByRecursion, Contains}
 use Rattle.words36.specs.declared.names.FileName.{FileName}
 use Rattle.blockdisk.specs.Common.{Contents}
 use Rattle.spec_image.specs.Common.{head_or_zero, SpecMasterEntry, master_words, InSpace, IsMasterEntryOf, IsHome}
@@ -16,7 +16,7 @@ use Rattle.directory.specs.Common.{ChainState, IsChain, IsOn, nodes_of}
 use Rattle.volume.specs.Common.{home_in}
 use Rattle.volume.specs.declared.error.VolumeError.{VolumeError}
 use Rattle.salvage.specs.Common.{IsFaultAt, IsNoFault, IsReadTo, IsToldDirectory, IsToldFile, MayRefuse, IsAmong}
-use Rattle.salvage.specs.Common.{AreChains, AreWalked, IsChainBlock, IsDirectoryLoss, IsMasterWalked}
+use Rattle.salvage.specs.Common.{AreChains, AreChainsTold, AreWalked, IsChainBlock, IsDirectoryLoss, IsMasterWalked}
 use Rattle.salvage.specs.Common.{IsTree, IsUnread, of_directory, of_master}
 use Rattle.salvage.specs.declared.finding.Defect.TheVariants.{Start}
 use Rattle.salvage.specs.declared.saved.SavedFile.{SavedFile}
@@ -37,6 +37,7 @@ nothing_read size layout contents = record {
   stand = tt;
   told = tt;
   told_names = tt;
+  chains = λ d e n in_d in_e differ walk other. absurd (let below = in_d.1 in omega arith);
 }
 
 -- Nothing was read, and this is why.
@@ -48,6 +49,7 @@ none_read size layout contents fault stands = record {
   apart = λ n. omega arith;
   stand = (stands, tt);
   named = λ ppn name prime named. inr (inr (inr (lost_here [] (Start fault) cost.Directories)));
+  chains_told = λ ppn word first n named shared. inl (inr (lost_here [] (Start fault) cost.Directories));
 }
 
 -- The directories of the whole chain of the master directory were read.
@@ -56,18 +58,26 @@ module _ (size layout : ℕ) (contents : Contents) (first : ℕ) (chain : ChainS
     (is : IsChain nat_cmp (IsMasterEntryOf 2) chain) (on : IsOn master_words contents chain)
     (begins : head_or_zero chain.blocks ≡ first) (inside : AllByRecursion (InSpace size) chain.blocks)
     (r : IsReadTo size layout contents chain.entries 0 [] files findings) where
-  named_told : (ppn : ℕ) (name : FileName) (prime : ℕ) → IsFileNamed size contents layout (place_of ppn name) prime
-      → IsAmong files (place_of ppn name) prime ⊎ (IsUnread findings ppn name ⊎ IsDirectoryLoss findings ppn)
-  named_told ppn name prime named =
-      let directory = named.walk.named in
+  entry_there : (ppn word start : ℕ) → IsDirectoryNamed size contents layout ppn word start
+      → find nat_cmp ppn chain.entries ≡ Some (word, start)
+  entry_there ppn word start directory =
       let same = home_same size contents (home_in layout directory.walk.master) (home_in layout first)
       directory.walk.home home in
       let walk : LeadsAlong master_words contents first directory.nodes directory.last = subst
       (λ (n : ℕ). LeadsAlong master_words contents n directory.nodes directory.last) (ap (λ h. h.master) same)
       directory.walk.walk in
-      let entry : find nat_cmp ppn chain.entries ≡ Some (named.walk.word, named.walk.first) =
       walked_entries master_words master_apart (IsMasterEntryOf 2) size contents first chain is on begins inside
-      directory.nodes directory.last walk ppn (named.walk.word, named.walk.first) directory.entry in
+      directory.nodes directory.last walk ppn (word, start) directory.entry
+
+  directory_there : (ppn word start : ℕ) → IsDirectoryNamed size contents layout ppn word start
+      → Contains chain.entries (ppn, (word, start))
+  directory_there ppn word start directory = contains-found nat_cmp_total nat_cmp-IsAntisymmetric chain.entries ppn
+      (word, start) (entry_there ppn word start directory)
+
+  named_told : (ppn : ℕ) (name : FileName) (prime : ℕ) → IsFileNamed size contents layout (place_of ppn name) prime
+      → IsAmong files (place_of ppn name) prime ⊎ (IsUnread findings ppn name ⊎ IsDirectoryLoss findings ppn)
+  named_told ppn name prime named =
+      let entry = entry_there ppn named.walk.word named.walk.first named.walk.named in
       let told : IsToldDirectory contents files findings (ppn, (named.walk.word, named.walk.first)) =
       found_holds nat_cmp_total nat_cmp-IsAntisymmetric
       (λ (p : ℕ) (x : ℕ × ℕ). IsToldDirectory contents files findings (p, x)) chain.entries ppn
@@ -78,8 +88,15 @@ module _ (size layout : ℕ) (contents : Contents) (first : ℕ) (chain : ChainS
       (λ lost. inr (inr (inl lost)))
       (told named.nodes named.last named.walk.walk name prime named.entry)
 
+  shared_told : AreChainsTold size layout contents findings
+  shared_told ppn word start n named shared = ⊎_elim (λ lost. inl (inl lost)) (λ lost. inr (inl lost))
+      (r.chains (ppn, (word, start)) (shared.other, (shared.word, shared.start)) n
+      (directory_there ppn word start named)
+      (directory_there shared.other shared.word shared.start shared.named) (λ same. shared.differs (sym same))
+      shared.walked shared.reached)
+
   pub tree_read : IsTree size layout contents files findings
-  tree_read = record { read = r.read; apart = r.apart; stand = r.stand; named = named_told }
+  tree_read = record { read = r.read; apart = r.apart; stand = r.stand; named = named_told; chains_told = shared_told }
 
 pub none_read_on : {T E : Type 0} (size layout : ℕ) (contents : Contents) (files : List SavedFile)
     (findings findings' : List Finding) (fault : VolumeError) (result : Result T E) → files ≡ [] → findings ≡ []

@@ -1,19 +1,23 @@
 -- Chains that are walked: the blocks that are marked meanwhile, and those that a walk comes to.
 use Rattle.std.proofs.Common.{◌≡◌, ◌⊎◌, inl, inr, ⊎_elim, ◌↔◌, ℕ, zero, suc, ◌+◌, ◌<◌, ◌≤◌, Bool, true, false, List, []}
-use Rattle.std.proofs.Common.{◌∷◌, ◌++◌, length, get_or, slice_set, replicate, map, take, refl, sym, ap, subst, ◌∙◌}
+use Rattle.std.proofs.Common.{◌∷◌, ◌++◌, Some, length, get_or, slice_set, replicate, map, take, refl, sym, ap, subst}
+use Rattle.std.proofs.Common.{◌∙◌}
 use Rattle.std.proofs.Common.{arith, Result, Ok, Err, OnOk}
 use Rattle.std.proofs.lemmas.Bool.{cases_eq, cases_lt}
 use Rattle.std.proofs.lemmas.List.{get_or-set_same, get_or-set_other, get_or-replicate, get_or_past, length-replicate}
-use Rattle.std.proofs.lemmas.List.{take_all}
+use Rattle.std.proofs.lemmas.List.{map-append, take_all}
 use Rattle.std.proofs.lemmas.List.Elements.{Contains-append_left, Contains-push, Contains-push_cases}
 use Rattle.std.proofs.Math.ListN.{length-set}
 use Rattle.std.specs.List.{Contains}
 use Rattle.blockdisk.specs.Common.{Contents}
-use Rattle.spec_image.specs.Common.{InSpace, SpecMasterEntry, IsFileEntry, file_words}
+use Rattle.spec_image.specs.Common.{InSpace, LeadsAlong, Node, SpecMasterEntry, IsFileEntry, file_words, numbers, times}
+use Rattle.spec_image.specs.Directories.{directory_block}
+use Rattle.spec_image.proofs.Common.{times-append, times_here}
 use Rattle.alloctab.specs.Common.{flag_at}
 use Rattle.alloctab.proofs.SpaceLaws.{in_space_some}
+use Rattle.directory.specs.Common.{IsTwiceInChain}
 use Rattle.volume.proofs.common.Lookups.{viewed_more}
-use Rattle.salvage.specs.Common.{AreWalked, IsClosed, IsFileWalked, IsLink, IsWalked}
+use Rattle.salvage.specs.Common.{AreMarkedTo, AreWalked, IsClosed, IsFileWalked, IsLink, IsMetAgain, IsUnmet, IsWalked}
 use Rattle.salvage.specs.Chains.{at_first, onward}
 use Rattle.salvage.proofs.CarriedFacts.{moved}
 
@@ -66,6 +70,68 @@ pub fewer_after : (marks marks' : List Bool) (n : ℕ) → marks' ≡ slice_set 
 fewer_after marks marks' n marked free inside =
     let fewer = fewer_unmarked marks n free inside in let e = ap unmarked marked in omega arith
 
+-- Walks.
+
+-- a walk goes one block further
+leads_more : {E : Type 0} (words : E → List ℕ) (c : Contents) (first : ℕ) (nodes : List (Node E)) (n : ℕ)
+    (entries : List E) (next : ℕ) → LeadsAlong words c first nodes n → 0 < n
+    → c n ≡ Some (directory_block words next entries) → LeadsAlong words c first (nodes ++ (n, entries) ∷ []) next
+leads_more words c first [] n entries next walk some is = (sym walk, omega arith, next, ap c walk ∙ is, refl)
+leads_more words c first (node ∷ nodes) n entries next walk some is =
+    (walk.0, walk.1, walk.2, walk.3, leads_more words c walk.2 nodes n entries next walk.4 some is)
+
+-- the blocks of a walk, and one more
+numbers_more : {E : Type 0} (nodes : List (Node E)) (b : ℕ) (entries : List E) (n : ℕ)
+    → times n (numbers (nodes ++ (b, entries) ∷ [])) ≡ times n (numbers nodes) + times n (b ∷ [])
+numbers_more {E} nodes b entries n = ap (times n) (map-append (λ (node : Node E). node.0) nodes ((b, entries) ∷ []))
+    ∙ times-append n (numbers nodes) (b ∷ [])
+
+-- A walk of one block or more goes to the next block first.
+pub record IsOnward {K V : Type 0} (words : K × V → List ℕ) (IsEntry : K × V → Type 0) (size : ℕ) (contents : Contents)
+    (b n : ℕ) : Type 0 where
+  pub next : ℕ
+  pub link : IsLink words IsEntry contents b next
+  pub inside : InSpace size next
+  pub walk : IsWalked words IsEntry size contents next n
+
+onward_first : {K V : Type 0} (words : K × V → List ℕ) (IsEntry : K × V → Type 0) (size : ℕ) (contents : Contents)
+    (b n : ℕ) → IsWalked words IsEntry size contents b n → (n ≡ b) ⊎ IsOnward words IsEntry size contents b n
+onward_first words IsEntry size contents b n at_first = inl refl
+onward_first words IsEntry size contents b n (onward m k walk link inside) = ⊎_elim
+    (λ (same : m ≡ b). inr (record {
+      next = n;
+      link = subst (λ (j : ℕ). IsLink words IsEntry contents j n) same link;
+      inside = inside;
+      walk = at_first;
+    }))
+    (λ (more : IsOnward words IsEntry size contents b m). inr (record {
+      next = more.next;
+      link = more.link;
+      inside = more.inside;
+      walk = onward m n more.walk link inside;
+    }))
+    (onward_first words IsEntry size contents b m walk)
+
+-- A walk that was at block n comes to it again.
+met_twice : {K V : Type 0} (words : K × V → List ℕ) (contents : Contents) (first n : ℕ) (nodes : List (Node (K × V)))
+    → LeadsAlong words contents first nodes n → 0 < n → 0 < times n (numbers nodes)
+    → IsTwiceInChain words contents [] first n
+met_twice words contents first zero nodes walk some there = absurd (omega arith)
+met_twice words contents first (suc n) nodes walk some there = record {
+  before = nodes;
+  walk = walk;
+  somewhere = some;
+  twice = let both = times-append (suc n) (numbers nodes) (suc n ∷ []) in
+      let here = times_here (suc n) [] in omega arith;
+}
+
+-- These blocks were walked, up to the block `next`; each that is marked was marked before, or is one of these.
+pub record IsAlong {K V : Type 0} (words : K × V → List ℕ) (contents : Contents) (first : ℕ) (old marks : List Bool)
+    (next : ℕ) : Type 0 where
+  pub nodes : List (Node (K × V))
+  pub walk : LeadsAlong words contents first nodes next
+  pub own : (n : ℕ) → flag_at marks n ≡ true → (flag_at old n ≡ true) ⊎ (0 < times n (numbers nodes))
+
 -- What was marked so far of a chain; the block `next` follows, or it is 0.
 pub record IsMarking {K V : Type 0} (words : K × V → List ℕ) (IsEntry : K × V → Type 0) (size : ℕ) (honest : Type 0)
     (contents : Contents) (first : ℕ) (old marks : List Bool) (next : ℕ) : Type 0 where
@@ -78,6 +144,9 @@ pub record IsMarking {K V : Type 0} (words : K × V → List ℕ) (IsEntry : K �
       → (flag_at old n ≡ true) ⊎ IsWalked words IsEntry size contents first n
   pub closed : honest → IsClosed words IsEntry size contents old → (m n : ℕ) → flag_at marks m ≡ true
       → IsLink words IsEntry contents m n → InSpace size n → (flag_at marks n ≡ true) ⊎ (n ≡ next)
+  pub along : honest → 0 < next → IsAlong words contents first old marks next
+  pub passed : honest → (n : ℕ) → IsWalked words IsEntry size contents first n
+      → (flag_at old n ≡ true → ⊥) ⊎ ((0 < next) × IsWalked words IsEntry size contents next n)
 
 module _ {K V : Type 0} (words : K × V → List ℕ) (IsEntry : K × V → Type 0) (size : ℕ) (contents : Contents)
     (first : ℕ) (old : List Bool) where
@@ -91,11 +160,49 @@ module _ {K V : Type 0} (words : K × V → List ℕ) (IsEntry : K × V → Type
     walk = λ h some. at_first;
     only = λ h n is. inl is;
     closed = λ h closed m n is link there. inl (closed m n is link there);
+    along = λ h some. record { nodes = []; walk = refl; own = λ n is. inl is };
+    passed = λ h n walk. inr (in_space_some size first inside, walk);
   }
 
   module _ (honest later : Type 0) (was : later → honest) (marks : List Bool) (b : ℕ)
       (l : IsMarking words IsEntry size honest contents first old marks b) (some : 0 < b)
-      (inside : b < length marks) where
+      (inside : b < length marks) (free : flag_at marks b ≡ false) where
+    along_more : (next : ℕ) → later → IsLink words IsEntry contents b next
+        → IsAlong words contents first old (slice_set marks b true) next
+    along_more next h link =
+        let before = l.along (was h) some in
+        record {
+          nodes = before.nodes ++ (b, link.entries) ∷ [];
+          walk = leads_more words contents first before.nodes b link.entries next before.walk some link.words_are;
+          own = λ n is.
+              let both = numbers_more before.nodes b link.entries n in
+              ⊎_elim
+              (λ earlier. ⊎_elim (λ yes. inl yes) (λ there. inr (omega arith)) (before.own n earlier))
+              (λ (same : n ≡ b).
+              let here : 0 < times n (b ∷ []) = subst (λ (k : ℕ). 0 < times k (b ∷ [])) (sym same) (times_here b []) in
+              inr (omega arith))
+              (marked_then marks b n is);
+        }
+
+    passed_more : (next : ℕ) → later
+        → ((m : ℕ) → IsLink words IsEntry contents b m → InSpace size m → m ≡ next)
+        → (n : ℕ) → IsWalked words IsEntry size contents first n
+        → (flag_at old n ≡ true → ⊥) ⊎ ((0 < next) × IsWalked words IsEntry size contents next n)
+    passed_more next h none n walk = ⊎_elim (λ clear. inl clear)
+        (λ rest. ⊎_elim
+        (λ (same : n ≡ b). inl (λ (is : flag_at old n ≡ true).
+        let set = l.stays b (ap (flag_at old) (sym same) ∙ is) in
+        let differ : true ≡ false = sym set ∙ free in
+        cc))
+        (λ (more : IsOnward words IsEntry size contents b n).
+        let same = none more.next more.link more.inside in
+        inr (
+          subst (λ (k : ℕ). 0 < k) same (in_space_some size more.next more.inside),
+          subst (λ (k : ℕ). IsWalked words IsEntry size contents k n) same more.walk,
+        ))
+        (onward_first words IsEntry size contents b n rest.1))
+        (l.passed (was h) n walk)
+
     -- block b is marked, and the next one follows
     pub marking_more : (next : ℕ) → (0 < next → InSpace size next)
         → (later → 0 < next → IsLink words IsEntry contents b next × InSpace size next)
@@ -118,6 +225,8 @@ module _ {K V : Type 0} (words : K × V → List ℕ) (IsEntry : K × V → Type
           (l.closed (was h) closed m n before there within)))
           (λ same. inr (none h n (subst (λ (k : ℕ). IsLink words IsEntry contents k n) same there) within))
           (marked_then marks b m is);
+      along = λ h more. let p = link h more in along_more next h p.0;
+      passed = λ h n walk. passed_more next h (none h) n walk;
     }
 
     -- with what a call says of the disk as it found it
@@ -150,6 +259,26 @@ module _ {K V : Type 0} (words : K × V → List ℕ) (IsEntry : K × V → Type
         (λ same. ⊎_elim (λ zero. absurd (let some = in_space_some size n inside in omega arith))
         (λ yes. ap (flag_at marks) same ∙ yes) stop) (l.closed h closed m n is link inside)
 
+  -- it ends at a block that is marked
+  pub met_end : (honest : Type 0) (marks : List Bool) (next : ℕ)
+      → IsMarking words IsEntry size honest contents first old marks next → 0 < next → flag_at marks next ≡ true
+      → honest → IsMetAgain words IsEntry size contents old first next
+  met_end honest marks next l some set h =
+      let along = l.along h some in
+      record {
+        inside = l.next_inside some;
+        walked = l.walk h some;
+        again = ⊎_elim (λ yes. inl yes) (λ there. inr (met_twice words contents first next along.nodes along.walk some
+            there)) (along.own next set);
+      }
+
+  -- or at none
+  pub unmet_end : (honest : Type 0) (marks : List Bool) (next : ℕ)
+      → IsMarking words IsEntry size honest contents first old marks next → next ≡ 0 → honest
+      → IsUnmet words IsEntry size contents old first
+  unmet_end honest marks next l none h n walk set = ⊎_elim (λ clear. clear set)
+      (λ more. let some = more.0 in omega arith) (l.passed h n walk)
+
 -- Marks that are closed hold all that a walk comes to.
 pub closed_walk : {K V : Type 0} (words : K × V → List ℕ) (IsEntry : K × V → Type 0) (size : ℕ) (contents : Contents)
     (marks : List Bool) (first n : ℕ) → IsClosed words IsEntry size contents marks → flag_at marks first ≡ true
@@ -175,10 +304,6 @@ fresh_walked words IsEntry size contents old marks k first fresh begins only clo
 )
 
 -- The chains of directories, one by one.
-pub record AreMarkedTo (size : ℕ) (contents : Contents) (entries : List SpecMasterEntry) (marks : List Bool)
-    : Type 0 where
-  pub walked : AreWalked size contents entries marks
-  pub closed : IsClosed file_words IsFileEntry size contents marks
 
 pub marked_none : (size : ℕ) (contents : Contents) (marks : List Bool) (k : ℕ) → marks ≡ replicate k false
     → AreMarkedTo size contents [] marks
@@ -187,7 +312,7 @@ marked_none size contents marks k fresh = record {
   closed = fresh_closed file_words IsFileEntry size contents marks k fresh;
 }
 
-marked_one : (size : ℕ) (contents : Contents) (entries : List SpecMasterEntry) (e : SpecMasterEntry)
+pub marked_one : (size : ℕ) (contents : Contents) (entries : List SpecMasterEntry) (e : SpecMasterEntry)
     (old marks : List Bool) → AreMarkedTo size contents entries old → flag_at marks e.1.1 ≡ true
     → ((n : ℕ) → flag_at old n ≡ true → flag_at marks n ≡ true)
     → ((n : ℕ) → flag_at marks n ≡ true → (flag_at old n ≡ true) ⊎ IsFileWalked size contents e.1.1 n)
@@ -221,17 +346,14 @@ marked_one size contents entries e old marks before begins stays only closes = r
 pub marked_go_on : {E : Type 0} (view : E → SpecMasterEntry) (size size' : ℕ) (contents contents' : Contents)
     (es : List E) (i : ℕ) (e : E) (old marks : List Bool) → i < length es → e ≡ get_or es i e → size' ≡ size
     → contents' ≡ contents → AreMarkedTo size contents (map view (take i es)) old
-    → flag_at marks (view e).1.1 ≡ true → ((n : ℕ) → flag_at old n ≡ true → flag_at marks n ≡ true)
-    → ((n : ℕ) → flag_at marks n ≡ true → (flag_at old n ≡ true) ⊎ IsFileWalked size' contents' (view e).1.1 n)
-    → (IsClosed file_words IsFileEntry size' contents' old → IsClosed file_words IsFileEntry size' contents' marks)
+    → ((directories : List SpecMasterEntry) → AreMarkedTo size' contents' directories old
+    → AreMarkedTo size' contents' (directories ++ view e ∷ []) marks)
     → AreMarkedTo size contents (map view (take (i + 1) es)) marks
-marked_go_on view size size' contents contents' es i e old marks below is sizes same before begins stays only closes =
+marked_go_on view size size' contents contents' es i e old marks below is sizes same before more =
     subst (λ (l : List SpecMasterEntry). AreMarkedTo size contents l marks) (sym (viewed_more view es i e below is))
-    (marked_one size contents (map view (take i es)) (view e) old marks before begins stays
-    (moved (λ k c. (n : ℕ) → flag_at marks n ≡ true → (flag_at old n ≡ true) ⊎ IsFileWalked k c (view e).1.1 n) size
-    size' contents contents' sizes same only)
-    (moved (λ k c. IsClosed file_words IsFileEntry k c old → IsClosed file_words IsFileEntry k c marks) size size'
-    contents contents' sizes same closes))
+    (moved (λ k c. (directories : List SpecMasterEntry) → AreMarkedTo k c directories old
+    → AreMarkedTo k c (directories ++ view e ∷ []) marks) size size' contents contents' sizes same more
+    (map view (take i es)) before)
 
 pub marked_all : {E : Type 0} (view : E → SpecMasterEntry) (size : ℕ) (contents : Contents) (es : List E) (i : ℕ)
     (marks : List Bool) → length es ≤ i → AreMarkedTo size contents (map view (take i es)) marks

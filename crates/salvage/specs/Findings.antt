@@ -11,13 +11,14 @@ use Rattle.volume.specs.Common.{IsBadFileChain, IsDamagedData, IsOtherPlace, hom
 use Rattle.volume.specs.declared.error.VolumeError.{VolumeError}
 use Rattle.volume.specs.declared.error.VolumeError.TheVariants.{NotVolume, BadHome, BadDirectory, BadRetrieval}
 use Rattle.volume.specs.declared.error.VolumeError.TheVariants.{BlockTwice, TableWrong, BadData, Device, NoMemory}
-use Rattle.salvage.specs.Chains.{IsChainBlock}
+use Rattle.salvage.specs.Chains.{IsChainBlock, IsChainShared}
+use Rattle.salvage.specs.Extensions.{HasOwners, IsExtension}
 use Rattle.salvage.specs.FreeBlocks.{IsFreeBlock, IsUntold}
 use Rattle.salvage.specs.Saved.{AreApart, IsNamedRead, IsPrimeAt, IsRead, claims}
 use Rattle.salvage.specs.declared.saved.SavedFile.{SavedFile}
 use Rattle.salvage.specs.declared.finding.Cost.{Cost}
 use Rattle.salvage.specs.declared.finding.Defect.{Defect}
-use Rattle.salvage.specs.declared.finding.Defect.TheVariants.{Start, FreeBlock}
+use Rattle.salvage.specs.declared.finding.Defect.TheVariants.{Start, FreeBlock, TwoOwners}
 use Rattle.salvage.specs.declared.finding.Finding.{Finding}
 use Rattle.salvage.specs.declared.finding.Cost.TheVariants as cost
 
@@ -71,6 +72,8 @@ pub record IsDamagedAt (size layout : ℕ) (contents : Contents) (prime n : ℕ)
 abbrev pub ConcernsUnnamed : ℕ → ℕ → Contents → ℕ → Defect → Type 0
 ConcernsUnnamed size layout contents prime (Start (BadRetrieval n)) = IsBadVersion size contents layout prime n
 ConcernsUnnamed size layout contents prime (Start (BadData n)) = IsDamagedAt size layout contents prime n
+ConcernsUnnamed size layout contents prime (TwoOwners n) = IsExtension size layout contents prime n
+    × HasOwners size layout contents prime n
 ConcernsUnnamed size layout contents prime fault = ⊥
 
 -- A prime block says that its file is of this place, and that file has the fault.
@@ -82,18 +85,19 @@ pub record IsFaultOfUnnamed (size layout : ℕ) (contents : Contents) (place : P
 
 -- Directories.
 
--- The chain of a directory that begins in this block can't be read.
-abbrev pub IsFaultOfChain : ℕ → Contents → ℕ → VolumeError → Type 0
-IsFaultOfChain size contents first (BadDirectory n) = IsBadFileChain size contents first n
-IsFaultOfChain size contents first (BlockTwice n) = InSpace size n × IsTwiceInChain file_words contents [] first n
-IsFaultOfChain size contents first fault = ⊥
+-- The chain of a directory that begins in this block can't be read, or is in part that of another directory.
+abbrev pub IsFaultOfChain : ℕ → ℕ → Contents → ℕ → ℕ → VolumeError → Type 0
+IsFaultOfChain size layout contents ppn first (BadDirectory n) = IsBadFileChain size contents first n
+IsFaultOfChain size layout contents ppn first (BlockTwice n) = InSpace size n
+    × (IsTwiceInChain file_words contents [] first n ⊎ IsChainShared size layout contents ppn first n)
+IsFaultOfChain size layout contents ppn first fault = ⊥
 
--- The master directory names this directory, and its chain can't be read.
+-- The master directory names this directory, and its chain has this fault.
 pub record IsFaultOfDirectory (size layout : ℕ) (contents : Contents) (ppn : ℕ) (fault : VolumeError) : Type 0 where
   pub word : ℕ
   pub first : ℕ
   pub named : IsDirectoryNamed size contents layout ppn word first
-  pub concerns : IsFaultOfChain size contents first fault
+  pub concerns : IsFaultOfChain size layout contents ppn first fault
 
 -- The master directory reaches a block that it reached before.
 pub record IsMasterTwice (size layout : ℕ) (contents : Contents) (n : ℕ) : Type 0 where
@@ -124,7 +128,7 @@ IsFaultOfStart size contents fault = (fault ≡ Device → ⊥) × (fault ≡ No
 -- It is a fault as a start would name it, and has this.
 abbrev pub IsStartFault : (VolumeError → Type 0) → Defect → Type 0
 IsStartFault P (Start fault) = P fault
-IsStartFault P (FreeBlock n) = ⊥
+IsStartFault P fault = ⊥
 
 -- The fault is in these contents, and costs this.
 abbrev pub IsFaultAt : ℕ → ℕ → Contents → Defect → Cost → Type 0

@@ -1,6 +1,7 @@
 pub mod Copies
 pub mod Chains
 pub mod FreeBlocks
+pub mod Extensions
 pub mod Saved
 pub mod BlockCounts
 pub mod Findings

@@ -7,6 +7,7 @@ use Rattle.spec_image.specs.Common.{SpecPrime, SpecRun}
 use Rattle.retrieval.specs.Common.{IsVersionAt, SpellsPrime}
 use Rattle.volume.specs.Common.{blocks_reached}
 use Rattle.salvage.specs.Chains.{IsChainBlock}
+use Rattle.salvage.specs.Extensions.{IsExtension}
 use Rattle.salvage.specs.FreeBlocks.{MayBeUsed}
 use Rattle.salvage.specs.declared.saved.SavedFile.{SavedFile}
 
@@ -58,6 +59,11 @@ claims files n = total (λ file. times n (blocks_of file)) files
 -- No two of them are at the same prime block.
 abbrev pub AreApart : List SavedFile → Type 0
 AreApart files = (n : ℕ) → times n (map (λ file. file.at) files) ≤ 1
+
+-- No two of them have an extension in common.
+abbrev pub AreAlone : ℕ → ℕ → Contents → List SavedFile → Type 0
+AreAlone size layout contents files = (f g : SavedFile) (n : ℕ) → Contains files f → Contains files g
+    → (f.at ≡ g.at → ⊥) → IsExtension size layout contents f.at n → IsExtension size layout contents g.at n → ⊥
 
 -- A file of this place at this prime block is among these.
 pub record IsAmong (files : List SavedFile) (place : Place) (prime : ℕ) : Type 0 where

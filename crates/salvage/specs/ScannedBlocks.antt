@@ -1,13 +1,14 @@
 -- What is at the blocks that were checked so far.
-use Rattle.std.specs.Prelude.{◌≡◌, ◌⊎◌, ◌↔◌, ℕ, ◌<◌, Bool, true, List, ◌++◌, slice_index}
+use Rattle.std.specs.Prelude.{◌≡◌, ◌⊎◌, ◌↔◌, ℕ, ◌<◌, Bool, true, List, Contains, ◌++◌, slice_index}
 use Rattle.std.specs.List.{AllByRecursion}
 use Rattle.words36.specs.declared.names.FileName.{FileName}
 use Rattle.blockdisk.specs.Common.{Contents}
 use Rattle.spec_image.specs.Common.{InSpace, place_of}
 use Rattle.alloctab.specs.Common.{flag_at}
+use Rattle.salvage.specs.Extensions.{IsExtension}
 use Rattle.salvage.specs.Findings.{IsFinding}
 use Rattle.salvage.specs.FreeBlocks.{IsFreeBlock, IsSearched}
-use Rattle.salvage.specs.Saved.{AreApart, IsAmong, IsPrimeAt, IsRead}
+use Rattle.salvage.specs.Saved.{AreAlone, AreApart, IsAmong, IsPrimeAt, IsRead}
 use Rattle.salvage.specs.Surveys.{IsLostBy}
 use Rattle.salvage.specs.declared.saved.SavedFile.{SavedFile}
 use Rattle.salvage.specs.declared.search.Search.{Search}
@@ -36,6 +37,13 @@ pub record IsReported (size layout : ℕ) (contents : Contents) (n : ℕ) (old n
   pub stand : AllByRecursion (IsFinding size layout contents) added
   pub each : (ppn : ℕ) (name : FileName) → IsPrimeAt layout contents n (place_of ppn name)
       → IsLostBy added (cost.Unnamed ppn name n)
+
+-- Each extension of these files is marked, and it is one file's alone.
+pub record AreLoaded (size layout : ℕ) (contents : Contents) (marks : List Bool) (files : List SavedFile)
+    : Type 0 where
+  pub held : (file : SavedFile) (n : ℕ) → Contains files file → IsExtension size layout contents file.at n
+      → flag_at marks n ≡ true
+  pub alone : AreAlone size layout contents files
 
 -- The file whose prime block this is was added after the others, or what is wrong with it after the findings; or block
 -- n is no prime block.

@@ -4,12 +4,14 @@ use Rattle.std.specs.List.{AllByRecursion}
 use Rattle.words36.specs.declared.names.FileName.{FileName}
 use Rattle.blockdisk.specs.Common.{Contents}
 use Rattle.spec_image.specs.Common.{InSpace, File, Files, Place, Directory, get, times, HasBody, prime_of}
-use Rattle.spec_image.specs.Common.{place_of, IsFileNamed}
+use Rattle.spec_image.specs.Common.{place_of, IsDirectoryNamed, IsFileNamed}
 use Rattle.retrieval.specs.Common.{with_length}
 use Rattle.volume.specs.declared.error.VolumeError.TheVariants.{BadRetrieval}
+use Rattle.salvage.specs.Chains.{IsChainShared}
 use Rattle.salvage.specs.FreeBlocks.{IsSearched}
 use Rattle.salvage.specs.Findings.{IsFinding}
-use Rattle.salvage.specs.Saved.{AreApart, IsAmong, IsInPlace, IsNamedRead, IsPrimeAt, IsWholeFile, claims, place_in}
+use Rattle.salvage.specs.Saved.{AreAlone, AreApart, IsAmong, IsInPlace, IsNamedRead, IsPrimeAt, IsWholeFile, claims}
+use Rattle.salvage.specs.Saved.{place_in}
 use Rattle.salvage.specs.declared.saved.SavedFile.{SavedFile}
 use Rattle.salvage.specs.declared.search.Search.{Search}
 use Rattle.salvage.specs.declared.finding.Cost.{Cost}
@@ -31,6 +33,13 @@ pub record IsUnread (findings : List Finding) (ppn : ℕ) (name : FileName) : Ty
 -- The names of its directory are lost, or those of all directories.
 abbrev pub IsDirectoryLoss : List Finding → ℕ → Type 0
 IsDirectoryLoss findings ppn = IsLostBy findings (cost.Directory ppn) ⊎ IsLostBy findings cost.Directories
+
+-- If the chain of a directory has a block of another one's, the names of one of the two are lost.
+abbrev pub AreChainsTold : ℕ → ℕ → Contents → List Finding → Type 0
+AreChainsTold size layout contents findings = (ppn word first n : ℕ)
+    → IsDirectoryNamed size contents layout ppn word first
+    → (shared : IsChainShared size layout contents ppn first n)
+    → IsDirectoryLoss findings ppn ⊎ IsDirectoryLoss findings shared.other
 
 -- One of the findings costs the place of this file.
 abbrev pub IsTold : List Finding → SavedFile → Type 0
@@ -56,6 +65,8 @@ pub record IsSurveyed (size layout : ℕ) (contents : Contents) (search : Search
   pub read_named : AllByRecursion (IsNamedRead size layout contents) read
   pub read_all : (ppn : ℕ) (name : FileName) (prime : ℕ) → IsFileNamed size contents layout (place_of ppn name) prime
       → IsAmong read (place_of ppn name) prime ⊎ (IsUnread findings ppn name ⊎ IsDirectoryLoss findings ppn)
+  -- each chain is that of one directory
+  pub chains_told : AreChainsTold size layout contents findings
   pub judged : AreJudgedAs contents files doubtful findings read
   pub placed : AllByRecursion (IsInPlace size layout contents read) files
   pub once : (n : ℕ) → claims files n ≤ 1
@@ -64,6 +75,7 @@ pub record IsSurveyed (size layout : ℕ) (contents : Contents) (search : Search
   -- whole files that no directory names, at blocks that were to be searched and that are in no file that was read
   pub unnamed_whole : AllByRecursion (IsWholeFile size layout contents) unnamed
   pub unnamed_apart : AreApart unnamed
+  pub unnamed_alone : AreAlone size layout contents unnamed
   pub unnamed_at : AllByRecursion (λ file. InSpace size file.at × IsSearched search size contents file.at
       × (claims read file.at ≡ 0)) unnamed
   -- each fault is there

@@ -1,5 +1,5 @@
 -- How far the directories of a disk were read, and what a reader may be refused with.
-use Rattle.std.specs.Prelude.{◌≡◌, ◌⊎◌, ℕ, List, Some, None}
+use Rattle.std.specs.Prelude.{◌≡◌, ◌⊎◌, ℕ, List, Contains, Some, None}
 use Rattle.std.specs.List.{AllByRecursion}
 use Rattle.std.specs.Ordering.{nat_cmp}
 use Rattle.std.specs.FinMap.Entries.{find}
@@ -9,6 +9,7 @@ use Rattle.spec_image.specs.Common.{Node, items, SpecMasterEntry, SpecFileEntry,
 use Rattle.spec_image.specs.Common.{LeadsAlong}
 use Rattle.spec_image.specs.Common.{IsFileNamed}
 use Rattle.volume.specs.declared.error.VolumeError.{VolumeError}
+use Rattle.salvage.specs.Chains.{IsFileWalked}
 use Rattle.salvage.specs.Findings.{IsFaultAt, IsFinding}
 use Rattle.salvage.specs.Saved.{AreApart, IsAmong, IsNamedRead}
 use Rattle.salvage.specs.Surveys.{IsLostBy, IsUnread}
@@ -54,6 +55,13 @@ IsToldDirectory contents files findings entry = (nodes : List (Node SpecFileEntr
     → (name : FileName) (prime : ℕ) → find name_cmp name (items nodes) ≡ Some prime
     → IsToldFile files findings entry.0 (name, prime) ⊎ IsLostBy findings (cost.Directory entry.0)
 
+-- Of two of these directories whose chains have a block in common, a finding costs one.
+abbrev pub AreApartChains : ℕ → Contents → List Finding → List SpecMasterEntry → Type 0
+AreApartChains size contents findings directories = (d e : SpecMasterEntry) (n : ℕ) → Contains directories d
+    → Contains directories e → (d.0 ≡ e.0 → ⊥) → IsFileWalked size contents d.1.1 n
+    → IsFileWalked size contents e.1.1 n
+    → IsLostBy findings (cost.Directory d.0) ⊎ IsLostBy findings (cost.Directory e.0)
+
 -- These directories were read, and these names of this one.
 pub record IsReadTo (size layout : ℕ) (contents : Contents) (directories : List SpecMasterEntry) (ppn : ℕ)
     (names : List SpecFileEntry) (files : List SavedFile) (findings : List Finding) : Type 0 where
@@ -63,6 +71,7 @@ pub record IsReadTo (size layout : ℕ) (contents : Contents) (directories : Lis
   pub stand : AllByRecursion (IsFinding size layout contents) findings
   pub told : AllByRecursion (IsToldDirectory contents files findings) directories
   pub told_names : AllByRecursion (IsToldFile files findings ppn) names
+  pub chains : AreApartChains size contents findings directories
 
 -- The directory names the file of this entry.
 abbrev pub IsNamedIn : ℕ → ℕ → Contents → ℕ → SpecFileEntry → Type 0

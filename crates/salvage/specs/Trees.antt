@@ -7,8 +7,9 @@ use Rattle.spec_image.specs.Common.{InSpace, place_of, IsFileNamed}
 use Rattle.salvage.specs.Chains.{AreChains}
 use Rattle.salvage.specs.Findings.{IsFinding}
 use Rattle.salvage.specs.FreeBlocks.{IsSearched}
-use Rattle.salvage.specs.Saved.{AreApart, IsAmong, IsInPlace, IsNamedRead, IsPrimeAt, IsRead, IsWholeFile, claims}
-use Rattle.salvage.specs.Surveys.{AreJudgedAs, IsDirectoryLoss, IsLostBy, IsTold, IsUnread}
+use Rattle.salvage.specs.Saved.{AreAlone, AreApart, IsAmong, IsInPlace, IsNamedRead, IsPrimeAt, IsRead, IsWholeFile}
+use Rattle.salvage.specs.Saved.{claims}
+use Rattle.salvage.specs.Surveys.{AreChainsTold, AreJudgedAs, IsDirectoryLoss, IsLostBy, IsTold, IsUnread}
 use Rattle.salvage.specs.declared.saved.SavedFile.{SavedFile}
 use Rattle.salvage.specs.declared.search.Search.{Search}
 use Rattle.salvage.specs.declared.finding.Finding.{Finding}
@@ -22,6 +23,7 @@ pub record IsTree (size layout : ℕ) (contents : Contents) (files : List SavedF
   pub stand : AllByRecursion (IsFinding size layout contents) findings
   pub named : (ppn : ℕ) (name : FileName) (prime : ℕ) → IsFileNamed size contents layout (place_of ppn name) prime
       → IsAmong files (place_of ppn name) prime ⊎ (IsUnread findings ppn name ⊎ IsDirectoryLoss findings ppn)
+  pub chains_told : AreChainsTold size layout contents findings
 
 -- The blocks of chains are marked, if any file was read.
 abbrev pub AreMarked : ℕ → ℕ → Contents → List SavedFile → List Bool → List Bool → Type 0
@@ -35,6 +37,7 @@ pub record IsScanned (size layout : ℕ) (contents : Contents) (search : Search)
   pub apart : AreApart unnamed
   pub at : AllByRecursion (λ file. InSpace size file.at × IsSearched search size contents file.at
       × (claims named file.at ≡ 0)) unnamed
+  pub alone : AreAlone size layout contents unnamed
   pub all : (prime ppn : ℕ) (name : FileName) → InSpace size prime → IsSearched search size contents prime
       → claims named prime ≡ 0 → IsPrimeAt layout contents prime (place_of ppn name)
       → IsAmong unnamed (place_of ppn name) prime ⊎ IsLostBy findings (cost.Unnamed ppn name prime)

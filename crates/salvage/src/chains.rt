@@ -1,18 +1,17 @@
 //! The blocks of the chains of directories: no file has one of them.
-ghost use Rattle.std.specs.Prelude.{◌≡◌, ◌⊎◌, ◌↔◌, ◌<◌, ℕ, false, true, IfOk, IsErrOf, OnOk, length, map, replicate};
-ghost use Rattle.std.specs.List.{AllByRecursion};
+ghost use Rattle.std.specs.Prelude.{◌≡◌, ◌⊎◌, ◌↔◌, ◌<◌, ℕ, false, true, IfOk, IfSome, IfNone, IsErrOf, OnOk, length};
+ghost use Rattle.std.specs.Prelude.{replicate};
 ghost use Rattle.blockdisk.specs.Common.{SameDisk, one_more};
 ghost use Rattle.changeset.specs.Common.{OnlyReads};
 ghost use Rattle.spec_image.specs.Common.{InSpace, IsVolumeSize};
 ghost use Rattle.alloctab.specs.Common.{flag_at};
-ghost use Rattle.volume.specs.Common.{master_view};
-ghost use Rattle.salvage.specs.Common.{AreWalked, IsClosed, IsLink, IsMasterWalked, IsWalked};
+ghost use Rattle.salvage.specs.Common.{IsClosed, IsLink, IsMasterWalked, IsMetAgain, IsUnmet, IsWalked};
 ghost use Rattle.salvage.specs.declared.error.SalvageError.TheVariants.{Device, NotVolume};
 
 use crate::SalvageError;
 use alloctab::Reached;
 use blockdisk::{Disk, Fault};
-use directory::{ChainEntry, FileEntry, MasterEntry, is_directory_block};
+use directory::{ChainEntry, MasterEntry, is_directory_block};
 use spec_image::layout::is_in_space;
 use std::alloc::Global;
 
@@ -74,12 +73,16 @@ fn next_of<E: ChainEntry, D: Disk>(disk: &mut D, n: u32) -> Result<u32, SalvageE
     Ok(0)
 }
 
-/// Marks the blocks of the chain that begins in block `first`, up to one that is marked already.
-fn mark_chain<E: ChainEntry, D: Disk>(
+/// Marks the blocks of the chain that begins in block `first`, up to one that is marked already, which is returned.
+///
+/// # Errors
+///
+/// `Device` if the device failed.
+pub fn mark_chain<E: ChainEntry, D: Disk>(
     disk: &mut D,
     first: u32,
     marks: &mut Reached,
-) -> Result<(), SalvageError>
+) -> Result<Option<u32>, SalvageError>
     requires volume { IsVolumeSize (D.state disk.old).size }
     requires first { InSpace (D.state disk.old).size first }
     requires long { length marks.old ≡ (D.state disk.old).size }
@@ -91,6 +94,11 @@ fn mark_chain<E: ChainEntry, D: Disk>(
     ensures closed { (D.state disk.new).honest
         → IsClosed E.words_of E.IsEntry (D.state disk.old).size (D.state disk.old).contents marks.old
         → OnOk result (IsClosed E.words_of E.IsEntry (D.state disk.old).size (D.state disk.old).contents marks.new) }
+    // The chain comes to no block that was marked; or it comes to the block that is returned, where it stops.
+    ensures met { (D.state disk.new).honest → IfOk result (λ met. IfSome met (IsMetAgain E.words_of E.IsEntry
+        (D.state disk.old).size (D.state disk.old).contents marks.old first)) }
+    ensures unmet { (D.state disk.new).honest → IfOk result (λ met. IfNone met (IsUnmet E.words_of E.IsEntry
+        (D.state disk.old).size (D.state disk.old).contents marks.old first)) }
     ensures long { length marks.new ≡ length marks.old }
     ensures range { IsErrOf result NotVolume → ⊥ }
     ensures reads { (D.state disk.new).honest → OnlyReads (D.state disk.old) (D.state disk.new) }
@@ -99,66 +107,38 @@ fn mark_chain<E: ChainEntry, D: Disk>(
     ensures served { (IsErrOf result Device → ⊥) → (D.state disk.new).failures ≡ (D.state disk.old).failures }
 {
     let mut next = first;
-    while next != 0 && !marks.is_marked(next) {
+    while next != 0 {
+        if marks.is_marked(next) {
+            return Ok(Some(next));
+        }
         marks.mark(next);
         next = next_of::<E, D>(disk, next)?;
     }
-    Ok(())
+    Ok(None)
 }
 
-/// Marks the blocks of the chains of these directories.
-fn mark_directories<D: Disk>(
-    disk: &mut D,
-    entries: &[MasterEntry],
-    marks: &mut Reached,
-) -> Result<(), SalvageError>
-    requires volume { IsVolumeSize (D.state disk.old).size }
-    requires inside { AllByRecursion (λ e. InSpace (D.state disk.old).size e.1.1) (map master_view entries.now) }
-    requires fresh { marks.old ≡ replicate (D.state disk.old).size false }
-    ensures walked { (D.state disk.new).honest → OnOk result (AreWalked (D.state disk.old).size
-        (D.state disk.old).contents (map master_view entries.now) marks.new) }
-    ensures long { length marks.new ≡ length marks.old }
-    ensures range { IsErrOf result NotVolume → ⊥ }
-    ensures reads { (D.state disk.new).honest → OnlyReads (D.state disk.old) (D.state disk.new) }
-    ensures same { SameDisk (D.state disk.old) (D.state disk.new) }
-    ensures failed { IsErrOf result Device → (D.state disk.new).failures ≡ one_more (D.state disk.old).failures }
-    ensures served { (IsErrOf result Device → ⊥) → (D.state disk.new).failures ≡ (D.state disk.old).failures }
-{
-    for entry in entries {
-        mark_chain::<FileEntry, D>(disk, entry.first, marks)?;
-    }
-    Ok(())
-}
-
-/// Marks the blocks of the chain of the master directory, which begins in block `first`, and of those of the
-/// directories that its entries name.
+/// Marks the blocks of the chain of the master directory, which begins in block `first`.
 ///
 /// # Errors
 ///
 /// `Device` if the device failed.
-pub fn mark_chains<D: Disk>(
+pub fn mark_master<D: Disk>(
     disk: &mut D,
     first: u32,
-    entries: &[MasterEntry],
-    chains: &mut Chains,
+    marks: &mut Reached,
 ) -> Result<(), SalvageError>
     requires volume { IsVolumeSize (D.state disk.old).size }
     requires first { InSpace (D.state disk.old).size first }
-    requires inside { AllByRecursion (λ e. InSpace (D.state disk.old).size e.1.1) (map master_view entries.now) }
-    requires fresh { chains.old.master ≡ replicate (D.state disk.old).size false }
-    requires fresh_ones { chains.old.directories ≡ replicate (D.state disk.old).size false }
-    ensures master { (D.state disk.new).honest → OnOk result ((n : ℕ) → (flag_at chains.new.master n ≡ true)
+    requires fresh { marks.old ≡ replicate (D.state disk.old).size false }
+    ensures marked { (D.state disk.new).honest → OnOk result ((n : ℕ) → (flag_at marks.new n ≡ true)
         ↔ IsMasterWalked (D.state disk.old).size (D.state disk.old).contents first n) }
-    ensures directories { (D.state disk.new).honest → OnOk result (AreWalked (D.state disk.old).size
-        (D.state disk.old).contents (map master_view entries.now) chains.new.directories) }
-    ensures long { length chains.new.master ≡ (D.state disk.old).size }
-    ensures long_ones { length chains.new.directories ≡ (D.state disk.old).size }
+    ensures long { length marks.new ≡ (D.state disk.old).size }
     ensures range { IsErrOf result NotVolume → ⊥ }
     ensures reads { (D.state disk.new).honest → OnlyReads (D.state disk.old) (D.state disk.new) }
     ensures same { SameDisk (D.state disk.old) (D.state disk.new) }
     ensures failed { IsErrOf result Device → (D.state disk.new).failures ≡ one_more (D.state disk.old).failures }
     ensures served { (IsErrOf result Device → ⊥) → (D.state disk.new).failures ≡ (D.state disk.old).failures }
 {
-    mark_chain::<MasterEntry, D>(disk, first, &mut chains.master)?;
-    mark_directories(disk, entries, &mut chains.directories)
+    let _met = mark_chain::<MasterEntry, D>(disk, first, marks)?;
+    Ok(())
 }

@@ -12,6 +12,18 @@ pub enum Defect {
     /// A block of a file, which is free by the allocation table.
     #[error("block {0} is free")]
     FreeBlock(u32),
+    /// An extension that continues two files.
+    #[error("block {0} reached twice")]
+    TwoOwners(u32),
+    /// How many blocks of the volume the image doesn't have: it was cut.
+    #[error("blocks missing at the end: {0}")]
+    Missing(u32),
+    /// How many blocks the image has after the end of the volume.
+    #[error("blocks after the end: {0}")]
+    Surplus(u32),
+    /// How many bytes the image has after its last block.
+    #[error("bytes after the last block: {0}")]
+    Tail(u32),
 }
 
 /// What a fault costs.

@@ -1,14 +1,16 @@
 //! The search for the prime blocks of files that no directory names.
-ghost use Rattle.std.specs.Prelude.{◌≡◌, ◌↔◌, ◌+◌, ◌<◌, ℕ, List, IfOk, IsErrOf, IsTrue, OnOk, length};
+ghost use Rattle.std.specs.Prelude.{◌≡◌, ◌↔◌, ◌+◌, ◌<◌, ℕ, true, List, IfOk, IsErrOf, IsTrue, OnOk, length};
 ghost use Rattle.std.specs.List.{AllByRecursion};
 ghost use Rattle.blockdisk.specs.Common.{SameDisk, one_more};
 ghost use Rattle.changeset.specs.Common.{OnlyReads};
-ghost use Rattle.spec_image.specs.Common.{InSpace, IsBadVersion, layout_number, IsVolumeSize};
-ghost use Rattle.salvage.specs.Common.{AreAdded, AreFound, AreFree, FitsDisk, IsCandidate, IsReadAt};
-ghost use Rattle.salvage.specs.Common.{IsReported, IsScanned, IsWanted};
+ghost use Rattle.spec_image.specs.Common.{InSpace, layout_number, IsVolumeSize};
+ghost use Rattle.alloctab.specs.Common.{flag_at};
+ghost use Rattle.salvage.specs.Common.{AreAdded, AreAlone, AreFound, AreFree, AreLoaded, AreOwned, ConcernsUnnamed};
+ghost use Rattle.salvage.specs.Common.{FitsDisk, IsCandidate, IsExtension, IsReadAt, IsReported, IsScanned, IsWanted};
 ghost use Rattle.salvage.specs.declared.error.SalvageError.TheVariants.{Device, NotVolume};
 
 use crate::counts::Counts;
+use crate::extensions::mark_extensions;
 use crate::lists::{push_file, push_finding};
 use crate::{Cost, Defect, Finding, SalvageError, SavedFile, Search};
 use alloctab::Reached;
@@ -39,17 +41,17 @@ fn is_candidate(search: Search, free: &Reached, counts: &Counts, n: u32) -> bool
     counts.of(n) == 0 && is_wanted(search, free, n)
 }
 
-/// Reports that a retrieval block of the version at this prime block is bad, if it is a prime block.
+/// Reports a fault of the version at this prime block, if it is a prime block.
 fn report_prime<D: Disk>(
     disk: &mut D,
     layout: Layout,
     n: u32,
-    bad: u32,
+    fault: Defect,
     findings: &mut Vec<Finding>,
 ) -> Result<(), SalvageError>
     requires inside { InSpace (D.state disk.old).size n }
     ensures reported { (D.state disk.new).honest
-        → IsBadVersion (D.state disk.old).size (D.state disk.old).contents (layout_number layout) n bad
+        → ConcernsUnnamed (D.state disk.old).size (layout_number layout) (D.state disk.old).contents n fault
         → OnOk result (IsReported (D.state disk.old).size (layout_number layout) (D.state disk.old).contents n
         findings.old.items findings.new.items) }
     ensures range { IsErrOf result NotVolume → ⊥ }
@@ -66,7 +68,6 @@ fn report_prime<D: Disk>(
     let Some(head) = parse_prime(&block, layout) else {
         return Ok(());
     };
-    let fault = Defect::Start(VolumeError::BadRetrieval(bad));
     let costs = Cost::Unnamed(head.prime.ppn, head.prime.file, n);
     push_finding(findings, fault, costs)
 }
@@ -99,9 +100,58 @@ fn read_at<D: Disk>(
             let stored = LoadedVersion { prime, version };
             push_file(files, SavedFile { at: n, stored })
         }
-        Err(RetrievalError::BadRetrieval(bad)) => report_prime(disk, layout, n, bad, findings),
+        Err(RetrievalError::BadRetrieval(bad)) => {
+            let fault = Defect::Start(VolumeError::BadRetrieval(bad));
+            report_prime(disk, layout, n, fault, findings)
+        }
         Err(RetrievalError::Device) => Err(SalvageError::Device),
         Err(RetrievalError::NoMemory) => Err(SalvageError::NoMemory),
+    }
+}
+
+/// Marks the extensions of the version whose prime block this is, and reads it. If one of them is marked already, the
+/// version isn't read, and that is reported.
+fn claim_at<D: Disk>(
+    alloc: Global,
+    disk: &mut D,
+    layout: Layout,
+    n: u32,
+    marks: &mut Reached,
+    files: &mut Vec<SavedFile>,
+    findings: &mut Vec<Finding>,
+) -> Result<(), SalvageError>
+    requires volume { IsVolumeSize (D.state disk.old).size }
+    requires inside { InSpace (D.state disk.old).size n }
+    requires marks { length marks.old ≡ (D.state disk.old).size }
+    ensures found { (D.state disk.new).honest
+        → AreOwned (D.state disk.old).size (layout_number layout) (D.state disk.old).contents marks.old n
+        → OnOk result (IsReadAt (D.state disk.old).size (layout_number layout) (D.state disk.old).contents n
+        files.old.items files.new.items findings.old.items findings.new.items) }
+    // A version with an extension that is marked isn't read.
+    ensures once { (D.state disk.new).honest → (m : ℕ) → flag_at marks.old m ≡ true
+        → IsExtension (D.state disk.old).size (layout_number layout) (D.state disk.old).contents n m
+        → OnOk result (files.new.items ≡ files.old.items) }
+    ensures owned { (D.state disk.new).honest
+        → AreOwned (D.state disk.old).size (layout_number layout) (D.state disk.old).contents marks.old n
+        → OnOk result (AreOwned (D.state disk.old).size (layout_number layout) (D.state disk.old).contents
+        marks.new (n + 1)) }
+    ensures loaded { (D.state disk.new).honest
+        → AreLoaded (D.state disk.old).size (layout_number layout) (D.state disk.old).contents marks.old files.old.items
+        → OnOk result (AreLoaded (D.state disk.old).size (layout_number layout) (D.state disk.old).contents marks.new
+        files.new.items) }
+    ensures long { length marks.new ≡ length marks.old }
+    ensures fits { AllByRecursion (FitsDisk (D.state disk.old).size) files.old.items
+        → OnOk result (AllByRecursion (FitsDisk (D.state disk.old).size) files.new.items) }
+    ensures range { IsErrOf result NotVolume → ⊥ }
+    ensures reads { (D.state disk.new).honest → OnlyReads (D.state disk.old) (D.state disk.new) }
+    ensures same { SameDisk (D.state disk.old) (D.state disk.new) }
+    ensures failed { IsErrOf result Device → (D.state disk.new).failures ≡ one_more (D.state disk.old).failures }
+    ensures served { (IsErrOf result Device → ⊥) → (D.state disk.new).failures ≡ (D.state disk.old).failures }
+{
+    let met = mark_extensions(disk, layout, n, marks)?;
+    match met {
+        None => read_at(alloc, disk, layout, n, files, findings),
+        Some(block) => report_prime(disk, layout, n, Defect::TwoOwners(block), findings),
     }
 }
 
@@ -121,6 +171,7 @@ fn look_at<D: Disk>(
     disk: &mut D,
     searched: &Searched<'_>,
     n: u32,
+    marks: &mut Reached,
     files: &mut Vec<SavedFile>,
     findings: &mut Vec<Finding>,
 ) -> Result<(), SalvageError>
@@ -128,12 +179,24 @@ fn look_at<D: Disk>(
     requires inside { InSpace (D.state disk.old).size n }
     requires long { length searched.now.counts.now ≡ (D.state disk.old).size }
     requires free { length searched.now.free.now ≡ (D.state disk.old).size }
+    requires marks { length marks.old ≡ (D.state disk.old).size }
     ensures found { (D.state disk.new).honest → (begun : List Finding)
         → AreFree (D.state disk.old).size (D.state disk.old).contents searched.now.free.now
+        → AreOwned (D.state disk.old).size (layout_number searched.now.layout) (D.state disk.old).contents marks.old n
         → AreFound (D.state disk.old).size (layout_number searched.now.layout) (D.state disk.old).contents
         searched.now.search searched.now.counts.now files.old.items begun findings.old.items n
         → OnOk result (AreFound (D.state disk.old).size (layout_number searched.now.layout) (D.state disk.old).contents
         searched.now.search searched.now.counts.now files.new.items begun findings.new.items (n + 1)) }
+    ensures owned { (D.state disk.new).honest
+        → AreOwned (D.state disk.old).size (layout_number searched.now.layout) (D.state disk.old).contents marks.old n
+        → OnOk result (AreOwned (D.state disk.old).size (layout_number searched.now.layout)
+        (D.state disk.old).contents marks.new (n + 1)) }
+    ensures loaded { (D.state disk.new).honest
+        → AreLoaded (D.state disk.old).size (layout_number searched.now.layout) (D.state disk.old).contents marks.old
+        files.old.items
+        → OnOk result (AreLoaded (D.state disk.old).size (layout_number searched.now.layout)
+        (D.state disk.old).contents marks.new files.new.items) }
+    ensures long { length marks.new ≡ length marks.old }
     ensures fits { AllByRecursion (FitsDisk (D.state disk.old).size) files.old.items
         → OnOk result (AllByRecursion (FitsDisk (D.state disk.old).size) files.new.items) }
     ensures range { IsErrOf result NotVolume → ⊥ }
@@ -145,7 +208,7 @@ fn look_at<D: Disk>(
     if !is_candidate(searched.search, searched.free, searched.counts, n) {
         return Ok(());
     }
-    read_at(alloc, disk, searched.layout, n, files, findings)
+    claim_at(alloc, disk, searched.layout, n, marks, files, findings)
 }
 
 /// Checks each block of the free space that is searched and was never counted, and returns the versions found.
@@ -163,6 +226,8 @@ fn look_through<D: Disk>(
         → IfOk result (λ files. AreFound (D.state disk.old).size (layout_number searched.now.layout)
         (D.state disk.old).contents searched.now.search searched.now.counts.now files.items findings.old.items
         findings.new.items (D.state disk.old).size) }
+    ensures alone { (D.state disk.new).honest → IfOk result (λ files. AreAlone (D.state disk.old).size
+        (layout_number searched.now.layout) (D.state disk.old).contents files.items) }
     ensures fits { IfOk result (λ files. AllByRecursion (FitsDisk (D.state disk.old).size) files.items) }
     ensures range { IsErrOf result NotVolume → ⊥ }
     ensures reads { (D.state disk.new).honest → OnlyReads (D.state disk.old) (D.state disk.new) }
@@ -172,8 +237,9 @@ fn look_through<D: Disk>(
 {
     let size = disk.blocks();
     let mut files = Vec::new(alloc);
+    let mut marks = Reached::new(alloc, size)?;
     for n in space_start(size)..size {
-        look_at(alloc, disk, searched, n, &mut files, findings)?;
+        look_at(alloc, disk, searched, n, &mut marks, &mut files, findings)?;
     }
     Ok(files)
 }

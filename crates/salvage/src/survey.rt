@@ -6,6 +6,7 @@ ghost use Rattle.changeset.specs.Common.{OnlyReads};
 ghost use Rattle.spec_image.specs.Common.{File, Files, SpecHome, IsHome, layout_number, IsVolumeSize, SettledStands};
 ghost use Rattle.salvage.specs.Common.{FitsDisk, AreAdded, AreTheFiles, IsSurveyed};
 ghost use Rattle.salvage.specs.declared.error.SalvageError.TheVariants.{Device, NotVolume};
+ghost use Rattle.salvage.specs.declared.search.Search.TheVariants.{Every};
 ghost use Rattle.volume.specs.declared.error.VolumeError.TheVariants.{Device as VolumeDevice};
 ghost use Rattle.volume.specs.declared.error.VolumeError.TheVariants.{NoMemory as VolumeNoMemory};
 
@@ -141,7 +142,8 @@ fn survey_volume<D: Disk>(
 
 /// Finds the files of a disk that are whole, whatever else is wrong with it. Nothing is written. The contents are taken
 /// as they are: for a disk whose gate may be open, `Copied` has them as a start would find them. Nothing is reported
-/// only of a disk that a start accepts, and then the files in their place are exactly its files.
+/// only of a disk that a start accepts, and then the files in their place are exactly its files, and there are no
+/// others unless free blocks are searched too.
 ///
 /// # Errors
 ///
@@ -160,6 +162,10 @@ pub fn survey_disk<D: Disk>(
         → SettledStands (D.state disk.old).size (D.state disk.old).contents files
         → IfOk result (λ survey. AreTheFiles (D.state disk.old).contents survey.files.items files
         × (survey.doubtful.items ≡ [])) }
+    // Nor is there then a file that no directory names, unless free blocks are searched too.
+    ensures alone { (D.state disk.new).honest → (files : Files File)
+        → SettledStands (D.state disk.old).size (D.state disk.old).contents files → (search ≡ Every → ⊥)
+        → IfOk result (λ survey. survey.unnamed.items ≡ []) }
     // Nothing is reported only of a disk that stands for files.
     ensures silent { (D.state disk.new).honest
         → IfOk result (λ survey. survey.findings.items ≡ [] → (files : Files File)

@@ -1,6 +1,6 @@
 //! The files that directories name.
 ghost use Rattle.std.specs.Prelude.{◌≡◌, ◌++◌, ◌∷◌, ◌⊎◌, ◌↔◌, [], ℕ, List, None, map, IfOk, IfErr, OnOk, IsErrOf};
-ghost use Rattle.std.specs.Prelude.{false, length, replicate};
+ghost use Rattle.std.specs.Prelude.{false, true, length, replicate};
 ghost use Rattle.std.specs.List.{AllByRecursion};
 ghost use Rattle.std.specs.Ordering.{nat_cmp};
 ghost use Rattle.std.specs.FinMap.Entries.{find};
@@ -9,17 +9,20 @@ ghost use Rattle.changeset.specs.Common.{OnlyReads};
 ghost use Rattle.spec_image.specs.Common.{head_or_zero, SpecMasterEntry, SpecFileEntry, InSpace};
 ghost use Rattle.spec_image.specs.Common.{name_cmp, SpecHome, IsHome, layout_number, EachOnce, IsVolumeSize};
 ghost use Rattle.spec_image.specs.Common.{IsDirectoryNamed, LeadsAlong};
+ghost use Rattle.alloctab.specs.Common.{flag_at};
 ghost use Rattle.directory.specs.Common.{IsChain, IsOn, nodes_of, viewed, IsBadChain, IsTwiceInChain};
 ghost use Rattle.volume.specs.Common.{file_view, master_view, home_in};
 ghost use Rattle.volume.specs.declared.error.VolumeError.TheVariants.{BadDirectory, BlockTwice};
 ghost use Rattle.volume.specs.declared.error.VolumeError.TheVariants.{Device as DeviceFault};
-ghost use Rattle.salvage.specs.Common.{AreMarked, IsChainRefusal, IsNamedIn, IsNoFault, IsReadTo, FitsDisk, IsTree};
+ghost use Rattle.salvage.specs.Common.{AreApartFrom, AreMarked, AreMarkedTo, AreWalked, FitsDisk, IsChainRefusal};
+ghost use Rattle.salvage.specs.Common.{IsFileWalked, IsLostBy, IsNamedIn, IsNoFault, IsReadTo, IsTree};
 ghost use Rattle.salvage.specs.declared.error.SalvageError.TheVariants.{Device, NoMemory, NotVolume};
-ghost use Rattle.salvage.specs.declared.finding.Cost.TheVariants.{Directories};
+ghost use Rattle.salvage.specs.declared.finding.Cost.TheVariants.{Directories, Directory};
 ghost use Rattle.salvage.specs.declared.finding.Defect.TheVariants.{Start};
 
-use crate::chains::{Chains, mark_chains};
+use crate::chains::{Chains, mark_chain, mark_master};
 use crate::lists::{push_file, push_finding};
+use crate::place::is_prime_at;
 use crate::{Cost, Defect, Finding, SalvageError, SavedFile};
 use alloctab::Reached;
 use blockdisk::Disk;
@@ -154,6 +157,45 @@ fn add_file<D: Disk>(
     }
 }
 
+/// Reads the file of an entry, and adds it after the others, or what is wrong with it after the findings. Of a prime
+/// block of another place no extension is read.
+fn add_named<D: Disk>(
+    alloc: Global,
+    disk: &mut D,
+    layout: Layout,
+    ppn: Ppn,
+    entry: &FileEntry,
+    files: &mut Vec<SavedFile>,
+    findings: &mut Vec<Finding>,
+) -> Result<(), SalvageError>
+    // What the caller ensures.
+    requires volume { IsVolumeSize (D.state disk.old).size }
+    requires inside { InSpace (D.state disk.old).size entry.now.prime }
+    // What was read.
+    ensures read { (D.state disk.new).honest → (directories : List SpecMasterEntry) (names : List SpecFileEntry)
+        → IsNamedIn (D.state disk.old).size (layout_number layout) (D.state disk.old).contents ppn (file_view entry.now)
+        → find nat_cmp ppn directories ≡ None → find name_cmp entry.now.name names ≡ None
+        → IsReadTo (D.state disk.old).size (layout_number layout) (D.state disk.old).contents directories ppn names
+        files.old.items findings.old.items
+        → OnOk result (IsReadTo (D.state disk.old).size (layout_number layout) (D.state disk.old).contents directories
+        ppn (names ++ file_view entry.now ∷ []) files.new.items findings.new.items) }
+    ensures fits { AllByRecursion (FitsDisk (D.state disk.old).size) files.old.items
+        → OnOk result (AllByRecursion (FitsDisk (D.state disk.old).size) files.new.items) }
+    ensures range { IsErrOf result NotVolume → ⊥ }
+    // The device: what failed, and how often.
+    ensures reads { (D.state disk.new).honest → OnlyReads (D.state disk.old) (D.state disk.new) }
+    ensures same { SameDisk (D.state disk.old) (D.state disk.new) }
+    ensures failed { IsErrOf result Device → (D.state disk.new).failures ≡ one_more (D.state disk.old).failures }
+    ensures served { (IsErrOf result Device → ⊥) → (D.state disk.new).failures ≡ (D.state disk.old).failures }
+{
+    let is_own = is_prime_at(disk, layout, ppn, entry.name, entry.prime)?;
+    if !is_own {
+        let fault = Defect::Start(VolumeError::BadRetrieval(entry.prime));
+        return push_finding(findings, fault, Cost::File(ppn, entry.name));
+    }
+    add_file(alloc, disk, layout, ppn, entry, files, findings)
+}
+
 /// Reads the files of these entries of a directory, in their order.
 fn add_files<D: Disk>(
     alloc: Global,
@@ -186,7 +228,7 @@ fn add_files<D: Disk>(
     ensures served { (IsErrOf result Device → ⊥) → (D.state disk.new).failures ≡ (D.state disk.old).failures }
 {
     for entry in entries {
-        add_file(alloc, disk, layout, ppn, entry, files, findings)?;
+        add_named(alloc, disk, layout, ppn, entry, files, findings)?;
     }
     Ok(())
 }
@@ -208,6 +250,7 @@ fn add_directory<D: Disk>(
         → IsDirectoryNamed (D.state disk.old).size (D.state disk.old).contents (layout_number layout) entry.now.ppn word
         entry.now.first
         → find nat_cmp entry.now.ppn directories ≡ None
+        → AreApartFrom (D.state disk.old).size (D.state disk.old).contents directories entry.now.first
         → IsReadTo (D.state disk.old).size (layout_number layout) (D.state disk.old).contents directories 0 []
         files.old.items findings.old.items
         → OnOk result (IsReadTo (D.state disk.old).size (layout_number layout) (D.state disk.old).contents
@@ -235,18 +278,77 @@ fn add_directory<D: Disk>(
     }
 }
 
-/// Reads the directories of these entries of the master directory, in their order.
+/// Marks the chain of the directory of an entry, and reads it with its files. If the chain comes to a block that is
+/// marked already, nothing is read of it, and that is reported.
+fn claim_directory<D: Disk>(
+    alloc: Global,
+    disk: &mut D,
+    layout: Layout,
+    entry: &MasterEntry,
+    marks: &mut Reached,
+    files: &mut Vec<SavedFile>,
+    findings: &mut Vec<Finding>,
+) -> Result<(), SalvageError>
+    // What the caller ensures.
+    requires volume { IsVolumeSize (D.state disk.old).size }
+    requires inside { InSpace (D.state disk.old).size entry.now.first }
+    requires long { length marks.old ≡ (D.state disk.old).size }
+    // What was read.
+    ensures read { (D.state disk.new).honest → (directories : List SpecMasterEntry) (word : ℕ)
+        → AllByRecursion (λ e. IsDirectoryNamed (D.state disk.old).size (D.state disk.old).contents
+        (layout_number layout) e.0 e.1.0 e.1.1) directories
+        → AreWalked (D.state disk.old).size (D.state disk.old).contents directories marks.old
+        → IsDirectoryNamed (D.state disk.old).size (D.state disk.old).contents (layout_number layout) entry.now.ppn word
+        entry.now.first
+        → find nat_cmp entry.now.ppn directories ≡ None
+        → IsReadTo (D.state disk.old).size (layout_number layout) (D.state disk.old).contents directories 0 []
+        files.old.items findings.old.items
+        → OnOk result (IsReadTo (D.state disk.old).size (layout_number layout) (D.state disk.old).contents
+        (directories ++ master_view entry.now ∷ []) 0 [] files.new.items findings.new.items) }
+    // A chain with a block that is marked isn't read.
+    ensures owned { (D.state disk.new).honest → (n : ℕ) → flag_at marks.old n ≡ true
+        → IsFileWalked (D.state disk.old).size (D.state disk.old).contents entry.now.first n
+        → OnOk result ((files.new.items ≡ files.old.items) × IsLostBy findings.new.items (Directory entry.now.ppn)) }
+    ensures marked { (D.state disk.new).honest → (directories : List SpecMasterEntry)
+        → AreMarkedTo (D.state disk.old).size (D.state disk.old).contents directories marks.old
+        → OnOk result (AreMarkedTo (D.state disk.old).size (D.state disk.old).contents
+        (directories ++ master_view entry.now ∷ []) marks.new) }
+    ensures long { length marks.new ≡ length marks.old }
+    ensures fits { AllByRecursion (FitsDisk (D.state disk.old).size) files.old.items
+        → OnOk result (AllByRecursion (FitsDisk (D.state disk.old).size) files.new.items) }
+    ensures range { IsErrOf result NotVolume → ⊥ }
+    // The device: what failed, and how often.
+    ensures reads { (D.state disk.new).honest → OnlyReads (D.state disk.old) (D.state disk.new) }
+    ensures same { SameDisk (D.state disk.old) (D.state disk.new) }
+    ensures failed { IsErrOf result Device → (D.state disk.new).failures ≡ one_more (D.state disk.old).failures }
+    ensures served { (IsErrOf result Device → ⊥) → (D.state disk.new).failures ≡ (D.state disk.old).failures }
+{
+    let met = mark_chain::<FileEntry, D>(disk, entry.first, marks)?;
+    match met {
+        None => add_directory(alloc, disk, layout, entry, files, findings),
+        Some(n) => push_finding(
+            findings,
+            Defect::Start(VolumeError::BlockTwice(n)),
+            Cost::Directory(entry.ppn),
+        ),
+    }
+}
+
+/// Marks the chains of the directories of these entries of the master directory, and reads the directories, in their
+/// order.
 fn add_directories<D: Disk>(
     alloc: Global,
     disk: &mut D,
     layout: Layout,
     entries: &[MasterEntry],
+    marks: &mut Reached,
     files: &mut Vec<SavedFile>,
     findings: &mut Vec<Finding>,
 ) -> Result<(), SalvageError>
     // What the caller ensures.
     requires volume { IsVolumeSize (D.state disk.old).size }
     requires inside { AllByRecursion (λ e. InSpace (D.state disk.old).size e.1.1) (map master_view entries.now) }
+    requires fresh { marks.old ≡ replicate (D.state disk.old).size false }
     // What was read.
     ensures read { (D.state disk.new).honest
         → AllByRecursion (λ e. IsDirectoryNamed (D.state disk.old).size (D.state disk.old).contents
@@ -256,6 +358,9 @@ fn add_directories<D: Disk>(
         files.old.items findings.old.items
         → OnOk result (IsReadTo (D.state disk.old).size (layout_number layout) (D.state disk.old).contents
         (map master_view entries.now) 0 [] files.new.items findings.new.items) }
+    ensures walked { (D.state disk.new).honest → OnOk result (AreWalked (D.state disk.old).size
+        (D.state disk.old).contents (map master_view entries.now) marks.new) }
+    ensures long { length marks.new ≡ (D.state disk.old).size }
     ensures fits { AllByRecursion (FitsDisk (D.state disk.old).size) files.old.items
         → OnOk result (AllByRecursion (FitsDisk (D.state disk.old).size) files.new.items) }
     ensures range { IsErrOf result NotVolume → ⊥ }
@@ -266,7 +371,7 @@ fn add_directories<D: Disk>(
     ensures served { (IsErrOf result Device → ⊥) → (D.state disk.new).failures ≡ (D.state disk.old).failures }
 {
     for entry in entries {
-        add_directory(alloc, disk, layout, entry, files, findings)?;
+        claim_directory(alloc, disk, layout, entry, marks, files, findings)?;
     }
     Ok(())
 }
@@ -308,8 +413,16 @@ fn add_master<D: Disk>(
 {
     match load_chain::<MasterEntry, D>(alloc, disk, home.master) {
         Ok(chain) => {
-            mark_chains(disk, home.master, chain.entries(), chains)?;
-            add_directories(alloc, disk, home.layout, chain.entries(), files, findings)
+            mark_master(disk, home.master, &mut chains.master)?;
+            add_directories(
+                alloc,
+                disk,
+                home.layout,
+                chain.entries(),
+                &mut chains.directories,
+                files,
+                findings,
+            )
         }
         Err(refusal) => report_refusal(findings, refusal, Cost::Directories),
     }

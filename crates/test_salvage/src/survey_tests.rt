@@ -6,9 +6,9 @@ use salvage::{
 use std::alloc::Global;
 use std::process::Abort;
 use std::test::Fail;
-use test_support::{OPEN, PRIME, TEXT, beginning, filled, foo, owner, v1, word};
+use test_support::{DIRECTORY, MASTER, OPEN, PRIME, TEXT, beginning, filled, foo, owner, v1, word};
 use volume::VolumeError;
-use words36::{Block, Word};
+use words36::{Block, Ppn, Word};
 
 /// The number of writes and syncs that the disks have room to record.
 const CALLS: usize = 4;
@@ -28,7 +28,7 @@ fn damage(rt: &impl Abort, disk: &mut MemDisk, n: u32) {
 
 /// Returns the copy of a disk. What else `Copied::of` promises stays behind this function.
 fn copied_from<D: Disk>(alloc: Global, disk: &mut D) -> Result<Copied, SalvageError> {
-    Copied::of(alloc, disk)
+    Copied::of(alloc, disk, 0)
 }
 
 /// Returns what a survey of a disk finds. What else `survey_disk` promises stays behind this function.
@@ -186,6 +186,51 @@ fn what_damaged_blocks_cost(rt: HostRuntime) -> Result<(), Fail> {
     Ok(())
 }
 
+/// Checks what is found of V1 if block n has these words, and what is reported last.
+fn expect_replaced(
+    rt: &impl Abort,
+    alloc: Global,
+    n: u32,
+    words: &[u64],
+    wanted: Wanted,
+    fault: VolumeError,
+    costs: Cost,
+) -> Result<(), NoMemory> {
+    let mut disk = v1(alloc, CALLS)?;
+    load(rt, &mut disk, n, &beginning(words));
+    let mut copied = copied_from(alloc, &mut disk).expect(rt, "a copy");
+    expect_told(rt, alloc, &mut copied, wanted, Defect::Start(fault), costs);
+    Ok(())
+}
+
+/// Checks that a chain is read for one directory: not for a second one, and not if it comes to a block again.
+#[test]
+fn a_chain_has_one_owner(rt: HostRuntime) -> Result<(), Fail> {
+    let other = Ppn::new(0o10, 0o21).expect(&rt, "a PPN");
+    let [_, _, ppn, protection, first] = MASTER;
+    let master = [0, 2, ppn, protection, first, ppn + 1, protection, first];
+    let mut directory = DIRECTORY;
+    directory[0] = first;
+    for (n, words, wanted, costs) in [
+        (
+            15,
+            master.as_slice(),
+            Wanted::InPlace,
+            Cost::Directory(other),
+        ),
+        (
+            16,
+            directory.as_slice(),
+            Wanted::Unnamed,
+            Cost::Directory(owner()),
+        ),
+    ] {
+        let fault = VolumeError::BlockTwice(16);
+        expect_replaced(&rt, rt.alloc(), n, words, wanted, fault, costs)?;
+    }
+    Ok(())
+}
+
 /// Checks what is found of V1 if the data block of FOO.TXT is this one, and what is reported last.
 fn expect_pointed(
     rt: &impl Abort,
@@ -264,13 +309,68 @@ fn a_prime_block_without_its_file(rt: HostRuntime) -> Result<(), Fail> {
     Ok(())
 }
 
-/// Checks that a block is taken for damaged if the device doesn't read it: block 18 alone, or it and all after it.
+/// Checks that an extension is loaded for one of two prime blocks that no directory names: for the first one.
+#[test]
+fn an_extension_has_one_owner(rt: HostRuntime) -> Result<(), Fail> {
+    let mut disk = v1(rt.alloc(), CALLS)?;
+    let mut prime = [PRIME[16]; 128];
+    prime[..16].copy_from_slice(&PRIME[..16]);
+    (prime[5], prime[6], prime[7]) = (113 * 128, 112, 20);
+    load(&rt, &mut disk, 17, &beginning(&prime));
+    load(&rt, &mut disk, 19, &beginning(&prime));
+    let extension = [0o706242000001, 0, PRIME[16]];
+    load(&rt, &mut disk, 20, &beginning(&extension));
+    load(&rt, &mut disk, 14, &beginning(&[0o777777700000]));
+    damage(&rt, &mut disk, 16);
+    let mut copied = copied_from(rt.alloc(), &mut disk).expect(&rt, "a copy");
+    let costs = Cost::Unnamed(owner(), foo(), 19);
+    let fault = Defect::TwoOwners(20);
+    expect_told(&rt, rt.alloc(), &mut copied, Wanted::Unnamed, fault, costs);
+    Ok(())
+}
+
+/// Returns a disk of this many blocks that begins as another one.
+fn cut(rt: &impl Abort, alloc: Global, disk: &mut MemDisk, blocks: u32) -> Result<MemDisk, Fail> {
+    let mut other = MemDisk::new(alloc, blocks, CALLS)?;
+    for n in 0..blocks.min(disk.blocks()) {
+        assert!(rt; n < disk.blocks());
+        let block = disk.read(n).expect(rt, "a block");
+        load(rt, &mut other, n, &block);
+    }
+    Ok(other)
+}
+
+/// Checks that a volume has the size that its home copies say, whatever the length of the disk, and else that of the
+/// disk.
+#[test]
+fn the_size_of_a_volume(rt: HostRuntime) -> Result<(), Fail> {
+    for (blocks, missing, surplus) in [(50, 14, 0), (64, 0, 0), (70, 0, 6)] {
+        let mut whole = v1(rt.alloc(), CALLS)?;
+        let mut disk = cut(&rt, rt.alloc(), &mut whole, blocks)?;
+        let mut copied = copied_from(rt.alloc(), &mut disk).expect(&rt, "a copy");
+        assert!(rt; copied.faults.missing == missing);
+        assert!(rt; copied.faults.surplus == surplus);
+        expect_text(
+            &rt,
+            first_words(rt.alloc(), &mut copied.disk).expect(&rt, "words"),
+            TEXT,
+        );
+        damage(&rt, &mut disk, 1);
+        damage(&rt, &mut disk, 2);
+        let found = copied_from(rt.alloc(), &mut disk);
+        assert!(rt; found.is_ok() == (blocks >= 64));
+    }
+    Ok(())
+}
+
+/// Checks that a block is taken for damaged if the device does not read it: block 18 alone, or it and all after it. The
+/// two home copies are read before.
 #[test]
 fn a_block_that_is_not_read_is_damaged(rt: HostRuntime) -> Result<(), Fail> {
     for (fail, unread) in [(Failing::One, 1), (Failing::All, 46)] {
-        let mut disk = FuseDisk::new(v1(rt.alloc(), CALLS)?, 18, fail);
+        let mut disk = FuseDisk::new(v1(rt.alloc(), CALLS)?, 20, fail);
         let mut copied = copied_from(rt.alloc(), &mut disk).expect(&rt, "a copy");
-        assert!(rt; copied.unread == unread);
+        assert!(rt; copied.faults.unread == unread);
         let file = Cost::File(owner(), foo());
         let fault = Defect::Start(VolumeError::BadData(18));
         expect_told(&rt, rt.alloc(), &mut copied, Wanted::None, fault, file);

@@ -1,7 +1,7 @@
 use Rattle.std.proofs.Common.{false, true, refl}
 use Rattle.std.proofs.lemmas.Result.{err_from_is_err_and}
 use Rattle.blockdisk.specs.Common.{memory_state}
-use Rattle.collection.specs.Common.{AreApartSaved, AreFilesSaved, AreFindingsDone, Then, doubtful_folder, head_findings}
+use Rattle.collection.specs.Common.{AreApartSaved, AreFilesSaved, AreFindingsDone, Then, doubtful_folder}
 use Rattle.collection.specs.Common.{unnamed_folder}
 use Rattle.collection.proofs.EachLaws.{both_done, second_cut}
 use Rattle.collection.proofs.save_files.save_survey.Goals as goal
@@ -13,7 +13,7 @@ returns-in_err-rest g c =
     let found = c.args.found.now in
     let copied = c.args.copied.now in
     let e = err_from_is_err_and c.from_residual-in_err-rest.result c.from_residual-in_err-rest.ensures.1 in
-    rw (e.1, e.2) (second_cut (AreFindingsDone task (head_findings copied.has_bad_log copied.unread))
+    rw (e.1, e.2) (second_cut (AreFindingsDone task copied.findings.items)
     (Then (AreFilesSaved facts memory_state task task.folder.now false found.files.items)
     (Then (AreApartSaved facts memory_state task (doubtful_folder task.folder.now) false found.doubtful.items)
     (Then (AreApartSaved facts memory_state task (unnamed_folder task.folder.now) true found.unnamed.items)
@@ -28,7 +28,7 @@ returns g c =
     let task = c.args.task.now in
     let found = c.args.found.now in
     let copied = c.args.copied.now in
-    both_done (AreFindingsDone task (head_findings copied.has_bad_log copied.unread))
+    both_done (AreFindingsDone task copied.findings.items)
     (Then (AreFilesSaved facts memory_state task task.folder.now false found.files.items)
     (Then (AreApartSaved facts memory_state task (doubtful_folder task.folder.now) false found.doubtful.items)
     (Then (AreApartSaved facts memory_state task (unnamed_folder task.folder.now) true found.unnamed.items)

@@ -8,9 +8,9 @@ returns-in-Ok-clause-ran g c =
     inl (
       c.in-Ok.found.files.items,
       c.in-Ok.found.doubtful.items,
+      c.in-Ok.found.unnamed.items,
       record {
         layout = layout_number c.in-Ok.found.layout;
-        unnamed = c.in-Ok.found.unnamed.items;
         findings = c.in-Ok.found.findings.items;
         middle = c.survey_disk.new.disk;
         result = c.save_survey-saved.result;
@@ -19,8 +19,10 @@ returns-in-Ok-clause-ran g c =
         surveyed = p.surveyed tt;
         silent = p.silent tt;
         read = p.reads tt;
-        saved = c.save_survey-saved.ensures;
+        saved = rw c.requires.findings at c.save_survey-saved.ensures;
         ends = c.ending-status.ensures.ends;
       },
-      λ stored stands. p.found tt stored stands,
+      λ stored stands.
+          let found = p.found tt stored stands in
+          record { in_place = found.0; sure = found.1; alone = λ used. p.alone tt stored stands used },
     )

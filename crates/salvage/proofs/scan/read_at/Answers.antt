@@ -4,7 +4,9 @@ use Rattle.spec_image.specs.Common.{layout_number}
 use Rattle.changeset.proofs.LogRead.{only_reads_on}
 use Rattle.volume.proofs.common.MarkedBlocks.{on_ok}
 use Rattle.volume.proofs.VolumeStart.Opens.{reads_of}
+use Rattle.volume.specs.declared.error.VolumeError.TheVariants.{BadRetrieval}
 use Rattle.salvage.specs.Common.{IsReadAt}
+use Rattle.salvage.specs.declared.finding.Defect.TheVariants.{Start}
 use Rattle.salvage.specs.declared.saved.SavedFile.{SavedFile}
 use Rattle.salvage.proofs.PrimesRead.{file_here, told_along}
 use Rattle.salvage.proofs.scan.read_at.Goals as goal
@@ -35,7 +37,8 @@ returns-in-Err-BadRetrieval-clause-found g c h =
     let t = g.D.Disk.state c.read_version.new.disk in
     let before = c.report_prime.ensures.same.was_honest h in
     let bad = c.in-Err-BadRetrieval.bad in
-    told_along s.size t.size (layout_number c.args.layout) s.contents t.contents c.args.n bad c.args.files.now.items
+    told_along s.size t.size (layout_number c.args.layout) s.contents t.contents c.args.n (Start (BadRetrieval bad))
+    c.args.files.now.items
     c.args.findings.now.items c.report_prime.new.findings.items c.report_prime.result c.read_version.ensures.same.size
     (same_contents s.contents t.contents (c.read_version.ensures.keeps before).contents)
     (c.report_prime.ensures.reported h) (c.read_version.ensures.bad before bad (cc))

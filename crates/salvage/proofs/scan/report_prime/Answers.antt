@@ -1,11 +1,9 @@
 use Rattle.std.proofs.Common.{◌≡◌, ◌++◌, ◌∷◌, [], drop, take}
 use Rattle.spec_image.specs.Common.{layout_number}
 use Rattle.retrieval.specs.Common.{runs_of}
-use Rattle.volume.specs.declared.error.VolumeError.TheVariants.{BadRetrieval}
 use Rattle.volume.proofs.common.MarkedBlocks.{on_ok}
 use Rattle.volume.proofs.VolumeStart.Opens.{reads_of}
 use Rattle.salvage.specs.Common.{IsReported}
-use Rattle.salvage.specs.declared.finding.Defect.TheVariants.{Start}
 use Rattle.salvage.specs.declared.finding.Finding.{Finding}
 use Rattle.salvage.specs.declared.finding.Cost.TheVariants as cost
 use Rattle.salvage.proofs.PrimesRead.{none_reported, one_reported}
@@ -25,11 +23,11 @@ returns-clause-reported g c h bad =
     let old = c.args.findings.now.items in
     let new = c.push_finding.new.findings.items in
     let told : Finding = record {
-      fault = Start (BadRetrieval c.args.bad);
+      fault = c.args.fault;
       costs = cost.Unnamed head.prime.ppn head.prime.file c.args.n;
     } in
     on_ok c.push_finding.result (new ≡ old ++ told ∷ []) (IsReported s.size layout s.contents c.args.n old new)
-    (λ is. one_reported s.size layout s.contents c.args.n c.args.bad c.in-Ok.block head.prime head.length
+    (λ is. one_reported s.size layout s.contents c.args.n c.args.fault c.in-Ok.block head.prime head.length
     (runs_of (take head.count (drop 16 c.in-Ok.block))) head.next old new c.requires.inside bad
     (c.in-Ok.ensures.words h) c.in-Some.ensures.some is) c.push_finding.ensures.told
 

@@ -1,10 +1,10 @@
-use Rattle.std.proofs.Common.{◌≡◌, [], map, take, nat_cmp}
+use Rattle.std.proofs.Common.{◌≡◌, [], length, map, take, nat_cmp}
 use Rattle.std.specs.List.{AllByRecursion}
 use Rattle.blockdisk.specs.Common.{SameDisk}
 use Rattle.changeset.specs.Common.{OnlyReads}
 use Rattle.spec_image.specs.Common.{SpecMasterEntry, layout_number, EachOnce, IsDirectoryNamed}
 use Rattle.volume.specs.Common.{master_view}
-use Rattle.salvage.specs.Common.{IsReadTo, FitsDisk}
+use Rattle.salvage.specs.Common.{AreMarkedTo, IsReadTo, FitsDisk}
 use Rattle.salvage.proofs.tree.add_directories.Given as goal
 
 abbrev pub invariant-loop-entry : goal.invariant-loop-entry
@@ -14,6 +14,9 @@ invariant-loop-entry g l = record {
   reads : (g.D.Disk.state l.disk).honest → OnlyReads (g.D.Disk.state l.fn.disk) (g.D.Disk.state l.disk);
   fits : AllByRecursion (FitsDisk (g.D.Disk.state l.fn.disk).size) l.fn.files.items
       → AllByRecursion (FitsDisk (g.D.Disk.state l.fn.disk).size) l.files.items;
+  long : length l.marks ≡ length l.fn.marks;
+  marked : (g.D.Disk.state l.disk).honest → AreMarkedTo (g.D.Disk.state l.fn.disk).size
+      (g.D.Disk.state l.fn.disk).contents (map master_view (take l.entry-index l.entries)) l.marks;
   read : (g.D.Disk.state l.disk).honest
       → AllByRecursion (λ (e : SpecMasterEntry). IsDirectoryNamed (g.D.Disk.state l.fn.disk).size
       (g.D.Disk.state l.fn.disk).contents (layout_number l.layout) e.0 e.1.0 e.1.1) (map master_view l.entries)

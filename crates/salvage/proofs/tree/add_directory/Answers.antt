@@ -12,7 +12,7 @@ use Rattle.salvage.proofs.Refusals.{directory_refused}
 use Rattle.salvage.proofs.tree.add_directory.Goals as goal
 
 pub returns-in-Ok-clause-read : goal.returns-in-Ok-clause-read
-returns-in-Ok-clause-read g c h directories word named new r =
+returns-in-Ok-clause-read g c h directories word named new apart r =
     let s = g.D.Disk.state c.args.disk.now in
     let now = g.D.Disk.state c.load_chain.new.disk in
     let was = c.add_files.ensures.same.was_honest h in
@@ -25,7 +25,7 @@ returns-in-Ok-clause-read g c h directories word named new r =
     c.load_chain.ensures.same.size
     (same_contents s.contents now.contents (c.load_chain.ensures.reads was).still.contents) named new
     c.in-Ok.ensures.chain (c.in-Ok.ensures.on was) (c.in-Ok.ensures.walk was) c.in-Ok.ensures.begins
-    c.in-Ok.ensures.inside r
+    c.in-Ok.ensures.inside apart r
     (subst (λ (es : List SpecFileEntry). (ds : List SpecMasterEntry)
     → AllByRecursion (IsNamedIn now.size layout now.contents e.0) es → EachOnce name_cmp es
     → find nat_cmp e.0 ds ≡ None → IsReadTo now.size layout now.contents ds e.0 [] files findings
@@ -34,7 +34,7 @@ returns-in-Ok-clause-read g c h directories word named new r =
     (λ ds named_here once new_here so_far. c.add_files.ensures.read h ds named_here once new_here so_far))
 
 pub returns-in-Err-clause-read : goal.returns-in-Err-clause-read
-returns-in-Err-clause-read g c h directories word named new r =
+returns-in-Err-clause-read g c h directories word named new apart r =
     let s = g.D.Disk.state c.args.disk.now in
     let e = c.args.entry.now in
     let layout = layout_number c.args.layout in

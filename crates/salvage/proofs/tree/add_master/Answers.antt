@@ -8,26 +8,26 @@ use Rattle.directory.specs.Common.{viewed}
 use Rattle.spec_image.specs.Common.{SpecMasterEntry, layout_number, EachOnce, IsDirectoryNamed}
 use Rattle.volume.specs.Common.{master_view}
 use Rattle.salvage.specs.Common.{AreWalked, IsMasterWalked, IsReadTo}
-use Rattle.salvage.proofs.CarriedFacts.{always, moved}
+use Rattle.salvage.proofs.CarriedFacts.{moved, on_ok}
 use Rattle.salvage.proofs.ReadChains.{master_on}
 use Rattle.salvage.proofs.Refusals.{master_refused}
 use Rattle.salvage.proofs.TreesRead.{none_read_on, tree_marked}
 use Rattle.salvage.proofs.tree.add_master.Goals as goal
 
-pub returns-in_ok-mark_chains-in-Ok-clause-tree : goal.returns-in_ok-mark_chains-in-Ok-clause-tree
-returns-in_ok-mark_chains-in-Ok-clause-tree g c h home =
+pub returns-in_ok-mark_master-in-Ok-clause-tree : goal.returns-in_ok-mark_master-in-Ok-clause-tree
+returns-in_ok-mark_master-in-Ok-clause-tree g c h home =
     let s = g.D.Disk.state c.args.disk.now in
     let first = g.D.Disk.state c.load_chain.new.disk in
-    let now = g.D.Disk.state c.mark_chains.new.disk in
+    let now = g.D.Disk.state c.mark_master.new.disk in
     let marked = c.add_directories.ensures.same.was_honest h in
-    let was = c.mark_chains.ensures.same.was_honest marked in
+    let was = c.mark_master.ensures.same.was_honest marked in
     let layout = layout_number c.args.home.layout in
     let files = c.args.files.now.items in
     let findings = c.args.findings.now.items in
-    let reads = only_reads_on s first now (c.load_chain.ensures.reads was) (c.mark_chains.ensures.reads marked) in
+    let reads = only_reads_on s first now (c.load_chain.ensures.reads was) (c.mark_master.ensures.reads marked) in
     master_on s.size now.size layout s.contents now.contents c.args.home.master (viewed master_view c.in-Ok.chain) files
     c.add_directories.new.files.items findings c.add_directories.new.findings.items c.add_directories.result
-    (c.mark_chains.ensures.same.size ∙ c.load_chain.ensures.same.size)
+    (c.mark_master.ensures.same.size ∙ c.load_chain.ensures.same.size)
     (same_contents s.contents now.contents reads.still.contents) c.requires.no_files
     c.requires.no_findings c.requires.volume home c.in-Ok.ensures.chain (c.in-Ok.ensures.on was)
     (c.in-Ok.ensures.walk was) c.in-Ok.ensures.begins c.in-Ok.ensures.inside
@@ -35,41 +35,46 @@ returns-in_ok-mark_chains-in-Ok-clause-tree g c h home =
     AllByRecursion (λ (x : SpecMasterEntry). IsDirectoryNamed now.size now.contents layout x.0 x.1.0 x.1.1) es
     → EachOnce nat_cmp es → IsReadTo now.size layout now.contents [] 0 [] files findings
     → OnOk c.add_directories.result (IsReadTo now.size layout now.contents es 0 [] c.add_directories.new.files.items
-    c.add_directories.new.findings.items)) (ap (map master_view) c.entries-in-Ok.ensures.value)
+    c.add_directories.new.findings.items)) (ap (map master_view) c.entries.ensures.value)
     (λ named once so_far. c.add_directories.ensures.read h named once so_far))
 
-pub returns-in_ok-mark_chains-in-Ok-clause-marked : goal.returns-in_ok-mark_chains-in-Ok-clause-marked
-returns-in_ok-mark_chains-in-Ok-clause-marked g c h home =
+pub returns-in_ok-mark_master-in-Ok-clause-marked : goal.returns-in_ok-mark_master-in-Ok-clause-marked
+returns-in_ok-mark_master-in-Ok-clause-marked g c h home =
     let s = g.D.Disk.state c.args.disk.now in
     let now = g.D.Disk.state c.load_chain.new.disk in
     let marked = c.add_directories.ensures.same.was_honest h in
-    let was = c.mark_chains.ensures.same.was_honest marked in
+    let was = c.mark_master.ensures.same.was_honest marked in
     let sizes = c.load_chain.ensures.same.size in
     let same = same_contents s.contents now.contents (c.load_chain.ensures.reads was).still.contents in
-    let ensures = c.in_ok-mark_chains-in-Ok.ensures in
+    let ensures = c.in_ok-mark_master-in-Ok.ensures in
     let first = c.args.home.master in
-    let chains = c.mark_chains.new.chains in
     let entries = map master_view c.in-Ok.chain.entries in
-    always c.add_directories.result (inr (tree_marked s.size (layout_number c.args.home.layout) s.contents first
-    (viewed master_view c.in-Ok.chain) chains.master chains.directories c.requires.volume home c.in-Ok.ensures.chain
+    let master = c.mark_master.new.marks in
+    let directories = c.add_directories.new.marks in
+    let later = g.D.Disk.state c.mark_master.new.disk in
+    let reads = only_reads_on s now later (c.load_chain.ensures.reads was) (c.mark_master.ensures.reads marked) in
+    on_ok c.add_directories.result
+    (λ walked. inr (tree_marked s.size (layout_number c.args.home.layout) s.contents first
+    (viewed master_view c.in-Ok.chain) master directories c.requires.volume home c.in-Ok.ensures.chain
     (c.in-Ok.ensures.on was) (c.in-Ok.ensures.walk was) c.in-Ok.ensures.begins c.in-Ok.ensures.inside
-    (moved (λ (k : ℕ) (d : Contents). (n : ℕ) → (flag_at chains.master n ≡ true) ↔ IsMasterWalked k d first n) s.size
-    now.size s.contents now.contents sizes same (ensures.master marked))
-    (moved (λ (k : ℕ) (d : Contents). AreWalked k d entries chains.directories) s.size now.size s.contents now.contents
-    sizes same
-    (subst (λ (es : List SpecMasterEntry). AreWalked now.size now.contents es chains.directories)
-    (ap (map master_view) c.entries.ensures.value) (ensures.directories marked)))))
+    (moved (λ (k : ℕ) (d : Contents). (n : ℕ) → (flag_at master n ≡ true) ↔ IsMasterWalked k d first n) s.size
+    now.size s.contents now.contents sizes same (ensures.marked marked))
+    (moved (λ (k : ℕ) (d : Contents). AreWalked k d entries directories) s.size later.size s.contents later.contents
+    (c.mark_master.ensures.same.size ∙ sizes) (same_contents s.contents later.contents reads.still.contents)
+    (subst (λ (es : List SpecMasterEntry). AreWalked later.size later.contents es directories)
+    (ap (map master_view) c.entries.ensures.value) walked))))
+    (c.add_directories.ensures.walked h)
 
-pub returns-in_ok-mark_chains-in-Ok-clause-reads : goal.returns-in_ok-mark_chains-in-Ok-clause-reads
-returns-in_ok-mark_chains-in-Ok-clause-reads g c h =
+pub returns-in_ok-mark_master-in-Ok-clause-reads : goal.returns-in_ok-mark_master-in-Ok-clause-reads
+returns-in_ok-mark_master-in-Ok-clause-reads g c h =
     let s = g.D.Disk.state c.args.disk.now in
     let first = g.D.Disk.state c.load_chain.new.disk in
-    let now = g.D.Disk.state c.mark_chains.new.disk in
+    let now = g.D.Disk.state c.mark_master.new.disk in
     let last = g.D.Disk.state c.add_directories.new.disk in
     let marked = c.add_directories.ensures.same.was_honest h in
-    let was = c.mark_chains.ensures.same.was_honest marked in
+    let was = c.mark_master.ensures.same.was_honest marked in
     only_reads_on s now last
-    (only_reads_on s first now (c.load_chain.ensures.reads was) (c.mark_chains.ensures.reads marked))
+    (only_reads_on s first now (c.load_chain.ensures.reads was) (c.mark_master.ensures.reads marked))
     (c.add_directories.ensures.reads h)
 
 pub returns-in-Err-clause-tree : goal.returns-in-Err-clause-tree
