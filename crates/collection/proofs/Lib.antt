@@ -2,5 +2,7 @@ mod Acts
 mod NameLaws
 mod MovedParts
 mod EachLaws
+mod FaultLaws
+pub mod QuietRuns
 mod SaveLaws
 mod ClockLaws

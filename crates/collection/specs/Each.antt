@@ -17,6 +17,13 @@ added tally one = record {
   reason = None;
 }
 
+-- Nothing was done, and nothing is counted.
+pub record IsPassedOver {S : Type 0} (sink full : Option (List ℕ)) (old new : S) (result : Result Tally SessionError)
+    : Type 0 where
+  pub same : new ≡ old
+  pub unwritten : full ≡ sink
+  pub counted : result ≡ Ok none_counted
+
 -- A step with each of these was done, in their order; it relates the writer and the service before and after it, and
 -- its result. This tally was counted for others before them. A result that isn't a tally ends the run.
 abbrev pub EachDone : {X S : Type 0} → (X → Option (List ℕ) → Option (List ℕ) → S → S → Result Tally SessionError

@@ -5,5 +5,6 @@ pub mod Each
 pub mod Lines
 pub mod Import
 pub mod Export
+pub mod Faults
 pub mod Save
 pub mod Common

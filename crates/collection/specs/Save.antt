@@ -1,7 +1,6 @@
--- The files that a survey of a disk found, which become files of the host, and its faults, which have a line each.
+-- The files that a survey of a disk found, which become files of the host, and then its faults.
 use Rattle.std.specs.Prelude.{◌≡◌, ◌⊎◌, ℕ, true, false, List, Option, Some, None, Result, Ok, Err, IfOk, IsSomeAnd}
-use Rattle.std.specs.Prelude.{Bool, IsErrOf, [], ◌∷◌, ◌++◌, codes, length}
-use Rattle.std.specs.Fmt.{decimal}
+use Rattle.std.specs.Prelude.{Bool, IsErrOf, [], ◌∷◌, codes, length}
 use Rattle.std.specs.List.{AllByRecursion}
 use Rattle.std.specs.declared.alloc.AllocError.{AllocError}
 use Rattle.std.specs.declared.io.Error.{Error}
@@ -13,27 +12,18 @@ use Rattle.retrieval.specs.Common.{mode_number}
 use Rattle.commands.specs.Common.{IsExport}
 use Rattle.commands.specs.declared.answer.Tally.{Tally}
 use Rattle.commands.specs.declared.error.SessionError.{SessionError}
-use Rattle.commands.specs.declared.error.SessionError.TheVariants.{NoMemory}
 use Rattle.commands.specs.declared.export_file.Exported.{Exported}
-use Rattle.salvage.specs.declared.finding.Cost.{Cost}
-use Rattle.salvage.specs.declared.finding.Defect.{Defect}
-use Rattle.salvage.specs.declared.finding.Defect.TheVariants.{Start, FreeBlock, TwoOwners, Missing, Surplus, Tail}
 use Rattle.salvage.specs.declared.finding.Finding.{Finding}
 use Rattle.salvage.specs.declared.error.SalvageError.{SalvageError}
 use Rattle.salvage.specs.declared.saved.SavedFile.{SavedFile}
-use Rattle.volume.specs.declared.error.VolumeError.{VolumeError}
-use Rattle.volume.specs.declared.error.VolumeError.TheVariants.{NotVolume, BadHome, BadLog, BadDirectory}
-use Rattle.volume.specs.declared.error.VolumeError.TheVariants.{BadRetrieval, BlockTwice, TableWrong, Device, Failed}
-use Rattle.volume.specs.declared.error.VolumeError.TheVariants.{BadData}
-use Rattle.collection.specs.Each.{EachDone, Then, none_counted}
+use Rattle.collection.specs.Each.{EachDone, IsPassedOver, Then, none_counted}
 use Rattle.collection.specs.Export.{IsListed, IsStored, MayFill}
+use Rattle.collection.specs.Faults.{AreFindingsDone}
 use Rattle.collection.specs.HostFacts.{FileFacts}
 use Rattle.collection.specs.Lines.{IsRefusedLine, IsUnnamed}
 use Rattle.collection.specs.HostNames.{folder_of, path_of, numbered_path, doubtful_folder, unnamed_folder}
 use Rattle.collection.specs.declared.task.ExportTask.{ExportTask}
-use Rattle.salvage.specs.declared.finding.Cost.TheVariants as cost
 use Rattle.salvage.specs.declared.error.SalvageError.TheVariants as salvage
-use Rattle.volume.specs.declared.error.VolumeError.TheVariants as volume
 
 -- What a salvage may do with its folder.
 
@@ -77,19 +67,28 @@ pub record IsReadFrom {D : Type 0} (state : D → DiskState) (file : SavedFile) 
   pub failed : IsErrOf read salvage.Device → (state new).failures ≡ one_more (state old).failures
   pub served : (IsErrOf read salvage.Device → ⊥) → (state new).failures ≡ (state old).failures
 
+-- What became of a file whose words were read, by whether there was memory for the bytes that spell them.
+abbrev pub AreWordsStored : FileFacts → List ℕ → SavedFile → Result Exported AllocError → Option (List ℕ)
+    → Option (List ℕ) → Result Tally SessionError → Type 0
+AreWordsStored facts path file (Ok exported) sink full result =
+    IsStored {E = AllocError} facts path (Some file.stored.prime.moment) (Ok exported) sink full result
+AreWordsStored facts path file (Err error) sink full result =
+    IsRefusedLine path (codes "?No memory") true sink full result
+
 -- What became of a file that was read: a file of the host with the bytes that spell its words, last changed when it was
--- written; or it was refused.
+-- written; or it was refused, as also one for which there is no memory.
 abbrev pub IsReadStored : FileFacts → ExportTask → List ℕ → SavedFile → Result (Option (List ℕ)) SalvageError
     → Option (List ℕ) → Option (List ℕ) → Result Tally SessionError → Type 0
 IsReadStored facts task path file (Ok (Some words)) sink full result =
     (exported : Result Exported AllocError)
     × IfOk exported (IsExport task.encoding (mode_number file.stored.prime.mode) words)
-    × IsStored facts path (Some file.stored.prime.moment) exported sink full result
+    × AreWordsStored facts path file exported sink full result
 IsReadStored facts task path file (Ok None) sink full result =
     IsRefusedLine path (codes "?Damaged") false sink full result
 IsReadStored facts task path file (Err salvage.Device) sink full result =
     IsRefusedLine path (codes "?Device fault") true sink full result
-IsReadStored facts task path file (Err salvage.NoMemory) sink full result = (full ≡ sink) × (result ≡ Err NoMemory)
+IsReadStored facts task path file (Err salvage.NoMemory) sink full result =
+    IsRefusedLine path (codes "?No memory") true sink full result
 IsReadStored facts task path file (Err salvage.NotVolume) sink full result = ⊥
 
 -- A file was read, and stored at a path.
@@ -106,13 +105,6 @@ pub record HasNoFolder {D : Type 0} (facts : FileFacts) (folder : List ℕ) (sin
   pub refused : facts.folder folder (Err error)
   pub same : new ≡ old
   pub written : IsRefusedLine folder (codes "?Can't make folder") false sink full result
-
--- Nothing is done for a file of another directory.
-pub record IsPassedOver {D : Type 0} (sink full : Option (List ℕ)) (old new : D) (result : Result Tally SessionError)
-    : Type 0 where
-  pub same : new ≡ old
-  pub unwritten : full ≡ sink
-  pub counted : result ≡ Ok none_counted
 
 -- the path of a file in this folder: under its name, or with the number of its prime block
 abbrev pub saved_path : List ℕ → Bool → SavedFile → List ℕ
@@ -159,66 +151,7 @@ AreApartSaved facts state task folder numbered (file ∷ files) sink full old ne
     AreFilesSaved facts state task folder numbered (file ∷ files) sink full old new result
     ⊎ IsUnnamed sink full old new result
 
--- Faults.
-
--- the text of a fault, which is that of a start that it stops
-abbrev pub fault_text : VolumeError → List ℕ
-fault_text NotVolume = codes "?Not a volume"
-fault_text BadHome = codes "?Bad home blocks"
-fault_text BadLog = codes "?Bad log"
-fault_text (BadDirectory block) = codes "?Bad directory block " ++ decimal block
-fault_text (BadRetrieval block) = codes "?Bad retrieval block " ++ decimal block
-fault_text (BlockTwice block) = codes "?Block " ++ decimal block ++ codes " reached twice"
-fault_text (TableWrong block) = codes "?Bad table block " ++ decimal block
-fault_text (BadData block) = codes "?Bad data block " ++ decimal block
-fault_text volume.NoMemory = codes "?No memory"
-fault_text Device = codes "?Device fault"
-fault_text Failed = codes "?Device fault"
-
--- the path that what is lost would have had
-abbrev pub path_of_cost : List ℕ → Cost → List ℕ
-path_of_cost folder (cost.File ppn name) = path_of folder ppn name
-path_of_cost folder (cost.Unnamed ppn name prime) = numbered_path (unnamed_folder folder) ppn name prime
-path_of_cost folder (cost.Directory ppn) = folder_of folder ppn
-path_of_cost folder cost.Directories = folder
-path_of_cost folder cost.Nothing = folder
-
--- what is lost is of a directory that is wanted, or of none
-abbrev pub IsWantedCost : Option ℕ → Cost → Type 0
-IsWantedCost owner (cost.File ppn name) = IsWanted owner ppn
-IsWantedCost owner (cost.Unnamed ppn name prime) = IsWanted owner ppn
-IsWantedCost owner (cost.Directory ppn) = IsWanted owner ppn
-IsWantedCost owner cost.Directories = Unit {0}
-IsWantedCost owner cost.Nothing = Unit {0}
-
--- the text of what is wrong
-abbrev pub defect_text : Defect → List ℕ
-defect_text (Start fault) = fault_text fault
-defect_text (FreeBlock block) = codes "?Block " ++ decimal block ++ codes " is free"
-defect_text (TwoOwners block) = codes "?Block " ++ decimal block ++ codes " reached twice"
-defect_text (Missing blocks) = codes "?Blocks missing at the end: " ++ decimal blocks
-defect_text (Surplus blocks) = codes "?Blocks after the end: " ++ decimal blocks
-defect_text (Tail bytes) = codes "?Bytes after the last block: " ++ decimal bytes
-
--- the device failed, which counts for more than other faults
-abbrev pub is_device : Defect → Bool
-is_device (Start Device) = true
-is_device fault = false
-
--- The line of a fault was written, if it is wanted.
-abbrev pub IsFindingDone : ExportTask → Finding → Option (List ℕ) → Option (List ℕ) → Unit {0} → Unit {0}
-    → Result Tally SessionError → Type 0
-IsFindingDone task finding sink full old new result =
-    (IsWantedCost task.owner finding.costs × IsRefusedLine (path_of_cost task.folder.now finding.costs)
-    (defect_text finding.fault) (is_device finding.fault) sink full result)
-    ⊎ ((IsWantedCost task.owner finding.costs → ⊥) × IsPassedOver sink full old new result)
-    ⊎ IsUnnamed sink full old new result
-
--- The lines of these faults were written, and nothing else was done.
-abbrev pub AreFindingsDone : {D : Type 0} → ExportTask → List Finding → Option (List ℕ) → Option (List ℕ) → D → D
-    → Result Tally SessionError → Type 0
-AreFindingsDone task findings sink full old new result =
-    (new ≡ old) × EachDone (IsFindingDone task) findings none_counted sink full tt tt result
+-- All of it.
 
 -- The whole run: the findings of the copy, the files in their place, the doubtful ones, those that no directory names,
 -- and the faults. What ends the run ends it at once.

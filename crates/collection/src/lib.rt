@@ -16,15 +16,17 @@
 //! 5. Both work by calls of job 1: what a crash leaves is stated as for a session, and the failure count rises by one
 //!    for each call that is answered Device, and for nothing else. (`Goes`)
 //! 6. `save_survey` takes the files that a survey of a disk found, in their order: those in their place, the doubtful
-//!    ones, and those that no directory names, in a folder for each kind; and then its faults. Each has one line: what
-//!    the host stored at the path of a file are bytes that spell its words, with the moment when it was written; a
-//!    fault is reported with the path of what it costs. (`IsSalvageRun`)
+//!    ones, and those that no directory names, in a folder for each kind; and then its faults. Each file has one line:
+//!    what the host stored at its path are bytes that spell its words, with the moment when it was written. Faults are
+//!    told kind by kind: the first 1,000 of a kind have a line each, with the path of what it costs, and one line says
+//!    how many more there are. A file for which there is no memory is refused, and ends nothing. (`IsSalvageRun`)
 //! 7. The statements about the host hold for any host that reports what it read and stored. (`HostFiles`) No clause is
 //!    about lines for people, by which nothing is decided.
 #![tactic(auto)]
 
 mod clock;
 mod exports;
+mod faults;
 mod host_files;
 mod host_names;
 mod imports;

@@ -1,28 +1,26 @@
 //! The rescue of the files that a survey of a damaged disk found, to new files of the host.
-ghost use Rattle.std.specs.Prelude.{◌≡◌, ◌↔◌, true, false, IfOk, IsErrOf, IsTrue, length, string_bytes};
+ghost use Rattle.std.specs.Prelude.{◌≡◌, true, false, IfOk, IsErrOf, length, string_bytes};
 ghost use Rattle.std.specs.List.{AllByRecursion};
 ghost use Rattle.blockdisk.specs.Common.{memory_state};
 ghost use Rattle.salvage.specs.Common.{FitsDisk};
-ghost use Rattle.collection.specs.Common.{EachDone, Then, none_counted, AreApartSaved, AreFilesSaved};
-ghost use Rattle.collection.specs.Common.{AreFindingsDone, IsFileDone, IsFindingDone, IsReadStored, IsSalvageRun};
-ghost use Rattle.collection.specs.Common.{IsSavedAt, IsWanted, IsWantedCost, IsWantedDone, MayRescue, MaySave};
-ghost use Rattle.collection.specs.Common.{defect_text, doubtful_folder as doubtful_text, fault_text};
-ghost use Rattle.collection.specs.Common.{is_device, numbered_path as numbered_text, path_of_cost, saved_path};
-ghost use Rattle.collection.specs.Common.{unnamed_folder as unnamed_text, words_read};
+ghost use Rattle.collection.specs.Common.{EachDone, Then, none_counted, AreApartSaved, AreFilesSaved, AreWordsStored};
+ghost use Rattle.collection.specs.Common.{AreFindingsDone, IsFileDone, IsReadStored, IsSalvageRun, IsSavedAt};
+ghost use Rattle.collection.specs.Common.{IsWantedDone, MayRescue, MaySave, doubtful_folder as doubtful_text};
+ghost use Rattle.collection.specs.Common.{saved_path, unnamed_folder as unnamed_text, words_read};
 ghost use Rattle.salvage.specs.declared.error.SalvageError.TheVariants.{NotVolume};
 
 use crate::exports::store;
+use crate::faults::{is_wanted, report_copy, report_findings};
 use crate::lines::{added, say_path, turn_down};
 use crate::paths::{doubtful_folder, folder_of, numbered_path, path_of, unnamed_folder};
 use crate::report::report;
 use crate::{ExportTask, HostFiles};
 use blockdisk::Disk;
-use commands::{SessionError, Tally, export_words};
-use salvage::{Copied, Cost, Defect, Finding, SalvageError, SavedFile, Survey, read_words};
+use commands::{Exported, SessionError, Tally, export_words};
+use salvage::{Copied, SalvageError, SavedFile, Survey, read_words};
 use std::alloc::{AllocError, Global};
 use std::io::Write;
-use volume::VolumeError;
-use words36::{FileName, Ppn, Word};
+use words36::Word;
 
 /// Where files of one kind become files of the host.
 #[derive(Clone, Copy)]
@@ -40,6 +38,27 @@ struct Saving<'a> {
     task: &'a ExportTask<'a>,
     path: &'a str,
     file: &'a SavedFile,
+}
+
+/// Makes a file of the host from its bytes, or refuses it if there was no memory for them, and writes its line.
+fn store_words<H: HostFiles, W: Write, E: Write>(
+    host: &H,
+    alloc: Global,
+    saving: &Saving<'_>,
+    exported: Result<Exported, AllocError>,
+    writer: &mut W,
+    errors: &mut E,
+) -> Result<Tally, SessionError>
+    requires { (H.files host.now).may_store saving.now.path.now }
+    ensures { AreWordsStored (H.files host.now) saving.now.path.now saving.now.file.now exported
+        (W.contents writer.old) (W.contents writer.new) result }
+{
+    let path = saving.path;
+    let changed = Some(saving.file.stored.prime.moment);
+    match exported {
+        Ok(exported) => store(host, alloc, path, changed, Ok(exported), writer, errors),
+        Err(_) => turn_down(alloc, writer, path, "?No memory", true),
+    }
 }
 
 /// Makes a file of the host from what was read, and writes its line.
@@ -62,19 +81,11 @@ fn store_read<H: HostFiles, W: Write, E: Write>(
             let prime = &file.stored.prime;
             let mode = prime.mode.number() as u32;
             let exported = export_words(alloc, task.encoding, mode, &words);
-            store(
-                host,
-                alloc,
-                path,
-                Some(prime.moment),
-                exported,
-                writer,
-                errors,
-            )
+            store_words(host, alloc, saving, exported, writer, errors)
         }
         Ok(None) => turn_down(alloc, writer, path, "?Damaged", false),
         Err(SalvageError::Device) => turn_down(alloc, writer, path, "?Device fault", true),
-        Err(SalvageError::NoMemory) => Err(SessionError::NoMemory),
+        Err(SalvageError::NoMemory) => turn_down(alloc, writer, path, "?No memory", true),
         Err(SalvageError::NotVolume) => unreachable!(), // the size was checked before
     }
 }
@@ -151,16 +162,6 @@ fn save_wanted<H: HostFiles, W: Write, E: Write, D: Disk>(
         writer,
         errors,
     )
-}
-
-/// Returns whether the files of this owner are wanted.
-fn is_wanted(wanted: Option<Ppn>, owner: Ppn) -> bool
-    ensures { IsTrue result ↔ IsWanted wanted owner }
-{
-    match wanted {
-        Some(wanted) => wanted == owner,
-        None => true,
-    }
 }
 
 /// Saves a file, if it is of a directory that is wanted.
@@ -296,140 +297,6 @@ fn save_unnamed<H: HostFiles, W: Write, E: Write, D: Disk>(
     save_files(host, alloc, &target, files, disk, writer, errors)
 }
 
-/// Returns the text of a fault, which is that of a start that it stops.
-fn fault_text(alloc: Global, fault: VolumeError) -> Result<String, AllocError>
-    ensures { IfOk result (λ text. string_bytes text ≡ fault_text fault) }
-{
-    match fault {
-        VolumeError::NotVolume => format!(in alloc; "?Not a volume"),
-        VolumeError::BadHome => format!(in alloc; "?Bad home blocks"),
-        VolumeError::BadLog => format!(in alloc; "?Bad log"),
-        VolumeError::BadDirectory(block) => format!(in alloc; "?Bad directory block {block}"),
-        VolumeError::BadRetrieval(block) => format!(in alloc; "?Bad retrieval block {block}"),
-        VolumeError::BlockTwice(block) => format!(in alloc; "?Block {block} reached twice"),
-        VolumeError::TableWrong(block) => format!(in alloc; "?Bad table block {block}"),
-        VolumeError::BadData(block) => format!(in alloc; "?Bad data block {block}"),
-        VolumeError::NoMemory => format!(in alloc; "?No memory"),
-        VolumeError::Device | VolumeError::Failed => format!(in alloc; "?Device fault"),
-    }
-}
-
-/// Returns the text of what is wrong.
-fn defect_text(alloc: Global, fault: Defect) -> Result<String, AllocError>
-    ensures { IfOk result (λ text. string_bytes text ≡ defect_text fault) }
-{
-    match fault {
-        Defect::Start(fault) => fault_text(alloc, fault),
-        Defect::FreeBlock(block) => format!(in alloc; "?Block {block} is free"),
-        Defect::TwoOwners(block) => format!(in alloc; "?Block {block} reached twice"),
-        Defect::Missing(blocks) => format!(in alloc; "?Blocks missing at the end: {blocks}"),
-        Defect::Surplus(blocks) => format!(in alloc; "?Blocks after the end: {blocks}"),
-        Defect::Tail(bytes) => format!(in alloc; "?Bytes after the last block: {bytes}"),
-    }
-}
-
-/// Returns the path of a file that no directory names.
-fn path_of_unnamed(
-    alloc: Global,
-    folder: &str,
-    owner: Ppn,
-    name: FileName,
-    prime: u32,
-) -> Result<String, AllocError>
-    ensures { IfOk result (λ path. string_bytes path
-        ≡ numbered_text (unnamed_text folder.now) owner name prime) }
-{
-    let folder = unnamed_folder(alloc, folder)?;
-    numbered_path(alloc, folder.as_str(), owner, name, prime)
-}
-
-/// Returns the path that what a fault costs would have had.
-fn path_of_cost(alloc: Global, folder: &str, costs: Cost) -> Result<String, AllocError>
-    ensures { IfOk result (λ path. string_bytes path ≡ path_of_cost folder.now costs) }
-{
-    match costs {
-        Cost::File(owner, name) => path_of(alloc, folder, owner, name),
-        Cost::Unnamed(owner, name, prime) => path_of_unnamed(alloc, folder, owner, name, prime),
-        Cost::Directory(owner) => folder_of(alloc, folder, owner),
-        Cost::Directories | Cost::Nothing => format!(in alloc; "{folder}"),
-    }
-}
-
-/// Returns whether what a fault costs is of a directory that is wanted, or of none.
-fn is_wanted_cost(wanted: Option<Ppn>, costs: Cost) -> bool
-    ensures { IsTrue result ↔ IsWantedCost wanted costs }
-{
-    match costs {
-        Cost::File(owner, _) | Cost::Unnamed(owner, _, _) | Cost::Directory(owner) => {
-            is_wanted(wanted, owner)
-        }
-        Cost::Directories | Cost::Nothing => true,
-    }
-}
-
-/// Returns whether the device failed, which counts for more than other faults.
-fn is_device(fault: Defect) -> bool
-    ensures { result ≡ is_device fault }
-{
-    match fault {
-        Defect::Start(VolumeError::Device) => true,
-        _ => false,
-    }
-}
-
-/// Writes the line of a fault, if it is wanted.
-fn report_finding<W: Write>(
-    alloc: Global,
-    task: &ExportTask<'_>,
-    finding: Finding,
-    writer: &mut W,
-) -> Result<Tally, SessionError>
-    ensures { IsFindingDone task.now finding (W.contents writer.old) (W.contents writer.new) tt tt result }
-{
-    if !is_wanted_cost(task.owner, finding.costs) {
-        return Ok(Tally::none());
-    }
-    let Ok(path) = path_of_cost(alloc, task.folder, finding.costs) else {
-        return Err(SessionError::NoMemory);
-    };
-    let Ok(text) = defect_text(alloc, finding.fault) else {
-        return Err(SessionError::NoMemory);
-    };
-    let broke = is_device(finding.fault);
-    turn_down(alloc, writer, path.as_str(), text.as_str(), broke)
-}
-
-/// Writes the lines of these faults.
-fn report_findings<W: Write>(
-    alloc: Global,
-    task: &ExportTask<'_>,
-    findings: &[Finding],
-    writer: &mut W,
-) -> Result<Tally, SessionError>
-    ensures { EachDone (IsFindingDone task.now) findings.now none_counted (W.contents writer.old)
-        (W.contents writer.new) tt tt result }
-{
-    let mut tally = Tally::none();
-    for finding in findings {
-        let one = report_finding(alloc, task, *finding, writer)?;
-        tally = added(tally, one);
-    }
-    Ok(tally)
-}
-
-/// Writes the first lines: what is wrong with the copy, before any file of it is read.
-fn report_copy<W: Write>(
-    alloc: Global,
-    task: &ExportTask<'_>,
-    copied: &Copied,
-    writer: &mut W,
-) -> Result<Tally, SessionError>
-    ensures { EachDone (IsFindingDone task.now) copied.now.findings.items none_counted (W.contents writer.old)
-        (W.contents writer.new) tt tt result }
-{
-    report_findings(alloc, task, copied.findings.as_slice(), writer)
-}
-
 /// Saves the files that no directory names, and writes the lines of the faults.
 fn save_last<H: HostFiles, W: Write, E: Write, D: Disk>(
     host: &H,
@@ -513,13 +380,14 @@ fn save_found<H: HostFiles, W: Write, E: Write, D: Disk>(
 /// Makes a file of the host from each file that a survey of this copy found, at a path where there is none:
 /// FOLDER/10,20/FOO.TXT for a file in its place, FOLDER/doubtful/10,20/FOO.TXT for one with a block that may not be
 /// its own, and FOLDER/unnamed/10,20/FOO%1234.TXT, with the number of its prime block, for one that no directory
-/// names. A line is written for each file of a directory that is wanted, and for each fault with the path that what it
-/// costs would have had; none of these stops the others. A task that only lists reads no file and makes none: it
-/// writes the paths. Nothing is written to the copy.
+/// names. A line is written for each file of a directory that is wanted. Faults are told kind by kind: the first 1,000
+/// of a kind have a line each, with the path that what it costs would have had, and if there are more, one line says
+/// how many. None of these stops the others, nor does a file for which there is no memory. A task that only lists reads
+/// no file and makes none: it writes the paths. Nothing is written to the copy.
 ///
 /// # Errors
 ///
-/// `Write` if the writer failed, `NoMemory` if there is no memory for a file or a line: what came before was done.
+/// `Write` if the writer failed, `NoMemory` if there is no memory for a name or a line: what came before was done.
 pub fn save_survey<H: HostFiles, W: Write, E: Write>(
     host: &H,
     alloc: Global,

@@ -1,18 +1,33 @@
 -- Runs on an image that save what is whole on it.
 use Rattle.std.proofs.Common.{◌≡◌, ◌+◌, ◌*◌, ◌∙◌, ◌<◌, ap, ⊎_elim, inl, inr, length, ℕ, List, Option, refl, sym, subst}
-use Rattle.blockdisk.specs.Common.{Contents, DiskState, SameDisk, same_contents, still_on, Memory}
+use Rattle.std.proofs.Common.{[], None, Bool, true, false, Result, Ok, Err, MatchResult, arith, max}
+use Rattle.std.proofs.Common.{if◌then◌else◌}
+use Rattle.blockdisk.specs.Common.{Contents, DiskState, SameDisk, same_contents, still_on, Memory, held}
+use Rattle.blockdisk.specs.Common.{memory_state, one_more}
+use Rattle.changeset.specs.Common.{OnlyReads}
+use Rattle.changeset.proofs.LogRead.{only_reads_on}
 use Rattle.imagefile.specs.Common.{BeganCut, begun_image, block_length, Unseen}
 use Rattle.imagefile.specs.declared.form.Form.{Form}
-use Rattle.spec_image.specs.Common.{Stands}
-use Rattle.salvage.specs.Common.{AreCopies, AreSaid, HasHome, IsCopyOf, failed_by, held_to}
+use Rattle.spec_image.specs.Common.{File, Files, SettledStands, SpecHome, IsHome, Stands}
+use Rattle.salvage.specs.Common.{AreCopies, AreSaid, HasHome, IsCopyOf, IsSurveyed, copy_findings, failed_by, held_to}
+use Rattle.salvage.specs.declared.saved.SavedFile.{SavedFile}
+use Rattle.salvage.proofs.CarriedFacts.{moved}
 use Rattle.salvage.specs.declared.copied.CopyFaults.{CopyFaults}
 use Rattle.salvage.specs.declared.error.SalvageError.{SalvageError}
 use Rattle.salvage.specs.declared.error.SalvageError.TheVariants.{NotVolume, Device, NoMemory}
-use Rattle.collection.specs.Common.{FileFacts}
-use Rattle.filser.specs.Common.{HostFacts, IsCut, IsNoCopy, IsOpened, IsSalvagedFrom, IsUncopied}
+use Rattle.salvage.specs.declared.search.Search.TheVariants.{Named}
+use Rattle.commands.specs.declared.answer.Tally.{Tally}
+use Rattle.commands.specs.declared.error.SessionError.{SessionError}
+use Rattle.salvage.specs.declared.finding.Finding.{Finding}
+use Rattle.collection.specs.Common.{FileFacts, IsSalvageRun}
+use Rattle.collection.specs.declared.task.ExportTask.{ExportTask}
+use Rattle.collection.proofs.QuietRuns.{nothing_told}
+use Rattle.filser.specs.Common.{AreAllFound, AreExact, AreFound, HostFacts, IsCopySalvaged, IsCut, IsNoCopy, IsOpened}
+use Rattle.filser.specs.Common.{IsEnding, IsPartSalvaged, IsSalvagedFrom, IsUncopied, named_only, status_code}
 use Rattle.filser.specs.SalvageRuns.{IsCopied}
 use Rattle.filser.specs.declared.host.Access.{Access}
 use Rattle.filser.specs.declared.status.Status.{Status}
+use Rattle.filser.specs.declared.status.Status.TheVariants.{Done}
 use Rattle.filser.specs.declared.task.SalvageTask.{SalvageTask}
 
 -- why a disk wasn't copied
@@ -121,3 +136,113 @@ salvage_run facts path form u tail task sink full status d e opened began sound 
   subst (λ n. IsSalvagedFrom facts.files task tail sink full (begun_image form n u) e status) (sym kept.size)
       (salvaged_since form u tail d began sound facts.files task sink full e status kept.was_honest ran),
 )
+
+-- Status 0.
+
+refused_none : (refused broke : Bool) → status_code Done ≡ max (if refused then 1 else 0) (if broke then 4 else 0)
+    → refused ≡ false
+refused_none false broke is = refl
+refused_none true false is = absurd (omega (arith, is))
+refused_none true true is = absurd (omega (arith, is))
+
+-- Status 0 without a PPN means that no fault was found, and what follows from that.
+pub accepted_on : {D : Type 0} (facts : FileFacts) (state : D → DiskState) (task : ExportTask) (head : List Finding)
+    (files doubtful unnamed : List SavedFile) (findings : List Finding) (sink full : Option (List ℕ)) (old new : D)
+    (result : Result Tally SessionError) (status : Status) (Accepts : Type 0) → IsEnding status result
+    → IsSalvageRun facts state task head files doubtful unnamed findings sink full old new result
+    → (findings ≡ [] → Accepts) → status ≡ Done → task.owner ≡ None → (head ≡ []) × Accepts
+accepted_on facts state task head files doubtful unnamed findings sink full old new (Ok tally) status Accepts ends run
+    silent done all =
+    let code : status_code Done ≡ max (if tally.refused then 1 else 0) (if tally.broke then 4 else 0) =
+    ap status_code (sym done) ∙ ends in
+    let none = nothing_told facts state task head files doubtful unnamed findings sink full old new tally all run
+    (refused_none tally.refused tally.broke code) in
+    (none.0, silent none.1)
+accepted_on facts state task head files doubtful unnamed findings sink full old new (Err error) status Accepts ends run
+    silent done all = absurd (cc (ends, done))
+
+-- What a result that is known leads to.
+
+pub match_ok : {T E : Type 0} (r : Result T E) (x : T) (P : T → Type 0) (Q : E → Type 0) → r ≡ Ok x → P x
+    → MatchResult r P Q
+match_ok r x P Q is holds = subst (λ s. MatchResult s P Q) (sym is) holds
+
+pub match_err : {T E : Type 0} (r : Result T E) (e : E) (P : T → Type 0) (Q : E → Type 0) → r ≡ Err e → Q e
+    → MatchResult r P Q
+match_err r e P Q is holds = subst (λ s. MatchResult s P Q) (sym is) holds
+
+-- A part of a task that searches.
+pub part_copied : (facts : FileFacts) (task : SalvageTask) (sink full : Option (List ℕ)) (copy last : Memory)
+    (faults : CopyFaults) (status : Status) → (task.search ≡ Named → ⊥)
+    → IsPartSalvaged facts task sink full copy last faults status
+    → IsCopySalvaged facts task sink full copy last faults status
+part_copied facts task sink full copy last faults status searches ran = ⊎_elim
+    (λ part. inl (part.0, part.1, part.2, inr (searches, part.3), part.4)) (λ none. inr none) ran
+
+-- A copy that was only read before.
+module _ (facts : FileFacts) (task : SalvageTask) (sink full : Option (List ℕ)) (copy mid last : Memory)
+    (faults : CopyFaults) (same : SameDisk (memory_state copy) (memory_state mid))
+    (reads : OnlyReads (memory_state copy) (memory_state mid)) where
+  contents_same : held mid.blocks ≡ held copy.blocks
+  contents_same = same_contents (held copy.blocks) (held mid.blocks) reads.still.contents
+
+  found_since : (other : SalvageTask) (end : Option (List ℕ)) (files doubtful unnamed : List SavedFile)
+      (status : Status) → AreFound facts other sink end mid last faults files doubtful unnamed status
+      → AreFound facts other sink end copy last faults files doubtful unnamed status
+  found_since other end files doubtful unnamed status p = record {
+    layout = p.layout;
+    findings = p.findings;
+    middle = p.middle;
+    result = p.result;
+    layout_is = moved (λ n k. (home : SpecHome) → IsHome n k home → p.layout ≡ home.layout) (length copy.blocks)
+        (length mid.blocks) (held copy.blocks) (held mid.blocks) same.size contents_same p.layout_is;
+    no_layout = moved (λ n k. ((home : SpecHome) → IsHome n k home → ⊥) → p.layout ≡ 2) (length copy.blocks)
+        (length mid.blocks) (held copy.blocks) (held mid.blocks) same.size contents_same p.no_layout;
+    surveyed = moved (λ n k. IsSurveyed n p.layout k other.search files doubtful unnamed p.findings)
+        (length copy.blocks) (length mid.blocks) (held copy.blocks) (held mid.blocks) same.size contents_same
+        p.surveyed;
+    silent = moved (λ n k. p.findings ≡ [] → (stored : Files File) × SettledStands n k stored) (length copy.blocks)
+        (length mid.blocks) (held copy.blocks) (held mid.blocks) same.size contents_same p.silent;
+    read = only_reads_on (memory_state copy) (memory_state mid) (memory_state p.middle) reads p.read;
+    saved = p.saved;
+    ends = p.ends;
+    accepted = moved (λ n k. status ≡ Done → other.export.owner ≡ None → (copy_findings faults ≡ [])
+        × ((stored : Files File) × SettledStands n k stored)) (length copy.blocks) (length mid.blocks)
+        (held copy.blocks) (held mid.blocks) same.size contents_same p.accepted;
+  }
+
+  exact_since : (files doubtful unnamed : List SavedFile) → AreExact task mid files doubtful unnamed
+      → AreExact task copy files doubtful unnamed
+  exact_since files doubtful unnamed = moved (λ n k. (stored : Files File) → SettledStands n k stored
+      → AreAllFound k task files doubtful unnamed stored) (length copy.blocks) (length mid.blocks) (held copy.blocks)
+      (held mid.blocks) same.size contents_same
+
+  pub copy_salvaged_since : (status : Status) → mid.failures ≡ copy.failures
+      → IsCopySalvaged facts task sink full mid last faults status
+      → IsCopySalvaged facts task sink full copy last faults status
+  unfolding found_since
+  copy_salvaged_since status sound ran = ⊎_elim
+      (λ saved. inl (
+        saved.0,
+        saved.1,
+        saved.2,
+        ⊎_elim (λ all. inl (found_since task full saved.0 saved.1 saved.2 status all))
+            (λ part. inr (
+              part.0,
+              record {
+                between = part.1.between;
+                reached = part.1.reached;
+                found = found_since (named_only task) part.1.between saved.0 saved.1 saved.2 part.1.reached
+                    part.1.found;
+                said = part.1.said;
+              },
+            )) saved.3,
+        exact_since saved.0 saved.1 saved.2 saved.4,
+      ))
+      (λ none. inr (record {
+        error = none.error;
+        read = only_reads_on (memory_state copy) (memory_state mid) (memory_state last) reads none.read;
+        cause = ⊎_elim (λ memory. inl (memory.0, memory.1 ∙ sound))
+            (λ device. inr (device.0, device.1 ∙ ap one_more sound)) none.cause;
+        said = none.said;
+      })) ran

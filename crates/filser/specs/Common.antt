@@ -30,7 +30,8 @@ pub use Rattle.filser.specs.Migrations.{IsKeptBack, IsMigration, IsMigrationRefu
 pub use Rattle.filser.specs.Migrations.{IsRaised}
 pub use Rattle.filser.specs.ImportRuns.{IsImportRun, IsOnImported}
 pub use Rattle.filser.specs.ExportRuns.{IsExportedFrom, IsOnExported}
-pub use Rattle.filser.specs.SalvageRuns.{AreAllFound, AreFound, IsNoCopy, IsOnSalvaged, IsSalvagedFrom, IsUncopied}
-pub use Rattle.filser.specs.SalvageRuns.{IsUnsurveyed, start_error}
+pub use Rattle.filser.specs.SalvageRuns.{AreAllFound, AreExact, AreFound, ArePartFound, IsCopySalvaged, IsNoCopy}
+pub use Rattle.filser.specs.SalvageRuns.{IsOnSalvaged, IsPartSalvaged, IsSalvagedFrom, IsSaved, IsUncopied}
+pub use Rattle.filser.specs.SalvageRuns.{IsUnsurveyed, named_only, start_error}
 pub use Rattle.filser.specs.Runs.{AreReportsSpared, AreWordsSpared, HoldsOfImages, IsApart, IsHandled, IsLed, IsLedBy}
 pub use Rattle.filser.specs.Runs.{IsRequestRun, PrintsOnly, WasRun}

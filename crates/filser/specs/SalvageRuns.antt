@@ -1,5 +1,6 @@
 -- What became of an image whose whole files were to be written to files of the host.
-use Rattle.std.specs.Prelude.{◌≡◌, ◌⊎◌, ◌+◌, ◌*◌, ◌<◌, ◌≤◌, ℕ, List, [], Option, Result, length}
+use Rattle.std.specs.Prelude.{◌≡◌, ◌⊎◌, ◌+◌, ◌*◌, ◌<◌, ◌≤◌, ℕ, List, [], Option, None, Result, MatchResult}
+use Rattle.std.specs.Prelude.{codes, length}
 use Rattle.blockdisk.specs.Common.{Contents, DiskState, Still, one_more, Memory, held, memory_state}
 use Rattle.changeset.specs.Common.{OnlyReads}
 use Rattle.imagefile.specs.Common.{begun_image, Unseen}
@@ -15,7 +16,7 @@ use Rattle.salvage.specs.declared.error.SalvageError.{SalvageError}
 use Rattle.salvage.specs.declared.error.SalvageError.TheVariants.{NotVolume, Device, NoMemory}
 use Rattle.salvage.specs.declared.finding.Finding.{Finding}
 use Rattle.salvage.specs.declared.saved.SavedFile.{SavedFile}
-use Rattle.salvage.specs.declared.search.Search.TheVariants.{Every}
+use Rattle.salvage.specs.declared.search.Search.TheVariants.{Every, Named}
 use Rattle.collection.specs.Common.{FileFacts, IsSalvageRun}
 use Rattle.filser.specs.Denials.{IsExplained}
 use Rattle.filser.specs.Hosts.{HostFacts, IsOpened}
@@ -29,6 +30,7 @@ use Rattle.filser.specs.declared.disks.Disks.TheVariants.{Unserved}
 use Rattle.filser.specs.declared.fault.ImageFault.{ImageFault}
 use Rattle.filser.specs.declared.host.Access.TheVariants.{Read}
 use Rattle.filser.specs.declared.status.Status.{Status}
+use Rattle.filser.specs.declared.status.Status.TheVariants.{Done, Fault}
 use Rattle.filser.specs.declared.task.SalvageTask.{SalvageTask}
 use Rattle.volume.specs.declared.error.VolumeError.TheVariants as volume
 
@@ -59,6 +61,9 @@ pub record AreFound (facts : FileFacts) (task : SalvageTask) (sink full : Option
   pub saved : IsSalvageRun facts memory_state task.export (copy_findings faults) files doubtful unnamed findings
       sink full middle last result
   pub ends : IsEnding status result
+  -- status 0 only of a copy that is whole and stands for files, unless those of one directory were wanted
+  pub accepted : status ≡ Done → task.export.owner ≡ None → (copy_findings faults ≡ []) × ((stored : Files File)
+      × SettledStands (memory_state copy).size (held copy.blocks) stored)
 
 -- These are the files that contents stand for: all are in their place, and no others were found, unless free blocks
 -- were searched too.
@@ -68,6 +73,20 @@ pub record AreAllFound (contents : Contents) (task : SalvageTask) (files doubtfu
   pub sure : doubtful ≡ []
   pub alone : (task.search ≡ Every → ⊥) → unnamed ≡ []
 
+-- the task without a search for files that no directory names
+abbrev pub named_only : SalvageTask → SalvageTask
+named_only task = record { export = task.export; search = Named }
+
+-- Memory ran out in the search: only what directories name was found and saved, and that is said at the end, unless the
+-- run broke off before.
+pub record ArePartFound (facts : FileFacts) (task : SalvageTask) (sink full : Option (List ℕ)) (copy last : Memory)
+    (faults : CopyFaults) (files doubtful unnamed : List SavedFile) (status : Status) : Type 0 where
+  pub between : Option (List ℕ)
+  pub reached : Status
+  pub found : AreFound facts (named_only task) sink between copy last faults files doubtful unnamed reached
+  pub said : MatchResult found.result (λ tally. IsLine between full status 4 (codes "?No memory: search incomplete"))
+      (λ error. (full ≡ between) × (status ≡ Fault))
+
 -- No survey was made of a copy, which was read and is `last` now, as is printed: memory ran out, or the copy failed.
 pub record IsUnsurveyed (copy last : Memory) (sink full : Option (List ℕ)) (status : Status) : Type 0 where
   pub error : SalvageError
@@ -75,6 +94,35 @@ pub record IsUnsurveyed (copy last : Memory) (sink full : Option (List ℕ)) (st
   pub cause : ((error ≡ NoMemory) × (last.failures ≡ copy.failures))
       ⊎ ((error ≡ Device) × (last.failures ≡ one_more copy.failures))
   pub said : IsLine sink full status (start_code (start_error error)) (start_text (start_error error))
+
+-- What was found in a copy, all or as far as memory went, was saved, and is right.
+abbrev pub IsSaved : FileFacts → SalvageTask → Option (List ℕ) → Option (List ℕ) → Memory → Memory → CopyFaults
+    → Status → (List SavedFile → List SavedFile → List SavedFile → Type 0) → Type 0
+IsSaved facts task sink full copy last faults status AreRight =
+    (files : List SavedFile) × (doubtful : List SavedFile) × (unnamed : List SavedFile)
+    × (AreFound facts task sink full copy last faults files doubtful unnamed status
+    ⊎ ((task.search ≡ Named → ⊥) × ArePartFound facts task sink full copy last faults files doubtful unnamed status))
+    × AreRight files doubtful unnamed
+
+-- The files that were found are exactly those that a copy stands for, if it stands for any.
+abbrev pub AreExact : SalvageTask → Memory → List SavedFile → List SavedFile → List SavedFile → Type 0
+AreExact task copy files doubtful unnamed = (stored : Files File)
+    → SettledStands (length copy.blocks) (held copy.blocks) stored
+    → AreAllFound (held copy.blocks) task files doubtful unnamed stored
+
+-- This became of a copy, which is `last` at the end.
+abbrev pub IsCopySalvaged : FileFacts → SalvageTask → Option (List ℕ) → Option (List ℕ) → Memory → Memory → CopyFaults
+    → Status → Type 0
+IsCopySalvaged facts task sink full copy last faults status =
+    IsSaved facts task sink full copy last faults status (AreExact task copy) ⊎ IsUnsurveyed copy last sink full status
+
+-- The same without a search for files that no directory names.
+abbrev pub IsPartSalvaged : FileFacts → SalvageTask → Option (List ℕ) → Option (List ℕ) → Memory → Memory → CopyFaults
+    → Status → Type 0
+IsPartSalvaged facts task sink full copy last faults status =
+    ((files : List SavedFile) × (doubtful : List SavedFile) × (unnamed : List SavedFile)
+    × ArePartFound facts task sink full copy last faults files doubtful unnamed status
+    × AreExact task copy files doubtful unnamed) ⊎ IsUnsurveyed copy last sink full status
 
 -- The disk, which `tail` bytes follow, was copied, and this became of the copy, which is `last` at the end. Each time
 -- that a block couldn't be read is a failure of the disk.
@@ -87,11 +135,10 @@ pub record IsCopied (facts : FileFacts) (task : SalvageTask) (tail : ℕ) (sink 
   pub lengths : AreLengths begun.size tail (length copy.blocks) faults
   pub few : faults.unread ≤ 2 * begun.size + 2
   pub failures : end.failures ≡ failed_by faults.unread begun.failures
-  pub ran : ((files : List SavedFile) × (doubtful : List SavedFile) × (unnamed : List SavedFile)
-      × AreFound facts task sink full copy last faults files doubtful unnamed status
-      -- if all was read, and the disk stood for files, exactly these were found
-      × (end.honest → faults.unread ≡ 0 → (stored : Files File) → Stands begun.size begun.contents stored
-      → AreAllFound (held copy.blocks) task files doubtful unnamed stored))
+  -- if all was read, and the disk stood for files, exactly these were found
+  pub ran : IsSaved facts task sink full copy last faults status (λ files doubtful unnamed.
+      end.honest → faults.unread ≡ 0 → (stored : Files File) → Stands begun.size begun.contents stored
+      → AreAllFound (held copy.blocks) task files doubtful unnamed stored)
       ⊎ IsUnsurveyed copy last sink full status
 
 -- Why a disk isn't copied: neither it nor a home copy has a volume's size; or a home copy couldn't be read, and its

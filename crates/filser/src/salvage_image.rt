@@ -1,27 +1,40 @@
 //! `salvage`: what is whole on an image, written to files of the host.
-ghost use Rattle.std.specs.Prelude.{◌≡◌, ◌≢◌, ◌⊎◌, List, length};
-ghost use Rattle.blockdisk.specs.Common.{SameDisk, held};
+ghost use Rattle.std.specs.Prelude.{◌≡◌, ◌≢◌, codes, length};
+ghost use Rattle.blockdisk.specs.Common.{SameDisk};
 ghost use Rattle.imagefile.specs.Common.{assumed_in};
-ghost use Rattle.spec_image.specs.Common.{File as StoredFile, Files, IsVolumeSize, SettledStands};
+ghost use Rattle.spec_image.specs.Common.{IsVolumeSize};
 ghost use Rattle.collection.specs.Common.{MayRescue};
 ghost use Rattle.salvage.specs.Common.{copy_findings};
-ghost use Rattle.salvage.specs.declared.saved.SavedFile.{SavedFile};
-ghost use Rattle.filser.specs.Common.{AreAllFound, AreFound, IsOnSalvaged, IsSalvagedFrom, IsUnsurveyed, start_error};
+ghost use Rattle.filser.specs.Common.{IsCopySalvaged, IsLine, IsOnSalvaged, IsPartSalvaged, IsSalvagedFrom};
+ghost use Rattle.filser.specs.Common.{start_error};
 ghost use Rattle.filser.specs.declared.status.Status.TheVariants.{BadArguments};
 
 use crate::fault::report_fault;
 use crate::host::Shelf;
 use crate::image::{NamedImage, failure_of, open_start};
+use crate::message::print_line;
 use crate::program::refuse_image;
 use crate::reasons::report_ending;
 use crate::serve_image::{ending, say};
-use crate::{Disks, Host, ImageDisks, OpeningLeave, Refusal, Run, SalvageTask, Seen, Status};
+use crate::{
+    Disks, Host, ImageDisks, Message, OpeningLeave, Refusal, Run, SalvageTask, Seen, Status,
+};
 use blockdisk::Disk;
 use collection::save_survey;
-use salvage::{Copied, SalvageError, survey_disk};
+use salvage::{Copied, SalvageError, Search, survey_disk};
 use std::alloc::Global;
 use std::io::Write;
 use volume::VolumeError;
+
+/// Prints that files that no directory names weren't searched for, since memory ran out.
+fn say_incomplete<W: Write>(writer: &mut W) -> Status
+    ensures serving { result ≢ BadArguments }
+    ensures said { IsLine (W.contents writer.old) (W.contents writer.new) result 4
+        (codes "?No memory: search incomplete") }
+{
+    let message = Message::Plain("?No memory: search incomplete");
+    print_line(writer, &message, Status::Fault)
+}
 
 /// Returns why there is no survey, as a start's error.
 fn start_error(error: SalvageError) -> VolumeError
@@ -34,7 +47,60 @@ fn start_error(error: SalvageError) -> VolumeError
     }
 }
 
-/// Writes what is whole in a copy of a disk to files of the host, and reports why the run ended.
+/// Writes what is whole of the files that directories name in a copy of a disk to files of the host, and says that the
+/// others weren't searched for.
+fn salvage_named<H: Host, W: Write, E: Write>(
+    shelf: &Shelf<'_, H>,
+    alloc: Global,
+    copied: &mut Copied,
+    task: &SalvageTask<'_>,
+    writer: &mut W,
+    errors: &mut E,
+) -> Status
+    requires size { IsVolumeSize (length copied.old.disk.blocks) }
+    requires findings { copied.old.findings.items ≡ copy_findings copied.old.faults }
+    requires allowed { MayRescue (H.facts shelf.now.host.now).files task.now.export }
+    ensures serving { result ≢ BadArguments }
+    ensures ran { IsPartSalvaged (H.facts shelf.now.host.now).files task.now (W.contents writer.old)
+        (W.contents writer.new) copied.old.disk copied.new.disk copied.old.faults result }
+{
+    match survey_disk(alloc, &mut copied.disk, Search::Named) {
+        Ok(found) => {
+            let saved = save_survey(shelf, alloc, &task.export, &found, copied, writer, errors);
+            report_ending(errors, ending(saved), &saved);
+            match saved {
+                Ok(_) => say_incomplete(writer),
+                Err(_) => Status::Fault,
+            }
+        }
+        Err(error) => say(writer, Refusal::Start(start_error(error))),
+    }
+}
+
+/// Goes on after memory ran out: without a search for files that no directory names, if there was one.
+fn salvage_part<H: Host, W: Write, E: Write>(
+    shelf: &Shelf<'_, H>,
+    alloc: Global,
+    copied: &mut Copied,
+    task: &SalvageTask<'_>,
+    writer: &mut W,
+    errors: &mut E,
+) -> Status
+    requires size { IsVolumeSize (length copied.old.disk.blocks) }
+    requires findings { copied.old.findings.items ≡ copy_findings copied.old.faults }
+    requires allowed { MayRescue (H.facts shelf.now.host.now).files task.now.export }
+    ensures serving { result ≢ BadArguments }
+    ensures ran { IsCopySalvaged (H.facts shelf.now.host.now).files task.now (W.contents writer.old)
+        (W.contents writer.new) copied.old.disk copied.new.disk copied.old.faults result }
+{
+    match task.search {
+        Search::Named => say(writer, Refusal::Start(VolumeError::NoMemory)),
+        Search::Used | Search::Every => salvage_named(shelf, alloc, copied, task, writer, errors),
+    }
+}
+
+/// Writes what is whole in a copy of a disk to files of the host, and reports why the run ended. If memory runs out in
+/// the search for files that no directory names, the others are saved.
 fn salvage_copy<H: Host, W: Write, E: Write>(
     shelf: &Shelf<'_, H>,
     alloc: Global,
@@ -47,13 +113,8 @@ fn salvage_copy<H: Host, W: Write, E: Write>(
     requires findings { copied.old.findings.items ≡ copy_findings copied.old.faults }
     requires allowed { MayRescue (H.facts shelf.now.host.now).files task.now.export }
     ensures serving { result ≢ BadArguments }
-    ensures ran { ((files : List SavedFile) × (doubtful : List SavedFile) × (unnamed : List SavedFile)
-        × AreFound (H.facts shelf.now.host.now).files task.now (W.contents writer.old) (W.contents writer.new)
-        copied.old.disk copied.new.disk copied.old.faults files doubtful unnamed result
-        × ((stored : Files StoredFile) → SettledStands (length copied.old.disk.blocks)
-        (held copied.old.disk.blocks) stored
-        → AreAllFound (held copied.old.disk.blocks) task.now files doubtful unnamed stored))
-        ⊎ IsUnsurveyed copied.old.disk copied.new.disk (W.contents writer.old) (W.contents writer.new) result }
+    ensures ran { IsCopySalvaged (H.facts shelf.now.host.now).files task.now (W.contents writer.old)
+        (W.contents writer.new) copied.old.disk copied.new.disk copied.old.faults result }
 {
     match survey_disk(alloc, &mut copied.disk, task.search) {
         Ok(found) => {
@@ -62,6 +123,7 @@ fn salvage_copy<H: Host, W: Write, E: Write>(
             report_ending(errors, status, &saved);
             status
         }
+        Err(SalvageError::NoMemory) => salvage_part(shelf, alloc, copied, task, writer, errors),
         Err(error) => say(writer, Refusal::Start(start_error(error))),
     }
 }

@@ -100,7 +100,7 @@ none_on (Some n) A B then is = tt
 
 -- The counts of all files.
 
-zeros_count : (size : ℕ) (zeros : List ℕ) → zeros ≡ replicate size 0 → CountTo zeros (λ m. 0)
+pub zeros_count : (size : ℕ) (zeros : List ℕ) → zeros ≡ replicate size 0 → CountTo zeros (λ m. 0)
 zeros_count size zeros is m = ap (λ (l : List ℕ). slice_index l m) is
     ∙ ⊎_elim (λ below. get_or-replicate size m 0 0 below)
     (λ past. get_or_past (replicate size 0) m 0 (let long : length (replicate {A = ℕ} size 0) ≡ size

@@ -16,7 +16,8 @@ use Rattle.salvage.specs.Common.{told_of, uses}
 use Rattle.salvage.specs.Findings.{HasBlock, IsNamedTwice}
 use Rattle.salvage.specs.declared.saved.SavedFile.{SavedFile}
 use Rattle.salvage.specs.declared.finding.Defect.{Defect}
-use Rattle.salvage.specs.declared.finding.Defect.TheVariants.{Start, FreeBlock, TwoOwners, Missing, Surplus, Tail}
+use Rattle.salvage.specs.declared.finding.Defect.TheVariants.{Start, FreeBlock, TwoOwners, Crowded, Missing, Surplus}
+use Rattle.salvage.specs.declared.finding.Defect.TheVariants.{Tail}
 use Rattle.salvage.proofs.Members.{contains_none}
 use Rattle.spec_image.proofs.Common.{all_append, each_times}
 use Rattle.directory.proofs.GatheredEntries.{all_of}
@@ -158,6 +159,7 @@ module _ (size layout : ℕ) (contents : Contents) (counts : List ℕ) (named : 
     (is_free n (block_inside size layout contents file n is.1 doubt.0).below).0 doubt.1,
   )
   doubt_concerns file (TwoOwners n) is doubt = absurd doubt
+  doubt_concerns file (Crowded n) is doubt = absurd doubt
   doubt_concerns file (Missing n) is doubt = absurd doubt
   doubt_concerns file (Surplus n) is doubt = absurd doubt
   doubt_concerns file (Tail n) is doubt = absurd doubt
@@ -188,6 +190,7 @@ module _ (size layout : ℕ) (contents : Contents) (counts : List ℕ) (named : 
   )
   spoiled_concerns file (FreeBlock n) is spoiled = absurd spoiled
   spoiled_concerns file (TwoOwners n) is spoiled = absurd spoiled
+  spoiled_concerns file (Crowded n) is spoiled = absurd spoiled
   spoiled_concerns file (Missing n) is spoiled = absurd spoiled
   spoiled_concerns file (Surplus n) is spoiled = absurd spoiled
   spoiled_concerns file (Tail n) is spoiled = absurd spoiled
@@ -233,6 +236,7 @@ unnamed_stands size layout contents file fault is spoiled = by fault spoiled
     }
     by (FreeBlock n) met = absurd met
     by (TwoOwners n) met = absurd met
+    by (Crowded n) met = absurd met
     by (Missing n) met = absurd met
     by (Surplus n) met = absurd met
     by (Tail n) met = absurd met

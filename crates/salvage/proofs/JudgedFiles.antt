@@ -82,6 +82,21 @@ module _ (contents : Contents) (counts : List ℕ) (free : List Bool) (is_named 
       (λ doubt. let few = judged_few f xs taken doubt.2 doubt.4 doubt.6 in omega arith)
       (λ bad. let few = judged_few f xs taken left bad.2 bad.4 in omega arith) others) judged
 
+  -- nor taken and left
+  pub judged_both : (f : SavedFile → ℕ) (xs taken left : List SavedFile) (told : List Finding)
+      → AreJudged contents counts free is_named xs taken left told → total f taken + total f left ≤ total f xs
+  unfolding AreJudged
+  judged_both f [] taken left told judged =
+      let none = ap (total f) judged.0 in
+      let none_left = ap (total f) judged.1 in
+      omega arith
+  judged_both f (x ∷ xs) taken left told judged = ⊎_elim
+      (λ good. let is = ap (total f) good.2 in let few = judged_both f xs good.1 left told good.3 in omega arith)
+      (λ others. ⊎_elim
+      (λ doubt. let is = ap (total f) doubt.3 in let few = judged_both f xs taken doubt.2 doubt.4 doubt.6 in
+      omega arith)
+      (λ bad. let few = judged_both f xs taken left bad.2 bad.4 in omega arith) others) judged
+
   -- What held for each holds for each that was taken, and these are good.
   pub judged_all : (P : SavedFile → Type 0) (xs taken left : List SavedFile) (told : List Finding)
       → AreJudged contents counts free is_named xs taken left told → AllByRecursion P xs

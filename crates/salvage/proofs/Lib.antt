@@ -6,13 +6,16 @@ pub mod CarriedFacts
 pub mod SavedFiles
 pub mod Refusals
 pub mod ReadSteps
+pub mod OwnedFiles
 pub mod ChainsRead
 pub mod TreesRead
 pub mod ReadLoops
 pub mod ReadChains
 pub mod Members
 pub mod CountLaws
+pub mod ClaimLaws
 pub mod JudgedFiles
+pub mod KeptFiles
 pub mod Faulty
 pub mod TakenFiles
 pub mod PrimesRead

@@ -27,6 +27,7 @@ use Rattle.volume.specs.declared.error.VolumeError.TheVariants.{NoMemory, Failed
 use Rattle.directory.proofs.GatheredEntries.{all_of}
 use Rattle.salvage.specs.Common.{Concerns, IsFaultAt, IsFaultOf, IsFaultOfChain, IsFaultOfDirectory, IsFaultOfMaster}
 use Rattle.salvage.specs.Common.{AreApart, AreTheFiles, IsAmong, IsDamaged, IsDirectoryLoss, IsFileSaved, IsFinding}
+use Rattle.salvage.specs.Common.{IsFull}
 use Rattle.salvage.specs.Common.{IsInPlace, IsLostBy, IsNamedRead, IsSavedAs, IsStartFault, IsSurveyed, IsTold}
 use Rattle.salvage.specs.Common.{IsWholeFile, blocks_of, claims, place_in}
 use Rattle.salvage.specs.Findings.{HasBlock}
@@ -35,7 +36,8 @@ use Rattle.salvage.specs.declared.search.Search.{Search}
 use Rattle.salvage.specs.declared.survey.Survey.{Survey}
 use Rattle.salvage.specs.declared.finding.Cost.{Cost}
 use Rattle.salvage.specs.declared.finding.Defect.{Defect}
-use Rattle.salvage.specs.declared.finding.Defect.TheVariants.{Start, FreeBlock, TwoOwners, Missing, Surplus, Tail}
+use Rattle.salvage.specs.declared.finding.Defect.TheVariants.{Start, FreeBlock, TwoOwners, Crowded, Missing, Surplus}
+use Rattle.salvage.specs.declared.finding.Defect.TheVariants.{Tail}
 use Rattle.salvage.specs.declared.finding.Finding.{Finding}
 use Rattle.salvage.proofs.CarriedFacts.{element_has}
 use Rattle.salvage.proofs.SavedFiles.{blocks_at}
@@ -270,6 +272,8 @@ module _ (size : ℕ) (contents : Contents) (m : DiskMap) (s : HasMap size conte
           no_free_block size contents m s place.ppn there.directory place.name there.file n there.directory_is
           there.file_is some (there.inside n some).below is.1
       by (TwoOwners n) is = is
+      by (Crowded n) is = let many = is.1.many in
+          let few = claimed_once layout is.1.files is.1.each is.1.apart n in omega arith
       by (Missing n) is = is
       by (Surplus n) is = is
       by (Tail n) is = is
@@ -359,6 +363,7 @@ module _ (size : ℕ) (contents : Contents) (m : DiskMap) (s : HasMap size conte
   no_start_fault P none (Start e) is = none e is
   no_start_fault P none (FreeBlock n) is = is
   no_start_fault P none (TwoOwners n) is = is
+  no_start_fault P none (Crowded n) is = is
   no_start_fault P none (Missing n) is = is
   no_start_fault P none (Surplus n) is = is
   no_start_fault P none (Tail n) is = is
@@ -391,7 +396,7 @@ module _ (size : ℕ) (contents : Contents) (m : DiskMap) (s : HasMap size conte
     placed ppn name prime named = ⊎_elim found
         (λ lost. absurd (⊎_elim
         (λ unread. no_told layout findings ppn name survey.stand (record {
-          fault = Start (BadRetrieval unread.block);
+          fault = unread.fault;
           among = unread.among;
         }))
         (no_directory_loss layout findings ppn survey.stand) lost))
@@ -403,7 +408,8 @@ module _ (size : ℕ) (contents : Contents) (m : DiskMap) (s : HasMap size conte
             (λ other. absurd (no_told layout findings is.file.stored.prime.ppn is.file.stored.prime.file survey.stand
             other.1))
             (element_has
-            (λ file. Contains saved file ⊎ ((Contains doubtful file ⊎ IsDamaged contents file) × IsTold findings file))
+            (λ file. Contains saved file ⊎ ((Contains doubtful file
+            ⊎ (IsDamaged contents file ⊎ IsFull survey.read file)) × IsTold findings file))
             survey.read is.file survey.judged is.among)
 
     -- The files of the map are saved.

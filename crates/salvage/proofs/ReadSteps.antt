@@ -9,7 +9,7 @@ use Rattle.std.specs.Ordering.{eq_by_cmp}
 use Rattle.words36.specs.declared.names.FileName.{FileName}
 use Rattle.blockdisk.specs.Common.{Contents}
 use Rattle.spec_image.specs.Common.{Node, items, SpecMasterEntry, SpecFileEntry, file_words, InSpace, Place, name_cmp}
-use Rattle.spec_image.specs.Common.{place_of, LeadsAlong, IsFileNamed}
+use Rattle.spec_image.specs.Common.{place_of, LeadsAlong}
 use Rattle.spec_image.proofs.Common.{some_none, find_first, found_holds, name_total, name_exact, none_front}
 use Rattle.volume.specs.Common.{IsOtherPlace}
 use Rattle.volume.specs.declared.error.VolumeError.{VolumeError}
@@ -17,8 +17,9 @@ use Rattle.volume.specs.declared.error.VolumeError.TheVariants.{BadRetrieval}
 use Rattle.volume.proofs.common.Lookups.{all_both, all_each, all_push}
 use Rattle.salvage.specs.Common.{AreApartChains, AreApartFrom, IsFaultAt, IsFileWalked, IsFinding, IsIn, IsLostBy}
 use Rattle.salvage.specs.Common.{IsNamedIn, IsNoFault, IsReadTo, IsToldDirectory}
-use Rattle.salvage.specs.Common.{IsToldFile, MayRefuse, IsNamedRead, IsRead, place_in}
+use Rattle.salvage.specs.Common.{IsToldFile, IsUnreadable, MayRefuse, IsNamedRead, place_in}
 use Rattle.salvage.specs.declared.saved.SavedFile.{SavedFile}
+use Rattle.salvage.specs.declared.finding.Defect.{Defect}
 use Rattle.salvage.specs.declared.finding.Defect.TheVariants.{Start}
 use Rattle.salvage.specs.declared.finding.Finding.{Finding}
 use Rattle.salvage.proofs.CarriedFacts.{moved, on_ok, on_ok_both}
@@ -142,11 +143,11 @@ module _ (size layout : ℕ) (contents : Contents) (directories : List SpecMaste
           (λ here. here.1 (ap (λ (k : FileName). find name_cmp k names) names_are ∙ new_name)) is
 
   -- or what is wrong with it was reported
-  pub file_told : (n : ℕ) → IsFaultAt size layout contents (Start (BadRetrieval n)) (cost.File ppn e.0)
+  pub file_told : (fault : Defect) → IsUnreadable fault → IsFaultAt size layout contents fault (cost.File ppn e.0)
       → IsReadTo size layout contents directories ppn (names ++ e ∷ []) files
-      (findings ++ record { fault = Start (BadRetrieval n); costs = cost.File ppn e.0 } ∷ [])
-  file_told n stands =
-      let finding : Finding = record { fault = Start (BadRetrieval n); costs = cost.File ppn e.0 } in
+      (findings ++ record { fault = fault; costs = cost.File ppn e.0 } ∷ [])
+  file_told fault bad stands =
+      let finding : Finding = record { fault = fault; costs = cost.File ppn e.0 } in
       let more = one_finding_more files findings finding in
       record {
         read = r.read;
@@ -159,33 +160,11 @@ module _ (size layout : ℕ) (contents : Contents) (directories : List SpecMaste
         told_names = all_push (IsToldFile files (findings ++ finding ∷ []) ppn) names e
             (all_each (IsToldFile files findings ppn) (IsToldFile files (findings ++ finding ∷ []) ppn) names
             (told_carried files findings files (findings ++ finding ∷ []) more ppn) r.told_names)
-            (inr (unread_here findings n ppn e.0));
+            (inr (unread_here findings fault ppn e.0 bad));
         chains = chains_carried files findings files (findings ++ finding ∷ []) more size contents directories r.chains;
       }
 
--- A file, with what pushing it returns.
-
-pub file_added_on : {T E : Type 0} (size layout : ℕ) (contents : Contents) (directories : List SpecMasterEntry)
-    (ppn : ℕ)
-    (names : List SpecFileEntry) (files files' : List SavedFile) (findings : List Finding) (e : SpecFileEntry)
-    (f : SavedFile)
-    (result : Result T E) → IsReadTo size layout contents directories ppn names files findings
-    → find nat_cmp ppn directories ≡ None → find name_cmp e.0 names ≡ None
-    → IsNamedIn size layout contents ppn e → InSpace size e.1 → IsRead size layout contents f → f.at ≡ e.1
-    → f.stored.prime.ppn ≡ ppn → f.stored.prime.file ≡ e.0 → OnOk result (files' ≡ files ++ f ∷ [])
-    → OnOk result (IsReadTo size layout contents directories ppn (names ++ e ∷ []) files' findings)
-file_added_on size layout contents directories ppn names files files' findings e f result r new_directory new_name named
-    inside read at own_ppn own_name saved = on_ok result
-    (λ pushed. subst
-    (λ (fs : List SavedFile). IsReadTo size layout contents directories ppn (names ++ e ∷ []) fs findings) (sym pushed)
-    (file_added size layout contents directories ppn names files findings r e f new_directory new_name
-    (record {
-      read = read;
-      inside = subst (InSpace size) (sym at) inside;
-      named = subst (λ (p : Place). IsFileNamed size contents layout p f.at)
-          (λ i. place_of (sym own_ppn i) (sym own_name i))
-          (subst (λ (n : ℕ). IsFileNamed size contents layout (place_of ppn e.0) n) (sym at) named);
-    }) at own_ppn own_name)) saved
+-- What is wrong with a file, with what pushing it returns.
 
 pub file_told_on : {T E : Type 0} (size layout : ℕ) (contents : Contents) (directories : List SpecMasterEntry) (ppn : ℕ)
     (names : List SpecFileEntry) (files : List SavedFile) (findings findings' : List Finding) (e : SpecFileEntry)
@@ -202,7 +181,7 @@ file_told_on size layout contents directories ppn names files findings findings'
     (⊎_elim (λ none. absurd (is none))
     (λ met. subst (λ (x : VolumeError). IsReadTo size layout contents directories ppn (names ++ e ∷ []) files
     (findings ++ record { fault = Start x; costs = cost.File ppn e.0 } ∷ [])) (sym met.1)
-    (file_told size layout contents directories ppn names files findings r e met.0
+    (file_told size layout contents directories ppn names files findings r e (Start (BadRetrieval met.0)) tt
     (subst (λ (x : VolumeError). IsFaultAt size layout contents (Start x) (cost.File ppn e.0)) met.1
     (fault_stands size layout contents (cost.File ppn e.0) fault refused is)))) unread)) told stands
 
@@ -217,7 +196,7 @@ elsewhere_told_on size layout contents directories ppn names files findings find
     told = on_ok result
     (λ pushed. subst
     (λ (fs : List Finding). IsReadTo size layout contents directories ppn (names ++ e ∷ []) files fs) (sym pushed)
-    (file_told size layout contents directories ppn names files findings r e e.1
+    (file_told size layout contents directories ppn names files findings r e (Start (BadRetrieval e.1)) tt
     (record { prime = e.1; named = named; concerns = (inside, inr (refl, other)) }))) told
 
 -- And the file was read on the disk as it is later.

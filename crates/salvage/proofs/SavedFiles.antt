@@ -9,13 +9,12 @@ use Rattle.blockdisk.specs.Common.{Contents}
 use Rattle.spec_image.specs.Common.{Place, times, SpecPrime, prime_block, first_extension}
 use Rattle.spec_image.proofs.Common.{all_append, some_same, times-append, times_other, prime_ext_same, prime_same}
 use Rattle.retrieval.specs.Common.{with_length, IsVersionAt}
-use Rattle.volume.specs.declared.error.VolumeError.TheVariants.{BadRetrieval}
 use Rattle.words36.specs.declared.names.FileName.{FileName}
 use Rattle.salvage.specs.Common.{AreAdded, AreApart, IsAmong, IsFinding, IsRead, place_in, IsLostBy, IsUnread}
+use Rattle.salvage.specs.Common.{IsUnreadable}
 use Rattle.salvage.specs.declared.saved.SavedFile.{SavedFile}
 use Rattle.salvage.specs.declared.finding.Cost.{Cost}
 use Rattle.salvage.specs.declared.finding.Defect.{Defect}
-use Rattle.salvage.specs.declared.finding.Defect.TheVariants.{Start}
 use Rattle.salvage.specs.declared.finding.Finding.{Finding}
 use Rattle.salvage.specs.declared.finding.Cost.TheVariants as cost
 
@@ -100,9 +99,9 @@ lost_more findings more costs is = record {
 pub unread_more : (findings more : List Finding) (ppn : ℕ) (name : FileName) → IsUnread findings ppn name
     → IsUnread (findings ++ more) ppn name
 unread_more findings more ppn name is = record {
-  block = is.block;
-  among = Contains-append_left findings more
-      (record { fault = Start (BadRetrieval is.block); costs = cost.File ppn name }) is.among;
+  fault = is.fault;
+  among = Contains-append_left findings more (record { fault = is.fault; costs = cost.File ppn name }) is.among;
+  is = is.is;
 }
 
 pub one_finding_more : (files : List SavedFile) (findings : List Finding) (finding : Finding)
@@ -120,11 +119,12 @@ lost_here findings fault costs = record {
   among = Contains-push findings (record { fault = fault; costs = costs });
 }
 
-pub unread_here : (findings : List Finding) (n ppn : ℕ) (name : FileName)
-    → IsUnread (findings ++ record { fault = Start (BadRetrieval n); costs = cost.File ppn name } ∷ []) ppn name
-unread_here findings n ppn name = record {
-  block = n;
-  among = Contains-push findings (record { fault = Start (BadRetrieval n); costs = cost.File ppn name });
+pub unread_here : (findings : List Finding) (fault : Defect) (ppn : ℕ) (name : FileName) → IsUnreadable fault
+    → IsUnread (findings ++ record { fault = fault; costs = cost.File ppn name } ∷ []) ppn name
+unread_here findings fault ppn name is = record {
+  fault = fault;
+  among = Contains-push findings (record { fault = fault; costs = cost.File ppn name });
+  is = is;
 }
 
 -- Findings that were added in two steps.

@@ -24,13 +24,11 @@ use Rattle.salvage.specs.Common.{claims}
 use Rattle.salvage.specs.declared.saved.SavedFile.{SavedFile}
 use Rattle.salvage.specs.declared.search.Search.{Search}
 use Rattle.salvage.specs.declared.search.Search.TheVariants.{Named, Used, Every}
-use Rattle.salvage.specs.declared.finding.Defect.TheVariants.{Start}
 use Rattle.salvage.specs.declared.finding.Finding.{Finding}
 use Rattle.salvage.specs.declared.survey.Survey.{Survey}
 use Rattle.salvage.proofs.CarriedFacts.{element_has}
 use Rattle.salvage.proofs.Faulty.{claims_each}
 use Rattle.salvage.proofs.NothingLost.{file_there, mapped_blocks, no_directory_loss, no_told, read_is_mapped}
-use Rattle.volume.specs.declared.error.VolumeError.TheVariants.{BadRetrieval}
 
 -- Sums.
 
@@ -176,7 +174,7 @@ module _ (size : ℕ) (contents : Contents) (m : DiskMap) (s : HasMap size conte
       file_claims ppn d name f at has n some = ⊎_elim found
           (λ lost. absurd (⊎_elim
           (λ unread. no_told size contents m s layout findings ppn name survey.stand (record {
-            fault = Start (BadRetrieval unread.block);
+            fault = unread.fault;
             among = unread.among;
           }))
           (no_directory_loss size contents m s layout findings ppn survey.stand) lost))

@@ -9,13 +9,17 @@ pub use Rattle.salvage.specs.Extensions.{IsPrimeLink}
 pub use Rattle.salvage.specs.FreeBlocks.{IsFreeBlock, IsSearched, IsUntold, MayBeUsed, TellsBits}
 pub use Rattle.salvage.specs.Saved.{AreAlone, AreApart, FitsDisk, IsAmong, IsInPlace, IsItsOwn, IsNamedRead}
 pub use Rattle.salvage.specs.Saved.{IsPrimeAt, IsRead, IsWholeFile, blocks_of, claims, place_in}
-pub use Rattle.salvage.specs.BlockCounts.{CountTo}
+pub use Rattle.salvage.specs.BlockCounts.{AreClaimed, CountTo}
 pub use Rattle.salvage.specs.Findings.{Concerns, ConcernsUnnamed, IsDamagedAt, IsFaultAt, IsFaultOf, IsFaultOfChain}
-pub use Rattle.salvage.specs.Findings.{IsFaultOfDirectory, IsFaultOfMaster, IsFaultOfStart, IsFinding, IsStartFault}
+pub use Rattle.salvage.specs.Findings.{IsCrowded, IsCrowdedAt, IsEarlier, IsFaultOfDirectory, IsFaultOfMaster}
+pub use Rattle.salvage.specs.Findings.{IsFaultOfStart, IsFinding, IsStartFault}
 pub use Rattle.salvage.specs.Surveys.{AreAllSaved, AreChainsTold, AreTheFiles, IsDirectoryLoss, IsFileSaved, IsLostBy}
-pub use Rattle.salvage.specs.Surveys.{AreJudgedAs, IsDamaged, IsSavedAs, IsSurveyed, IsTold, IsUnread}
-pub use Rattle.salvage.specs.Trees.{AreAdded, AreMarked, ArePlaced, AreTaken, IsScanned, IsTree}
-pub use Rattle.salvage.specs.TreeRead.{AreApartChains, IsChainRefusal, IsIn, IsNamedIn, IsNoFault, IsReadTo}
+pub use Rattle.salvage.specs.Surveys.{AreJudgedAs, IsDamaged, IsFull, IsSavedAs, IsSurveyed, IsTold, IsUnread}
+pub use Rattle.salvage.specs.Surveys.{IsUnreadable}
+pub use Rattle.salvage.specs.Trees.{AreAdded, AreBySize, AreKept, AreMarked, ArePlaced, AreTaken, IsFullBy, IsScanned}
+pub use Rattle.salvage.specs.Trees.{IsTree}
+pub use Rattle.salvage.specs.TreeRead.{AreApartChains, AreOwners, IsChainRefusal, IsIn, IsKept, IsNamedIn, IsNoFault}
+pub use Rattle.salvage.specs.TreeRead.{IsReadTo}
 pub use Rattle.salvage.specs.TreeRead.{IsToldDirectory}
 pub use Rattle.salvage.specs.TreeRead.{IsToldFile, MayRefuse}
 pub use Rattle.salvage.specs.TakenFiles.{IsAlone, IsDoubted, IsDoubtful, IsGood, IsSpoiled, IsUndamaged, IsVerdict}

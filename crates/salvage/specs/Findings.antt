@@ -1,5 +1,5 @@
 -- What is found wrong with a disk, and which file it costs.
-use Rattle.std.specs.Prelude.{◌≡◌, ℕ, ◌<◌, ◌≤◌, ◌⊎◌, ◌∷◌, ◌++◌, [], List, None}
+use Rattle.std.specs.Prelude.{◌≡◌, ℕ, ◌<◌, ◌≤◌, ◌⊎◌, ◌∷◌, ◌++◌, [], List, None, length}
 use Rattle.std.specs.List.{AllByRecursion}
 use Rattle.blockdisk.specs.Common.{Contents}
 use Rattle.spec_image.specs.Common.{file_words, master_words, InSpace, IsBadHome, IsBadMasterBlock, IsBadVersion}
@@ -14,11 +14,11 @@ use Rattle.volume.specs.declared.error.VolumeError.TheVariants.{BlockTwice, Tabl
 use Rattle.salvage.specs.Chains.{IsChainBlock, IsChainShared}
 use Rattle.salvage.specs.Extensions.{HasOwners, IsExtension}
 use Rattle.salvage.specs.FreeBlocks.{IsFreeBlock, IsUntold}
-use Rattle.salvage.specs.Saved.{AreApart, IsNamedRead, IsPrimeAt, IsRead, claims}
+use Rattle.salvage.specs.Saved.{AreApart, IsNamedRead, IsPrimeAt, IsRead, blocks_of, claims}
 use Rattle.salvage.specs.declared.saved.SavedFile.{SavedFile}
 use Rattle.salvage.specs.declared.finding.Cost.{Cost}
 use Rattle.salvage.specs.declared.finding.Defect.{Defect}
-use Rattle.salvage.specs.declared.finding.Defect.TheVariants.{Start, FreeBlock, TwoOwners}
+use Rattle.salvage.specs.declared.finding.Defect.TheVariants.{Start, FreeBlock, TwoOwners, Crowded}
 use Rattle.salvage.specs.declared.finding.Finding.{Finding}
 use Rattle.salvage.specs.declared.finding.Cost.TheVariants as cost
 
@@ -40,6 +40,13 @@ pub record IsNamedTwice (size layout : ℕ) (contents : Contents) (n : ℕ) : Ty
   pub apart : AreApart files
   pub twice : 2 ≤ claims files n
 
+-- Block n occurs at least five times in files of this kind, which are at different prime blocks.
+pub record IsCrowded (IsOne : SavedFile → Type 0) (n : ℕ) : Type 0 where
+  pub files : List SavedFile
+  pub each : AllByRecursion IsOne files
+  pub apart : AreApart files
+  pub many : 5 ≤ claims files n
+
 -- The fault is there, and it concerns the file of a place whose directory names this prime block.
 abbrev pub Concerns : ℕ → ℕ → Contents → Place → ℕ → Defect → Type 0
 Concerns size layout contents place prime (Start (BadRetrieval n)) = InSpace size n
@@ -50,6 +57,8 @@ Concerns size layout contents place prime (Start (BlockTwice n)) = HasBlock layo
     × (IsNamedTwice size layout contents n ⊎ IsChainBlock size layout contents n)
 Concerns size layout contents place prime (FreeBlock n) = HasBlock layout contents place prime n
     × IsFreeBlock size contents n
+Concerns size layout contents place prime (Crowded n) = HasBlock layout contents place prime n
+    × IsCrowded (IsNamedRead size layout contents) n
 Concerns size layout contents place prime fault = ⊥
 
 -- A directory names this file, and it has the fault.
@@ -68,12 +77,27 @@ pub record IsDamagedAt (size layout : ℕ) (contents : Contents) (prime n : ℕ)
   pub among : 0 < times n file.stored.version.blocks
   pub damaged : contents n ≡ None
 
+-- It comes before this file, or with it: a directory names it, or it has at most as many data blocks.
+abbrev pub IsEarlier : ℕ → ℕ → Contents → SavedFile → SavedFile → Type 0
+IsEarlier size layout contents file other = IsNamedRead size layout contents other
+    ⊎ (IsRead size layout contents other
+    × (length other.stored.version.blocks ≤ length file.stored.version.blocks))
+
+-- The file at this prime block has block n, which earlier files and it have five times.
+pub record IsCrowdedAt (size layout : ℕ) (contents : Contents) (prime n : ℕ) : Type 0 where
+  pub file : SavedFile
+  pub at_is : file.at ≡ prime
+  pub read : IsRead size layout contents file
+  pub among : 0 < times n (blocks_of file)
+  pub crowded : IsCrowded (IsEarlier size layout contents file) n
+
 -- The fault is there, and it concerns the file at this prime block.
 abbrev pub ConcernsUnnamed : ℕ → ℕ → Contents → ℕ → Defect → Type 0
 ConcernsUnnamed size layout contents prime (Start (BadRetrieval n)) = IsBadVersion size contents layout prime n
 ConcernsUnnamed size layout contents prime (Start (BadData n)) = IsDamagedAt size layout contents prime n
 ConcernsUnnamed size layout contents prime (TwoOwners n) = IsExtension size layout contents prime n
     × HasOwners size layout contents prime n
+ConcernsUnnamed size layout contents prime (Crowded n) = IsCrowdedAt size layout contents prime n
 ConcernsUnnamed size layout contents prime fault = ⊥
 
 -- A prime block says that its file is of this place, and that file has the fault.

@@ -1,5 +1,5 @@
 -- What a survey of a disk finds: the files that are whole, and what every fault costs.
-use Rattle.std.specs.Prelude.{◌≡◌, ◌⊎◌, ℕ, ◌<◌, ◌≤◌, List, Contains, Some, None}
+use Rattle.std.specs.Prelude.{◌≡◌, ◌⊎◌, ℕ, ◌+◌, ◌<◌, ◌≤◌, List, Contains, Some, None}
 use Rattle.std.specs.List.{AllByRecursion}
 use Rattle.words36.specs.declared.names.FileName.{FileName}
 use Rattle.blockdisk.specs.Common.{Contents}
@@ -11,12 +11,12 @@ use Rattle.salvage.specs.Chains.{IsChainShared}
 use Rattle.salvage.specs.FreeBlocks.{IsSearched}
 use Rattle.salvage.specs.Findings.{IsFinding}
 use Rattle.salvage.specs.Saved.{AreAlone, AreApart, IsAmong, IsInPlace, IsNamedRead, IsPrimeAt, IsWholeFile, claims}
-use Rattle.salvage.specs.Saved.{place_in}
+use Rattle.salvage.specs.Saved.{blocks_of, place_in}
 use Rattle.salvage.specs.declared.saved.SavedFile.{SavedFile}
 use Rattle.salvage.specs.declared.search.Search.{Search}
 use Rattle.salvage.specs.declared.finding.Cost.{Cost}
 use Rattle.salvage.specs.declared.finding.Defect.{Defect}
-use Rattle.salvage.specs.declared.finding.Defect.TheVariants.{Start}
+use Rattle.salvage.specs.declared.finding.Defect.TheVariants.{Start, Crowded}
 use Rattle.salvage.specs.declared.finding.Finding.{Finding}
 use Rattle.salvage.specs.declared.finding.Cost.TheVariants as cost
 
@@ -25,10 +25,17 @@ pub record IsLostBy (findings : List Finding) (costs : Cost) : Type 0 where
   pub fault : Defect
   pub among : Contains findings (record { fault = fault; costs = costs })
 
--- One of the findings is that a retrieval block of the file of this place is bad.
+-- A retrieval block is bad, or is one of too many files.
+abbrev pub IsUnreadable : Defect → Type 0
+IsUnreadable (Start (BadRetrieval n)) = Unit {0}
+IsUnreadable (Crowded n) = Unit {0}
+IsUnreadable fault = ⊥
+
+-- One of the findings is that a retrieval block of the file of this place is bad, or is one of too many files.
 pub record IsUnread (findings : List Finding) (ppn : ℕ) (name : FileName) : Type 0 where
-  pub block : ℕ
-  pub among : Contains findings (record { fault = Start (BadRetrieval block); costs = cost.File ppn name })
+  pub fault : Defect
+  pub among : Contains findings (record { fault = fault; costs = cost.File ppn name })
+  pub is : IsUnreadable fault
 
 -- The names of its directory are lost, or those of all directories.
 abbrev pub IsDirectoryLoss : List Finding → ℕ → Type 0
@@ -51,16 +58,22 @@ pub record IsDamaged (contents : Contents) (file : SavedFile) : Type 0 where
   pub among : 0 < times block file.stored.version.blocks
   pub damaged : contents block ≡ None
 
--- Of these files of directories each is in its place; or it is doubtful, or a block of it is damaged, and a finding
--- says why.
+-- A block of the file occurs at least five times in these files.
+pub record IsFull (files : List SavedFile) (file : SavedFile) : Type 0 where
+  pub block : ℕ
+  pub among : 0 < times block (blocks_of file)
+  pub many : 5 ≤ claims files block
+
+-- Of these files of directories each is in its place; or it is doubtful, or a block of it is damaged or in too many of
+-- them, and a finding says why.
 abbrev pub AreJudgedAs : Contents → List SavedFile → List SavedFile → List Finding → List SavedFile → Type 0
 AreJudgedAs contents files doubtful findings read = AllByRecursion (λ file. Contains files file
-    ⊎ ((Contains doubtful file ⊎ IsDamaged contents file) × IsTold findings file)) read
+    ⊎ ((Contains doubtful file ⊎ (IsDamaged contents file ⊎ IsFull read file)) × IsTold findings file)) read
 
 pub record IsSurveyed (size layout : ℕ) (contents : Contents) (search : Search)
     (files doubtful unnamed : List SavedFile) (findings : List Finding) : Type 0 where
-  -- what was read of the files that directories name: each of them, unless its retrieval blocks are bad, or the names
-  -- of its directory are lost
+  -- what was read of the files that directories name: each of them, unless its retrieval blocks are bad or those of too
+  -- many files, or the names of its directory are lost
   pub read : List SavedFile
   pub read_named : AllByRecursion (IsNamedRead size layout contents) read
   pub read_all : (ppn : ℕ) (name : FileName) (prime : ℕ) → IsFileNamed size contents layout (place_of ppn name) prime
@@ -78,6 +91,8 @@ pub record IsSurveyed (size layout : ℕ) (contents : Contents) (search : Search
   pub unnamed_alone : AreAlone size layout contents unnamed
   pub unnamed_at : AllByRecursion (λ file. InSpace size file.at × IsSearched search size contents file.at
       × (claims read file.at ≡ 0)) unnamed
+  -- a block is in four places at most
+  pub few : (n : ℕ) → claims files n + claims doubtful n + claims unnamed n ≤ 4
   -- each fault is there
   pub stand : AllByRecursion (IsFinding size layout contents) findings
   -- each prime block that is searched is that of a file that is found, or a fault costs that file

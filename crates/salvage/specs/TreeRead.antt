@@ -1,21 +1,21 @@
 -- How far the directories of a disk were read, and what a reader may be refused with.
-use Rattle.std.specs.Prelude.{◌≡◌, ◌⊎◌, ℕ, List, Contains, Some, None}
+use Rattle.std.specs.Prelude.{◌≡◌, ◌⊎◌, ℕ, ◌<◌, ◌≤◌, List, [], ◌∷◌, ◌++◌, Contains, Some, None, slice_index}
 use Rattle.std.specs.List.{AllByRecursion}
 use Rattle.std.specs.Ordering.{nat_cmp}
 use Rattle.std.specs.FinMap.Entries.{find}
 use Rattle.words36.specs.declared.names.FileName.{FileName}
 use Rattle.blockdisk.specs.Common.{Contents}
 use Rattle.spec_image.specs.Common.{Node, items, SpecMasterEntry, SpecFileEntry, file_words, name_cmp, place_of}
-use Rattle.spec_image.specs.Common.{LeadsAlong}
+use Rattle.spec_image.specs.Common.{LeadsAlong, times}
 use Rattle.spec_image.specs.Common.{IsFileNamed}
 use Rattle.volume.specs.declared.error.VolumeError.{VolumeError}
 use Rattle.salvage.specs.Chains.{IsFileWalked}
 use Rattle.salvage.specs.Findings.{IsFaultAt, IsFinding}
-use Rattle.salvage.specs.Saved.{AreApart, IsAmong, IsNamedRead}
+use Rattle.salvage.specs.Saved.{AreApart, IsAmong, IsNamedRead, claims}
 use Rattle.salvage.specs.Surveys.{IsLostBy, IsUnread}
 use Rattle.salvage.specs.declared.saved.SavedFile.{SavedFile}
 use Rattle.salvage.specs.declared.finding.Cost.{Cost}
-use Rattle.salvage.specs.declared.finding.Defect.TheVariants.{Start}
+use Rattle.salvage.specs.declared.finding.Defect.TheVariants.{Start, Crowded}
 use Rattle.salvage.specs.declared.finding.Finding.{Finding}
 use Rattle.volume.specs.declared.error.VolumeError.TheVariants as volume
 use Rattle.salvage.specs.declared.finding.Cost.TheVariants as cost
@@ -42,7 +42,7 @@ abbrev pub IsIn : List SpecMasterEntry → ℕ → List SpecFileEntry → SavedF
 IsIn directories ppn names file = (find nat_cmp file.stored.prime.ppn directories ≡ None → ⊥)
     ⊎ ((file.stored.prime.ppn ≡ ppn) × (find name_cmp file.stored.prime.file names ≡ None → ⊥))
 
--- The file of this entry is among these, or its retrieval blocks are bad, as was found.
+-- The file of this entry is among these, or its retrieval blocks are bad or those of too many files, as was found.
 abbrev pub IsToldFile : List SavedFile → List Finding → ℕ → SpecFileEntry → Type 0
 IsToldFile files findings ppn entry = IsAmong files (place_of ppn entry.0) entry.1
     ⊎ IsUnread findings ppn entry.0
@@ -61,6 +61,17 @@ AreApartChains size contents findings directories = (d e : SpecMasterEntry) (n :
     → Contains directories e → (d.0 ≡ e.0 → ⊥) → IsFileWalked size contents d.1.1 n
     → IsFileWalked size contents e.1.1 n
     → IsLostBy findings (cost.Directory d.0) ⊎ IsLostBy findings (cost.Directory e.0)
+
+-- No block has more owners than files that have it.
+abbrev pub AreOwners : List ℕ → List SavedFile → Type 0
+AreOwners owners files = (n : ℕ) → slice_index owners n ≤ claims files n
+
+-- The file was added after the others; or an extension of it has four owners, and that was reported.
+abbrev pub IsKept : List ℕ → SavedFile → Cost → List SavedFile → List SavedFile → List Finding → List Finding → Type 0
+IsKept owners file costs files files' findings findings' =
+    ((files' ≡ files ++ file ∷ []) × (findings' ≡ findings))
+    ⊎ ((n : ℕ) × (0 < times n file.stored.version.ribs) × (slice_index owners n ≡ 4) × (files' ≡ files)
+    × (findings' ≡ findings ++ record { fault = Crowded n; costs = costs } ∷ []))
 
 -- These directories were read, and these names of this one.
 pub record IsReadTo (size layout : ℕ) (contents : Contents) (directories : List SpecMasterEntry) (ppn : ℕ)

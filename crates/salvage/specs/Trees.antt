@@ -1,17 +1,19 @@
 -- The steps of a survey: what directories name, what else is on the disk, and which of these files are in their place.
-use Rattle.std.specs.Prelude.{◌≡◌, ◌⊎◌, ℕ, ◌≤◌, List, [], ◌++◌, Bool, Contains}
+use Rattle.std.specs.Prelude.{◌≡◌, ◌⊎◌, ℕ, ◌+◌, ◌<◌, ◌≤◌, List, [], ◌∷◌, ◌++◌, Bool, Contains, length, slice_index}
 use Rattle.std.specs.List.{AllByRecursion}
 use Rattle.words36.specs.declared.names.FileName.{FileName}
 use Rattle.blockdisk.specs.Common.{Contents}
-use Rattle.spec_image.specs.Common.{InSpace, place_of, IsFileNamed}
+use Rattle.spec_image.specs.Common.{InSpace, place_of, times, total, IsFileNamed}
 use Rattle.salvage.specs.Chains.{AreChains}
 use Rattle.salvage.specs.Findings.{IsFinding}
 use Rattle.salvage.specs.FreeBlocks.{IsSearched}
 use Rattle.salvage.specs.Saved.{AreAlone, AreApart, IsAmong, IsInPlace, IsNamedRead, IsPrimeAt, IsRead, IsWholeFile}
-use Rattle.salvage.specs.Saved.{claims}
+use Rattle.salvage.specs.Saved.{blocks_of, claims}
 use Rattle.salvage.specs.Surveys.{AreChainsTold, AreJudgedAs, IsDirectoryLoss, IsLostBy, IsTold, IsUnread}
+use Rattle.salvage.specs.TakenFiles.{loss_of, told_of}
 use Rattle.salvage.specs.declared.saved.SavedFile.{SavedFile}
 use Rattle.salvage.specs.declared.search.Search.{Search}
+use Rattle.salvage.specs.declared.finding.Defect.TheVariants.{Crowded}
 use Rattle.salvage.specs.declared.finding.Finding.{Finding}
 use Rattle.salvage.specs.declared.finding.Cost.TheVariants as cost
 
@@ -56,6 +58,39 @@ pub record ArePlaced (size layout : ℕ) (contents : Contents) (named files doub
   pub once : (n : ℕ) → claims files n ≤ 1
   pub doubted : AllByRecursion (λ file. Contains named file × IsWholeFile size layout contents file
       × IsTold findings file) doubtful
+
+-- It is reported of one of these files that a block of it occurs five times in those before it and in it, with what was
+-- claimed before them.
+pub record IsFullBy (is_named : Bool) (claimed : List ℕ) (candidates : List SavedFile) (finding : Finding)
+    : Type 0 where
+  pub before : List SavedFile
+  pub file : SavedFile
+  pub after : List SavedFile
+  pub block : ℕ
+  pub candidates_are : candidates ≡ before ++ file ∷ after
+  pub finding_is : finding ≡ told_of is_named file (Crowded block)
+  pub among : 0 < times block (blocks_of file)
+  pub many : 5 ≤ slice_index claimed block + (claims before block + times block (blocks_of file))
+
+-- The blocks of these files were claimed, file by file: those were kept of which no block would have more than four
+-- claims, and the others were reported.
+pub record AreKept (is_named : Bool) (old new : List ℕ) (candidates kept : List SavedFile)
+    (findings told : List Finding) : Type 0 where
+  pub added : List Finding
+  pub told_is : told ≡ findings ++ added
+  pub only : AllByRecursion (Contains candidates) kept
+  pub few : (f : SavedFile → ℕ) → total f kept ≤ total f candidates
+  pub held : (n : ℕ) → slice_index old n + claims kept n ≤ slice_index new n
+  pub grown : (n : ℕ) → slice_index new n ≤ slice_index old n + claims candidates n
+  pub stand : AllByRecursion (IsFullBy is_named old candidates) added
+  pub each : AllByRecursion (λ file. Contains kept file ⊎ ((block : ℕ) × (0 < times block (blocks_of file))
+      × (5 ≤ slice_index old block + claims candidates block)
+      × IsLostBy added (loss_of is_named file))) candidates
+
+-- None of these files has more data blocks than one after it.
+abbrev pub AreBySize : List SavedFile → Type 0
+AreBySize files = (before after : List SavedFile) (file : SavedFile) → files ≡ before ++ file ∷ after
+    → AllByRecursion (λ other. length other.stored.version.blocks ≤ length file.stored.version.blocks) before
 
 -- Of these files that no directory names, the whole ones were taken.
 pub record AreTaken (size layout : ℕ) (contents : Contents) (unnamed files : List SavedFile)

@@ -15,6 +15,9 @@ pub enum Defect {
     /// An extension that continues two files.
     #[error("block {0} reached twice")]
     TwoOwners(u32),
+    /// A block that is claimed five times, by files that are read before this one and by it.
+    #[error("block {0} reached five times")]
+    Crowded(u32),
     /// How many blocks of the volume the image doesn't have: it was cut.
     #[error("blocks missing at the end: {0}")]
     Missing(u32),

@@ -16,6 +16,7 @@
 #![tactic(auto)]
 
 mod chains;
+mod claims;
 mod copied;
 mod counts;
 mod error;

@@ -10,6 +10,7 @@ ghost use Rattle.salvage.specs.declared.search.Search.TheVariants.{Every};
 ghost use Rattle.volume.specs.declared.error.VolumeError.TheVariants.{Device as VolumeDevice};
 ghost use Rattle.volume.specs.declared.error.VolumeError.TheVariants.{NoMemory as VolumeNoMemory};
 
+use crate::claims::Claims;
 use crate::free::find_free;
 use crate::lists::push_finding;
 use crate::scan::scan;
@@ -31,7 +32,8 @@ pub struct Survey {
     pub files: Vec<SavedFile>,
     /// The files that a directory names and that are whole, but with a block that may not be theirs.
     pub doubtful: Vec<SavedFile>,
-    /// The whole files that no directory names. A block may be in several of them, and in the files before.
+    /// The whole files that no directory names, those with the fewest data blocks first. A block is in at most four of
+    /// all these files.
     pub unnamed: Vec<SavedFile>,
     /// What is wrong, and what it costs.
     pub findings: Vec<Finding>,
@@ -128,8 +130,17 @@ fn survey_volume<D: Disk>(
         &free,
         &mut findings,
     )?;
-    let taken = take_named(alloc, disk, named, &chains, &free, &mut findings)?;
-    let unnamed = take_unnamed(alloc, disk, found, &free, &mut findings)?;
+    let mut claimed = Claims::new(alloc, disk.blocks())?;
+    let taken = take_named(
+        alloc,
+        disk,
+        named,
+        &chains,
+        &free,
+        &mut claimed,
+        &mut findings,
+    )?;
+    let unnamed = take_unnamed(alloc, disk, found, &free, &mut claimed, &mut findings)?;
     confirm(alloc, disk, &mut findings)?;
     Ok(Survey {
         layout,

@@ -1,15 +1,19 @@
 //! The choice of the files that are whole, and of those that are in their place.
-ghost use Rattle.std.specs.Prelude.{◌≡◌, ◌∷◌, ℕ, [], IfOk, IfSome, IfNone, IsErrOf, OnOk, length};
+ghost use Rattle.std.specs.Prelude.{◌≡◌, ◌+◌, ◌≤◌, ◌∷◌, ◌++◌, ℕ, [], List, IfOk, IfErr, IfSome, IfNone, IsErrOf};
+ghost use Rattle.std.specs.Prelude.{IsPermutation, OnOk, length, replicate, slice_index};
 ghost use Rattle.std.specs.List.{AllByRecursion};
 ghost use Rattle.blockdisk.specs.Common.{SameDisk, one_more};
 ghost use Rattle.changeset.specs.Common.{OnlyReads};
 ghost use Rattle.spec_image.specs.Common.{IsVolumeSize};
-ghost use Rattle.salvage.specs.Common.{AreAdded, AreApart, AreFree, AreMarked, ArePlaced, AreTaken, CountTo};
+ghost use Rattle.salvage.specs.Common.{AreAdded, AreApart, AreBySize, AreFree, AreKept, AreMarked, ArePlaced};
+ghost use Rattle.salvage.specs.Common.{AreTaken, CountTo};
 ghost use Rattle.salvage.specs.Common.{FitsDisk, IsAlone, IsDoubted, IsNamedRead, IsRead, IsVerdict, Judges};
-ghost use Rattle.salvage.specs.Common.{loss_of, uses};
-ghost use Rattle.salvage.specs.declared.error.SalvageError.TheVariants.{Device, NotVolume};
+ghost use Rattle.salvage.specs.Common.{claims, loss_of, uses};
+ghost use Rattle.salvage.specs.declared.saved.SavedFile.{SavedFile};
+ghost use Rattle.salvage.specs.declared.error.SalvageError.TheVariants.{Device, NoMemory, NotVolume};
 
 use crate::chains::Chains;
+use crate::claims::Claims;
 use crate::counts::Counts;
 use crate::lists::{push_file, push_finding};
 use crate::{Cost, Defect, Finding, SalvageError, SavedFile};
@@ -117,6 +121,9 @@ fn take_file<D: Disk>(
         → OnOk result (Judges (D.state disk.old).contents counts.now free.now is_named (file ∷ [])
         taken.old.files.items taken.new.files.items taken.old.doubtful.items taken.new.doubtful.items
         findings.old.items findings.new.items) }
+    // On every disk a block is taken at most as often as it is in the file.
+    ensures few { OnOk result ((n : ℕ) → claims taken.new.files.items n
+        ≤ claims taken.old.files.items n + claims (file ∷ []) n) }
     ensures fits { AllByRecursion (FitsDisk (D.state disk.old).size) taken.old.files.items
         → OnOk result (AllByRecursion (FitsDisk (D.state disk.old).size) taken.new.files.items) }
     ensures fits_too { AllByRecursion (FitsDisk (D.state disk.old).size) taken.old.doubtful.items
@@ -156,6 +163,9 @@ fn take_each<D: Disk>(
         → OnOk result (Judges (D.state disk.old).contents counts.now free.now are_named candidates.items
         taken.old.files.items taken.new.files.items taken.old.doubtful.items taken.new.doubtful.items
         findings.old.items findings.new.items) }
+    // On every disk a block is taken at most as often as it is in these files.
+    ensures few { OnOk result ((n : ℕ) → claims taken.new.files.items n
+        ≤ claims taken.old.files.items n + claims candidates.items n) }
     ensures fits { AllByRecursion (FitsDisk (D.state disk.old).size) taken.old.files.items
         → OnOk result (AllByRecursion (FitsDisk (D.state disk.old).size) taken.new.files.items) }
     ensures fits_too { AllByRecursion (FitsDisk (D.state disk.old).size) taken.old.doubtful.items
@@ -198,8 +208,49 @@ fn count_uses(
     Ok(counts)
 }
 
+/// Claims the blocks of these files, file by file, and keeps those of which no block would have more than four claims.
+/// The others are reported.
+fn keep_few(
+    alloc: Global,
+    candidates: Vec<SavedFile>,
+    are_named: bool,
+    claimed: &mut Claims,
+    findings: &mut Vec<Finding>,
+) -> Result<Vec<SavedFile>, SalvageError>
+    requires fit { AllByRecursion (FitsDisk (length claimed.old)) candidates.items }
+    ensures kept { IfOk result (λ kept. AreKept are_named claimed.old claimed.new candidates.items kept.items
+        findings.old.items findings.new.items) }
+    ensures few { ((n : ℕ) → slice_index claimed.old n ≤ 4) → OnOk result ((n : ℕ) → slice_index claimed.new n ≤ 4) }
+    ensures fits { IfOk result (λ kept. AllByRecursion (FitsDisk (length claimed.old)) kept.items) }
+    ensures long { length claimed.new ≡ length claimed.old }
+    ensures device { IsErrOf result Device → ⊥ }
+    ensures range { IsErrOf result NotVolume → ⊥ }
+{
+    let mut kept = Vec::new(alloc);
+    for file in candidates {
+        let costs = loss_of(&file, are_named);
+        match claimed.claim_file(&file) {
+            None => push_file(&mut kept, file)?,
+            Some(block) => push_finding(findings, Defect::Crowded(block), costs)?,
+        }
+    }
+    Ok(kept)
+}
+
+/// Puts the files with the fewest data blocks first; the order of others with as many stays.
+fn smallest_first(files: &mut Vec<SavedFile>) -> Result<(), SalvageError>
+    ensures same { IsPermutation files.old.items files.new.items }
+    ensures sorted { OnOk result (AreBySize files.new.items) }
+    ensures only { IfErr result (λ error. error ≡ NoMemory) }
+{
+    match files.sort_by_key(|file| file.stored.version.count()) {
+        Ok(()) => Ok(()),
+        Err(_) => Err(SalvageError::NoMemory),
+    }
+}
+
 /// Takes those of the files that directories name that are whole and in their place: no block of one is in another, in
-/// a chain, or free. The other whole ones are doubtful. Of those that no directory names it takes the whole ones.
+/// a chain, or free. The other whole ones are doubtful, if no block of one is in four files before it.
 /// What is wrong with a file that isn't in its place, or isn't whole, is reported.
 ///
 /// # Errors
@@ -211,6 +262,7 @@ pub fn take_named<D: Disk>(
     named: Vec<SavedFile>,
     chains: &Chains,
     free: &Reached,
+    claimed: &mut Claims,
     findings: &mut Vec<Finding>,
 ) -> Result<Taken, SalvageError>
     requires volume { IsVolumeSize (D.state disk.old).size }
@@ -218,6 +270,7 @@ pub fn take_named<D: Disk>(
     requires master { length chains.now.master ≡ (D.state disk.old).size }
     requires directories { length chains.now.directories ≡ (D.state disk.old).size }
     requires free { length free.now ≡ (D.state disk.old).size }
+    requires unclaimed { claimed.old ≡ replicate (D.state disk.old).size 0 }
     ensures placed { (D.state disk.new).honest → (layout : ℕ)
         → AllByRecursion (IsNamedRead (D.state disk.old).size layout (D.state disk.old).contents) named.items
         → AreApart named.items
@@ -234,6 +287,12 @@ pub fn take_named<D: Disk>(
         → AreFree (D.state disk.old).size (D.state disk.old).contents free.now
         → IfOk result (λ taken. AreAdded (D.state disk.old).size layout
         (D.state disk.old).contents findings.old.items findings.new.items) }
+    // The blocks of those that were taken are claimed, and no others than those of these files.
+    ensures held { (D.state disk.new).honest → IfOk result (λ taken. (n : ℕ)
+        → claims taken.files.items n + claims taken.doubtful.items n ≤ slice_index claimed.new n) }
+    ensures grown { OnOk result ((n : ℕ) → slice_index claimed.new n ≤ claims named.items n) }
+    ensures few { OnOk result ((n : ℕ) → slice_index claimed.new n ≤ 4) }
+    ensures long { length claimed.new ≡ length claimed.old }
     ensures fits { IfOk result (λ taken. AllByRecursion (FitsDisk (D.state disk.old).size) taken.files.items) }
     ensures fits_too { IfOk result (λ taken.
         AllByRecursion (FitsDisk (D.state disk.old).size) taken.doubtful.items) }
@@ -244,15 +303,17 @@ pub fn take_named<D: Disk>(
     ensures served { (IsErrOf result Device → ⊥) → (D.state disk.new).failures ≡ (D.state disk.old).failures }
 {
     let counts = count_uses(alloc, disk.blocks(), &named, chains, free)?;
+    let kept = keep_few(alloc, named, true, claimed, findings)?;
     let mut taken = Taken {
         files: Vec::new(alloc),
         doubtful: Vec::new(alloc),
     };
-    take_each(disk, &counts, free, named, true, &mut taken, findings)?;
+    take_each(disk, &counts, free, kept, true, &mut taken, findings)?;
     Ok(taken)
 }
 
-/// Takes those of the files that no directory names that are whole, and reports the others.
+/// Takes those of the files that no directory names that are whole, those with the fewest data blocks first, as long as
+/// no block of one is in four files before it, and reports the others.
 ///
 /// # Errors
 ///
@@ -262,20 +323,28 @@ pub fn take_unnamed<D: Disk>(
     disk: &mut D,
     unnamed: Vec<SavedFile>,
     free: &Reached,
+    claimed: &mut Claims,
     findings: &mut Vec<Finding>,
 ) -> Result<Vec<SavedFile>, SalvageError>
     requires volume { IsVolumeSize (D.state disk.old).size }
     requires unnamed { AllByRecursion (FitsDisk (D.state disk.old).size) unnamed.items }
     requires free { length free.now ≡ (D.state disk.old).size }
+    requires long { length claimed.old ≡ (D.state disk.old).size }
     ensures taken { (D.state disk.new).honest → (layout : ℕ)
         → AllByRecursion (IsRead (D.state disk.old).size layout (D.state disk.old).contents) unnamed.items
         → AreApart unnamed.items
         → IfOk result (λ files. AreTaken (D.state disk.old).size layout (D.state disk.old).contents unnamed.items
         files.items findings.new.items) }
+    // Blocks that files of directories, `earlier`, claimed stay claimed.
     ensures added { (D.state disk.new).honest → (layout : ℕ)
         → AllByRecursion (IsRead (D.state disk.old).size layout (D.state disk.old).contents) unnamed.items
+        → (earlier : List SavedFile)
+        → AllByRecursion (IsNamedRead (D.state disk.old).size layout (D.state disk.old).contents) earlier
+        → AreApart (earlier ++ unnamed.items) → ((n : ℕ) → slice_index claimed.old n ≤ claims earlier n)
         → IfOk result (λ files. AreAdded (D.state disk.old).size layout
         (D.state disk.old).contents findings.old.items findings.new.items) }
+    ensures few { ((n : ℕ) → slice_index claimed.old n ≤ 4)
+        → IfOk result (λ files. (n : ℕ) → slice_index claimed.old n + claims files.items n ≤ 4) }
     ensures fits { IfOk result (λ files. AllByRecursion (FitsDisk (D.state disk.old).size) files.items) }
     ensures range { IsErrOf result NotVolume → ⊥ }
     ensures reads { (D.state disk.new).honest → OnlyReads (D.state disk.old) (D.state disk.new) }
@@ -283,11 +352,14 @@ pub fn take_unnamed<D: Disk>(
     ensures failed { IsErrOf result Device → (D.state disk.new).failures ≡ one_more (D.state disk.old).failures }
     ensures served { (IsErrOf result Device → ⊥) → (D.state disk.new).failures ≡ (D.state disk.old).failures }
 {
+    let mut candidates = unnamed;
+    smallest_first(&mut candidates)?;
+    let kept = keep_few(alloc, candidates, false, claimed, findings)?;
     let counts = Counts::new(alloc, disk.blocks())?;
     let mut taken = Taken {
         files: Vec::new(alloc),
         doubtful: Vec::new(alloc),
     };
-    take_each(disk, &counts, free, unnamed, false, &mut taken, findings)?;
+    take_each(disk, &counts, free, kept, false, &mut taken, findings)?;
     Ok(taken.files)
 }

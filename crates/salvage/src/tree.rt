@@ -14,13 +14,15 @@ ghost use Rattle.directory.specs.Common.{IsChain, IsOn, nodes_of, viewed, IsBadC
 ghost use Rattle.volume.specs.Common.{file_view, master_view, home_in};
 ghost use Rattle.volume.specs.declared.error.VolumeError.TheVariants.{BadDirectory, BlockTwice};
 ghost use Rattle.volume.specs.declared.error.VolumeError.TheVariants.{Device as DeviceFault};
-ghost use Rattle.salvage.specs.Common.{AreApartFrom, AreMarked, AreMarkedTo, AreWalked, FitsDisk, IsChainRefusal};
+ghost use Rattle.salvage.specs.Common.{AreApartFrom, AreMarked, AreMarkedTo, AreOwners, AreWalked, FitsDisk};
+ghost use Rattle.salvage.specs.Common.{IsChainRefusal, IsKept};
 ghost use Rattle.salvage.specs.Common.{IsFileWalked, IsLostBy, IsNamedIn, IsNoFault, IsReadTo, IsTree};
 ghost use Rattle.salvage.specs.declared.error.SalvageError.TheVariants.{Device, NoMemory, NotVolume};
 ghost use Rattle.salvage.specs.declared.finding.Cost.TheVariants.{Directories, Directory};
 ghost use Rattle.salvage.specs.declared.finding.Defect.TheVariants.{Start};
 
 use crate::chains::{Chains, mark_chain, mark_master};
+use crate::claims::Claims;
 use crate::lists::{push_file, push_finding};
 use crate::place::is_prime_at;
 use crate::{Cost, Defect, Finding, SalvageError, SavedFile};
@@ -43,6 +45,39 @@ pub struct Tree {
     pub findings: Vec<Finding>,
     /// The blocks of the chains, if there are files.
     pub chains: Chains,
+}
+
+/// What was read so far.
+#[derive(Drop)]
+struct Reading {
+    /// The files.
+    files: Vec<SavedFile>,
+    /// What is wrong.
+    findings: Vec<Finding>,
+    /// Which of the files have each block as an extension.
+    owners: Claims,
+}
+
+impl Reading {
+    /// Returns what was read of nothing, for `size` blocks.
+    ///
+    /// # Errors
+    ///
+    /// `NoMemory` if there is no memory for it.
+    fn new(alloc: Global, size: u32) -> Result<Self, SalvageError>
+        ensures files { IfOk result (λ reading. reading.files.items ≡ []) }
+        ensures findings { IfOk result (λ reading. reading.findings.items ≡ []) }
+        ensures owners { IfOk result (λ reading. reading.owners ≡ replicate size 0) }
+        ensures only { IfErr result (λ error. error ≡ NoMemory) }
+    {
+        let owners = Claims::new(alloc, size)?;
+        let (files, findings) = (Vec::new(alloc), Vec::new(alloc));
+        Ok(Reading {
+            files,
+            findings,
+            owners,
+        })
+    }
 }
 
 /// Reports why a reader was refused, if that is a fault of the contents.
@@ -115,6 +150,24 @@ fn load_chain<E: ChainEntry, D: Disk>(
     }
 }
 
+/// Adds a file after the others, if no extension of it is that of four of them; otherwise that is reported, and costs
+/// this.
+fn keep_file(file: SavedFile, costs: Cost, reading: &mut Reading) -> Result<(), SalvageError>
+    requires fits { FitsDisk (length reading.old.owners) file }
+    ensures kept { OnOk result (IsKept reading.old.owners file costs reading.old.files.items reading.new.files.items
+        reading.old.findings.items reading.new.findings.items) }
+    ensures held { AreOwners reading.old.owners reading.old.files.items
+        → OnOk result (AreOwners reading.new.owners reading.new.files.items) }
+    ensures owners { length reading.new.owners ≡ length reading.old.owners }
+    ensures only { IfErr result (λ error. error ≡ NoMemory) }
+{
+    if let Some(block) = reading.owners.full_among(file.stored.version.ribs()) {
+        return push_finding(&mut reading.findings, Defect::Crowded(block), costs);
+    }
+    let _ = reading.owners.claim_all(file.stored.version.ribs());
+    push_file(&mut reading.files, file)
+}
+
 /// Reads the file of an entry, and adds it after the others, or what is wrong with it after the findings.
 fn add_file<D: Disk>(
     alloc: Global,
@@ -122,22 +175,26 @@ fn add_file<D: Disk>(
     layout: Layout,
     ppn: Ppn,
     entry: &FileEntry,
-    files: &mut Vec<SavedFile>,
-    findings: &mut Vec<Finding>,
+    reading: &mut Reading,
 ) -> Result<(), SalvageError>
     // What the caller ensures.
     requires volume { IsVolumeSize (D.state disk.old).size }
     requires inside { InSpace (D.state disk.old).size entry.now.prime }
+    requires owners { length reading.old.owners ≡ (D.state disk.old).size }
     // What was read.
-    ensures read { (D.state disk.new).honest → (directories : List SpecMasterEntry) (names : List SpecFileEntry)
+    ensures read { (D.state disk.new).honest → AreOwners reading.old.owners reading.old.files.items
+        → (directories : List SpecMasterEntry) (names : List SpecFileEntry)
         → IsNamedIn (D.state disk.old).size (layout_number layout) (D.state disk.old).contents ppn (file_view entry.now)
         → find nat_cmp ppn directories ≡ None → find name_cmp entry.now.name names ≡ None
         → IsReadTo (D.state disk.old).size (layout_number layout) (D.state disk.old).contents directories ppn names
-        files.old.items findings.old.items
+        reading.old.files.items reading.old.findings.items
         → OnOk result (IsReadTo (D.state disk.old).size (layout_number layout) (D.state disk.old).contents directories
-        ppn (names ++ file_view entry.now ∷ []) files.new.items findings.new.items) }
-    ensures fits { AllByRecursion (FitsDisk (D.state disk.old).size) files.old.items
-        → OnOk result (AllByRecursion (FitsDisk (D.state disk.old).size) files.new.items) }
+        ppn (names ++ file_view entry.now ∷ []) reading.new.files.items reading.new.findings.items) }
+    ensures held { AreOwners reading.old.owners reading.old.files.items
+        → OnOk result (AreOwners reading.new.owners reading.new.files.items) }
+    ensures owners { length reading.new.owners ≡ length reading.old.owners }
+    ensures fits { AllByRecursion (FitsDisk (D.state disk.old).size) reading.old.files.items
+        → OnOk result (AllByRecursion (FitsDisk (D.state disk.old).size) reading.new.files.items) }
     ensures range { IsErrOf result NotVolume → ⊥ }
     // The device: what failed, and how often.
     ensures reads { (D.state disk.new).honest → OnlyReads (D.state disk.old) (D.state disk.new) }
@@ -145,15 +202,13 @@ fn add_file<D: Disk>(
     ensures failed { IsErrOf result Device → (D.state disk.new).failures ≡ one_more (D.state disk.old).failures }
     ensures served { (IsErrOf result Device → ⊥) → (D.state disk.new).failures ≡ (D.state disk.old).failures }
 {
+    let costs = Cost::File(ppn, entry.name);
     match read_named(alloc, disk, layout, ppn, entry.name, entry.prime) {
-        Ok(stored) => push_file(
-            files,
-            SavedFile {
-                at: entry.prime,
-                stored,
-            },
-        ),
-        Err(refusal) => report_refusal(findings, refusal, Cost::File(ppn, entry.name)),
+        Ok(stored) => {
+            let at = entry.prime;
+            keep_file(SavedFile { at, stored }, costs, reading)
+        }
+        Err(refusal) => report_refusal(&mut reading.findings, refusal, costs),
     }
 }
 
@@ -165,22 +220,26 @@ fn add_named<D: Disk>(
     layout: Layout,
     ppn: Ppn,
     entry: &FileEntry,
-    files: &mut Vec<SavedFile>,
-    findings: &mut Vec<Finding>,
+    reading: &mut Reading,
 ) -> Result<(), SalvageError>
     // What the caller ensures.
     requires volume { IsVolumeSize (D.state disk.old).size }
     requires inside { InSpace (D.state disk.old).size entry.now.prime }
+    requires owners { length reading.old.owners ≡ (D.state disk.old).size }
     // What was read.
-    ensures read { (D.state disk.new).honest → (directories : List SpecMasterEntry) (names : List SpecFileEntry)
+    ensures read { (D.state disk.new).honest → AreOwners reading.old.owners reading.old.files.items
+        → (directories : List SpecMasterEntry) (names : List SpecFileEntry)
         → IsNamedIn (D.state disk.old).size (layout_number layout) (D.state disk.old).contents ppn (file_view entry.now)
         → find nat_cmp ppn directories ≡ None → find name_cmp entry.now.name names ≡ None
         → IsReadTo (D.state disk.old).size (layout_number layout) (D.state disk.old).contents directories ppn names
-        files.old.items findings.old.items
+        reading.old.files.items reading.old.findings.items
         → OnOk result (IsReadTo (D.state disk.old).size (layout_number layout) (D.state disk.old).contents directories
-        ppn (names ++ file_view entry.now ∷ []) files.new.items findings.new.items) }
-    ensures fits { AllByRecursion (FitsDisk (D.state disk.old).size) files.old.items
-        → OnOk result (AllByRecursion (FitsDisk (D.state disk.old).size) files.new.items) }
+        ppn (names ++ file_view entry.now ∷ []) reading.new.files.items reading.new.findings.items) }
+    ensures held { AreOwners reading.old.owners reading.old.files.items
+        → OnOk result (AreOwners reading.new.owners reading.new.files.items) }
+    ensures owners { length reading.new.owners ≡ length reading.old.owners }
+    ensures fits { AllByRecursion (FitsDisk (D.state disk.old).size) reading.old.files.items
+        → OnOk result (AllByRecursion (FitsDisk (D.state disk.old).size) reading.new.files.items) }
     ensures range { IsErrOf result NotVolume → ⊥ }
     // The device: what failed, and how often.
     ensures reads { (D.state disk.new).honest → OnlyReads (D.state disk.old) (D.state disk.new) }
@@ -191,9 +250,9 @@ fn add_named<D: Disk>(
     let is_own = is_prime_at(disk, layout, ppn, entry.name, entry.prime)?;
     if !is_own {
         let fault = Defect::Start(VolumeError::BadRetrieval(entry.prime));
-        return push_finding(findings, fault, Cost::File(ppn, entry.name));
+        return push_finding(&mut reading.findings, fault, Cost::File(ppn, entry.name));
     }
-    add_file(alloc, disk, layout, ppn, entry, files, findings)
+    add_file(alloc, disk, layout, ppn, entry, reading)
 }
 
 /// Reads the files of these entries of a directory, in their order.
@@ -203,23 +262,27 @@ fn add_files<D: Disk>(
     layout: Layout,
     ppn: Ppn,
     entries: &[FileEntry],
-    files: &mut Vec<SavedFile>,
-    findings: &mut Vec<Finding>,
+    reading: &mut Reading,
 ) -> Result<(), SalvageError>
     // What the caller ensures.
     requires volume { IsVolumeSize (D.state disk.old).size }
     requires inside { AllByRecursion (λ e. InSpace (D.state disk.old).size e.1) (map file_view entries.now) }
+    requires owners { length reading.old.owners ≡ (D.state disk.old).size }
     // What was read.
-    ensures read { (D.state disk.new).honest → (directories : List SpecMasterEntry)
+    ensures read { (D.state disk.new).honest → AreOwners reading.old.owners reading.old.files.items
+        → (directories : List SpecMasterEntry)
         → AllByRecursion (IsNamedIn (D.state disk.old).size (layout_number layout) (D.state disk.old).contents ppn)
         (map file_view entries.now)
         → EachOnce name_cmp (map file_view entries.now) → find nat_cmp ppn directories ≡ None
         → IsReadTo (D.state disk.old).size (layout_number layout) (D.state disk.old).contents directories ppn []
-        files.old.items findings.old.items
+        reading.old.files.items reading.old.findings.items
         → OnOk result (IsReadTo (D.state disk.old).size (layout_number layout) (D.state disk.old).contents directories
-        ppn (map file_view entries.now) files.new.items findings.new.items) }
-    ensures fits { AllByRecursion (FitsDisk (D.state disk.old).size) files.old.items
-        → OnOk result (AllByRecursion (FitsDisk (D.state disk.old).size) files.new.items) }
+        ppn (map file_view entries.now) reading.new.files.items reading.new.findings.items) }
+    ensures held { AreOwners reading.old.owners reading.old.files.items
+        → OnOk result (AreOwners reading.new.owners reading.new.files.items) }
+    ensures owners { length reading.new.owners ≡ length reading.old.owners }
+    ensures fits { AllByRecursion (FitsDisk (D.state disk.old).size) reading.old.files.items
+        → OnOk result (AllByRecursion (FitsDisk (D.state disk.old).size) reading.new.files.items) }
     ensures range { IsErrOf result NotVolume → ⊥ }
     // The device: what failed, and how often.
     ensures reads { (D.state disk.new).honest → OnlyReads (D.state disk.old) (D.state disk.new) }
@@ -228,7 +291,7 @@ fn add_files<D: Disk>(
     ensures served { (IsErrOf result Device → ⊥) → (D.state disk.new).failures ≡ (D.state disk.old).failures }
 {
     for entry in entries {
-        add_named(alloc, disk, layout, ppn, entry, files, findings)?;
+        add_named(alloc, disk, layout, ppn, entry, reading)?;
     }
     Ok(())
 }
@@ -239,24 +302,28 @@ fn add_directory<D: Disk>(
     disk: &mut D,
     layout: Layout,
     entry: &MasterEntry,
-    files: &mut Vec<SavedFile>,
-    findings: &mut Vec<Finding>,
+    reading: &mut Reading,
 ) -> Result<(), SalvageError>
     // What the caller ensures.
     requires volume { IsVolumeSize (D.state disk.old).size }
     requires inside { InSpace (D.state disk.old).size entry.now.first }
+    requires owners { length reading.old.owners ≡ (D.state disk.old).size }
     // What was read.
-    ensures read { (D.state disk.new).honest → (directories : List SpecMasterEntry) (word : ℕ)
+    ensures read { (D.state disk.new).honest → AreOwners reading.old.owners reading.old.files.items
+        → (directories : List SpecMasterEntry) (word : ℕ)
         → IsDirectoryNamed (D.state disk.old).size (D.state disk.old).contents (layout_number layout) entry.now.ppn word
         entry.now.first
         → find nat_cmp entry.now.ppn directories ≡ None
         → AreApartFrom (D.state disk.old).size (D.state disk.old).contents directories entry.now.first
         → IsReadTo (D.state disk.old).size (layout_number layout) (D.state disk.old).contents directories 0 []
-        files.old.items findings.old.items
+        reading.old.files.items reading.old.findings.items
         → OnOk result (IsReadTo (D.state disk.old).size (layout_number layout) (D.state disk.old).contents
-        (directories ++ master_view entry.now ∷ []) 0 [] files.new.items findings.new.items) }
-    ensures fits { AllByRecursion (FitsDisk (D.state disk.old).size) files.old.items
-        → OnOk result (AllByRecursion (FitsDisk (D.state disk.old).size) files.new.items) }
+        (directories ++ master_view entry.now ∷ []) 0 [] reading.new.files.items reading.new.findings.items) }
+    ensures held { AreOwners reading.old.owners reading.old.files.items
+        → OnOk result (AreOwners reading.new.owners reading.new.files.items) }
+    ensures owners { length reading.new.owners ≡ length reading.old.owners }
+    ensures fits { AllByRecursion (FitsDisk (D.state disk.old).size) reading.old.files.items
+        → OnOk result (AllByRecursion (FitsDisk (D.state disk.old).size) reading.new.files.items) }
     ensures range { IsErrOf result NotVolume → ⊥ }
     // The device: what failed, and how often.
     ensures reads { (D.state disk.new).honest → OnlyReads (D.state disk.old) (D.state disk.new) }
@@ -265,16 +332,11 @@ fn add_directory<D: Disk>(
     ensures served { (IsErrOf result Device → ⊥) → (D.state disk.new).failures ≡ (D.state disk.old).failures }
 {
     match load_chain::<FileEntry, D>(alloc, disk, entry.first) {
-        Ok(chain) => add_files(
-            alloc,
-            disk,
-            layout,
-            entry.ppn,
-            chain.entries(),
-            files,
-            findings,
-        ),
-        Err(refusal) => report_refusal(findings, refusal, Cost::Directory(entry.ppn)),
+        Ok(chain) => add_files(alloc, disk, layout, entry.ppn, chain.entries(), reading),
+        Err(refusal) => {
+            let costs = Cost::Directory(entry.ppn);
+            report_refusal(&mut reading.findings, refusal, costs)
+        }
     }
 }
 
@@ -286,15 +348,16 @@ fn claim_directory<D: Disk>(
     layout: Layout,
     entry: &MasterEntry,
     marks: &mut Reached,
-    files: &mut Vec<SavedFile>,
-    findings: &mut Vec<Finding>,
+    reading: &mut Reading,
 ) -> Result<(), SalvageError>
     // What the caller ensures.
     requires volume { IsVolumeSize (D.state disk.old).size }
     requires inside { InSpace (D.state disk.old).size entry.now.first }
     requires long { length marks.old ≡ (D.state disk.old).size }
+    requires owners { length reading.old.owners ≡ (D.state disk.old).size }
     // What was read.
-    ensures read { (D.state disk.new).honest → (directories : List SpecMasterEntry) (word : ℕ)
+    ensures read { (D.state disk.new).honest → AreOwners reading.old.owners reading.old.files.items
+        → (directories : List SpecMasterEntry) (word : ℕ)
         → AllByRecursion (λ e. IsDirectoryNamed (D.state disk.old).size (D.state disk.old).contents
         (layout_number layout) e.0 e.1.0 e.1.1) directories
         → AreWalked (D.state disk.old).size (D.state disk.old).contents directories marks.old
@@ -302,20 +365,24 @@ fn claim_directory<D: Disk>(
         entry.now.first
         → find nat_cmp entry.now.ppn directories ≡ None
         → IsReadTo (D.state disk.old).size (layout_number layout) (D.state disk.old).contents directories 0 []
-        files.old.items findings.old.items
+        reading.old.files.items reading.old.findings.items
         → OnOk result (IsReadTo (D.state disk.old).size (layout_number layout) (D.state disk.old).contents
-        (directories ++ master_view entry.now ∷ []) 0 [] files.new.items findings.new.items) }
+        (directories ++ master_view entry.now ∷ []) 0 [] reading.new.files.items reading.new.findings.items) }
     // A chain with a block that is marked isn't read.
     ensures owned { (D.state disk.new).honest → (n : ℕ) → flag_at marks.old n ≡ true
         → IsFileWalked (D.state disk.old).size (D.state disk.old).contents entry.now.first n
-        → OnOk result ((files.new.items ≡ files.old.items) × IsLostBy findings.new.items (Directory entry.now.ppn)) }
+        → OnOk result ((reading.new.files.items ≡ reading.old.files.items) × IsLostBy reading.new.findings.items
+        (Directory entry.now.ppn)) }
     ensures marked { (D.state disk.new).honest → (directories : List SpecMasterEntry)
         → AreMarkedTo (D.state disk.old).size (D.state disk.old).contents directories marks.old
         → OnOk result (AreMarkedTo (D.state disk.old).size (D.state disk.old).contents
         (directories ++ master_view entry.now ∷ []) marks.new) }
     ensures long { length marks.new ≡ length marks.old }
-    ensures fits { AllByRecursion (FitsDisk (D.state disk.old).size) files.old.items
-        → OnOk result (AllByRecursion (FitsDisk (D.state disk.old).size) files.new.items) }
+    ensures held { AreOwners reading.old.owners reading.old.files.items
+        → OnOk result (AreOwners reading.new.owners reading.new.files.items) }
+    ensures owners { length reading.new.owners ≡ length reading.old.owners }
+    ensures fits { AllByRecursion (FitsDisk (D.state disk.old).size) reading.old.files.items
+        → OnOk result (AllByRecursion (FitsDisk (D.state disk.old).size) reading.new.files.items) }
     ensures range { IsErrOf result NotVolume → ⊥ }
     // The device: what failed, and how often.
     ensures reads { (D.state disk.new).honest → OnlyReads (D.state disk.old) (D.state disk.new) }
@@ -325,9 +392,9 @@ fn claim_directory<D: Disk>(
 {
     let met = mark_chain::<FileEntry, D>(disk, entry.first, marks)?;
     match met {
-        None => add_directory(alloc, disk, layout, entry, files, findings),
+        None => add_directory(alloc, disk, layout, entry, reading),
         Some(n) => push_finding(
-            findings,
+            &mut reading.findings,
             Defect::Start(VolumeError::BlockTwice(n)),
             Cost::Directory(entry.ppn),
         ),
@@ -342,27 +409,30 @@ fn add_directories<D: Disk>(
     layout: Layout,
     entries: &[MasterEntry],
     marks: &mut Reached,
-    files: &mut Vec<SavedFile>,
-    findings: &mut Vec<Finding>,
+    reading: &mut Reading,
 ) -> Result<(), SalvageError>
     // What the caller ensures.
     requires volume { IsVolumeSize (D.state disk.old).size }
     requires inside { AllByRecursion (λ e. InSpace (D.state disk.old).size e.1.1) (map master_view entries.now) }
     requires fresh { marks.old ≡ replicate (D.state disk.old).size false }
+    requires owners { length reading.old.owners ≡ (D.state disk.old).size }
     // What was read.
-    ensures read { (D.state disk.new).honest
+    ensures read { (D.state disk.new).honest → AreOwners reading.old.owners reading.old.files.items
         → AllByRecursion (λ e. IsDirectoryNamed (D.state disk.old).size (D.state disk.old).contents
         (layout_number layout) e.0 e.1.0 e.1.1) (map master_view entries.now)
         → EachOnce nat_cmp (map master_view entries.now)
         → IsReadTo (D.state disk.old).size (layout_number layout) (D.state disk.old).contents [] 0 []
-        files.old.items findings.old.items
+        reading.old.files.items reading.old.findings.items
         → OnOk result (IsReadTo (D.state disk.old).size (layout_number layout) (D.state disk.old).contents
-        (map master_view entries.now) 0 [] files.new.items findings.new.items) }
+        (map master_view entries.now) 0 [] reading.new.files.items reading.new.findings.items) }
     ensures walked { (D.state disk.new).honest → OnOk result (AreWalked (D.state disk.old).size
         (D.state disk.old).contents (map master_view entries.now) marks.new) }
     ensures long { length marks.new ≡ (D.state disk.old).size }
-    ensures fits { AllByRecursion (FitsDisk (D.state disk.old).size) files.old.items
-        → OnOk result (AllByRecursion (FitsDisk (D.state disk.old).size) files.new.items) }
+    ensures held { AreOwners reading.old.owners reading.old.files.items
+        → OnOk result (AreOwners reading.new.owners reading.new.files.items) }
+    ensures owners { length reading.new.owners ≡ length reading.old.owners }
+    ensures fits { AllByRecursion (FitsDisk (D.state disk.old).size) reading.old.files.items
+        → OnOk result (AllByRecursion (FitsDisk (D.state disk.old).size) reading.new.files.items) }
     ensures range { IsErrOf result NotVolume → ⊥ }
     // The device: what failed, and how often.
     ensures reads { (D.state disk.new).honest → OnlyReads (D.state disk.old) (D.state disk.new) }
@@ -371,7 +441,7 @@ fn add_directories<D: Disk>(
     ensures served { (IsErrOf result Device → ⊥) → (D.state disk.new).failures ≡ (D.state disk.old).failures }
 {
     for entry in entries {
-        claim_directory(alloc, disk, layout, entry, marks, files, findings)?;
+        claim_directory(alloc, disk, layout, entry, marks, reading)?;
     }
     Ok(())
 }
@@ -381,29 +451,29 @@ fn add_master<D: Disk>(
     alloc: Global,
     disk: &mut D,
     home: Home,
-    files: &mut Vec<SavedFile>,
-    findings: &mut Vec<Finding>,
+    reading: &mut Reading,
     chains: &mut Chains,
 ) -> Result<(), SalvageError>
     // What the caller ensures.
     requires volume { IsVolumeSize (D.state disk.old).size }
     requires inside { InSpace (D.state disk.old).size home.master }
-    requires no_files { files.old.items ≡ [] }
-    requires no_findings { findings.old.items ≡ [] }
+    requires no_files { reading.old.files.items ≡ [] }
+    requires no_findings { reading.old.findings.items ≡ [] }
+    requires no_owners { reading.old.owners ≡ replicate (D.state disk.old).size 0 }
     requires fresh { chains.old.master ≡ replicate (D.state disk.old).size false }
     requires fresh_ones { chains.old.directories ≡ replicate (D.state disk.old).size false }
     // What was read.
     ensures tree { (D.state disk.new).honest
         → IsHome (D.state disk.old).size (D.state disk.old).contents (home_in (layout_number home.layout) home.master)
         → OnOk result (IsTree (D.state disk.old).size (layout_number home.layout) (D.state disk.old).contents
-        files.new.items findings.new.items) }
+        reading.new.files.items reading.new.findings.items) }
     ensures marked { (D.state disk.new).honest
         → IsHome (D.state disk.old).size (D.state disk.old).contents (home_in (layout_number home.layout) home.master)
         → OnOk result (AreMarked (D.state disk.old).size (layout_number home.layout) (D.state disk.old).contents
-        files.new.items chains.new.master chains.new.directories) }
+        reading.new.files.items chains.new.master chains.new.directories) }
     ensures long { length chains.new.master ≡ (D.state disk.old).size }
     ensures long_ones { length chains.new.directories ≡ (D.state disk.old).size }
-    ensures fits { OnOk result (AllByRecursion (FitsDisk (D.state disk.old).size) files.new.items) }
+    ensures fits { OnOk result (AllByRecursion (FitsDisk (D.state disk.old).size) reading.new.files.items) }
     ensures range { IsErrOf result NotVolume → ⊥ }
     // The device: what failed, and how often.
     ensures reads { (D.state disk.new).honest → OnlyReads (D.state disk.old) (D.state disk.new) }
@@ -420,11 +490,10 @@ fn add_master<D: Disk>(
                 home.layout,
                 chain.entries(),
                 &mut chains.directories,
-                files,
-                findings,
+                reading,
             )
         }
-        Err(refusal) => report_refusal(findings, refusal, Cost::Directories),
+        Err(refusal) => report_refusal(&mut reading.findings, refusal, Cost::Directories),
     }
 }
 
@@ -453,13 +522,13 @@ fn read_from<D: Disk>(alloc: Global, disk: &mut D, home: Home) -> Result<Tree, S
     ensures failed { IsErrOf result Device → (D.state disk.new).failures ≡ one_more (D.state disk.old).failures }
     ensures served { (IsErrOf result Device → ⊥) → (D.state disk.new).failures ≡ (D.state disk.old).failures }
 {
-    let (mut files, mut findings) = (Vec::new(alloc), Vec::new(alloc));
+    let mut reading = Reading::new(alloc, disk.blocks())?;
     let mut chains = Chains::new(alloc, disk.blocks())?;
-    add_master(alloc, disk, home, &mut files, &mut findings, &mut chains)?;
+    add_master(alloc, disk, home, &mut reading, &mut chains)?;
     Ok(Tree {
         layout: home.layout,
-        files,
-        findings,
+        files: reading.files,
+        findings: reading.findings,
         chains,
     })
 }

@@ -309,12 +309,21 @@ fn a_prime_block_without_its_file(rt: HostRuntime) -> Result<(), Fail> {
     Ok(())
 }
 
-/// Checks that an extension is loaded for one of two prime blocks that no directory names: for the first one.
+/// Returns the pointer to a data block.
+fn pointer(n: u32) -> u64 {
+    0o1000000 + u64::from(n)
+}
+
+/// Checks that an extension is loaded for one of two prime blocks that no directory names: for the first one. No block
+/// is in it more than four times.
 #[test]
 fn an_extension_has_one_owner(rt: HostRuntime) -> Result<(), Fail> {
     let mut disk = v1(rt.alloc(), CALLS)?;
-    let mut prime = [PRIME[16]; 128];
+    let mut prime = [0; 128];
     prime[..16].copy_from_slice(&PRIME[..16]);
+    for (i, word) in prime[16..].iter_mut().enumerate() {
+        *word = pointer(21 + i as u32 / 4);
+    }
     (prime[5], prime[6], prime[7]) = (113 * 128, 112, 20);
     load(&rt, &mut disk, 17, &beginning(&prime));
     load(&rt, &mut disk, 19, &beginning(&prime));
@@ -326,6 +335,34 @@ fn an_extension_has_one_owner(rt: HostRuntime) -> Result<(), Fail> {
     let costs = Cost::Unnamed(owner(), foo(), 19);
     let fault = Defect::TwoOwners(20);
     expect_told(&rt, rt.alloc(), &mut copied, Wanted::Unnamed, fault, costs);
+    Ok(())
+}
+
+/// Checks that a block is in at most four files that no directory names, and that those with the fewest blocks come
+/// first: of five with block 18 that is the one lost which has another block too.
+#[test]
+fn a_block_is_in_four_files(rt: HostRuntime) -> Result<(), Fail> {
+    let mut disk = v1(rt.alloc(), CALLS)?;
+    load(&rt, &mut disk, 16, &beginning(&[]));
+    load(&rt, &mut disk, 14, &beginning(&[0o777777770000]));
+    for n in 19..23 {
+        load(&rt, &mut disk, n, &beginning(&PRIME));
+    }
+    let mut larger = [0; 18];
+    larger[..17].copy_from_slice(&PRIME);
+    (larger[5], larger[6], larger[17]) = (130, 2, pointer(23));
+    load(&rt, &mut disk, 17, &beginning(&larger));
+    let mut copied = copied_from(rt.alloc(), &mut disk).expect(&rt, "a copy");
+    let survey = surveyed(rt.alloc(), &mut copied.disk).expect(&rt, "a survey");
+    assert!(rt; survey.unnamed.len() == 4);
+    for (file, at) in survey.unnamed.iter().zip(19..23) {
+        assert!(rt; file.at == at);
+    }
+    let lost = Finding {
+        fault: Defect::Crowded(18),
+        costs: Cost::Unnamed(owner(), foo(), 17),
+    };
+    assert!(rt; survey.findings.contains(&lost));
     Ok(())
 }
 

@@ -1,13 +1,13 @@
-use Rattle.std.proofs.Common.{◌≡◌, List, sym, subst, ◌∙◌}
+use Rattle.std.proofs.Common.{◌≡◌, ◌+◌, ◌≤◌, ◌++◌, ℕ, List, slice_index, sym, subst, ◌∙◌, arith}
 use Rattle.std.specs.List.{AllByRecursion}
 use Rattle.blockdisk.specs.Common.{same_contents}
 use Rattle.changeset.proofs.LogRead.{only_reads_on}
 use Rattle.spec_image.specs.Common.{File, Files, SettledStands, layout_number}
 use Rattle.salvage.specs.Common.{AreAdded, AreApart, AreFree, AreMarked, ArePlaced, AreTaken, IsNamedRead}
-use Rattle.salvage.specs.Common.{IsRead, IsScanned}
+use Rattle.salvage.specs.Common.{IsRead, IsScanned, claims}
 use Rattle.salvage.specs.declared.saved.SavedFile.{SavedFile}
 use Rattle.salvage.proofs.CarriedFacts.{moved}
-use Rattle.salvage.proofs.SurveySteps.{survey_more, surveyed}
+use Rattle.salvage.proofs.SurveySteps.{apart_both, survey_more, surveyed}
 use Rattle.salvage.proofs.survey.survey_volume.Goals as goal
 
 pub returns-in_err-free-clause-reads : goal.returns-in_err-free-clause-reads
@@ -22,6 +22,19 @@ returns-in_err-free-clause-reads g c h =
 
 pub returns-in_err-found-clause-reads : goal.returns-in_err-found-clause-reads
 returns-in_err-found-clause-reads g c h =
+    let s = g.D.Disk.state c.args.disk.now in
+    let t0 = g.D.Disk.state c.read_tree.new.disk in
+    let t1 = g.D.Disk.state c.find_free.new.disk in
+    let t2 = g.D.Disk.state c.scan.new.disk in
+    let h1 = c.scan.ensures.same.was_honest h in
+    let h0 = c.find_free.ensures.same.was_honest h1 in
+    let r0 = c.read_tree.ensures.reads h0 in
+    let r1 = only_reads_on s t0 t1 r0 (c.find_free.ensures.reads h1) in
+    let r2 = only_reads_on s t1 t2 r1 (c.scan.ensures.reads h) in
+    r2
+
+pub returns-in_err-claimed-clause-reads : goal.returns-in_err-claimed-clause-reads
+returns-in_err-claimed-clause-reads g c h =
     let s = g.D.Disk.state c.args.disk.now in
     let t0 = g.D.Disk.state c.read_tree.new.disk in
     let t1 = g.D.Disk.state c.find_free.new.disk in
@@ -181,6 +194,7 @@ returns-clause-surveyed g c h =
     let found = c.in_ok-found.found.items in
     let taken = c.in_ok-taken.taken in
     let unnamed = c.in_ok-unnamed.unnamed.items in
+    let claimed = c.take_named.new.claimed in
     let search = c.args.search in
     let read = c.in_ok-tree.ensures.tree h0 in
     let is_free : AreFree s.size s.contents free = moved (λ n k. AreFree n k free) s.size t0.size s.contents t0.contents
@@ -210,11 +224,18 @@ returns-clause-surveyed g c h =
     let others = moved (λ n k. AllByRecursion (IsRead n layout k) found → AreApart found
     → AreTaken n layout k found unnamed fifth) s.size t3.size s.contents t3.contents z3 e3
     (c.in_ok-unnamed.ensures.taken h4 layout) scanned.read scanned.apart in
-    let four = moved (λ n k. AllByRecursion (IsRead n layout k) found → AreAdded n layout k fourth fifth) s.size t3.size
-    s.contents t3.contents z3 e3 (c.in_ok-unnamed.ensures.added h4 layout) scanned.read in
+    let apart = apart_both s.size layout s.contents search named found read.apart scanned.apart scanned.at in
+    let four = moved (λ n k. AllByRecursion (IsRead n layout k) found → (earlier : List SavedFile)
+    → AllByRecursion (IsNamedRead n layout k) earlier → AreApart (earlier ++ found)
+    → ((m : ℕ) → slice_index claimed m ≤ claims earlier m) → AreAdded n layout k fourth fifth) s.size t3.size
+    s.contents t3.contents z3 e3 (c.in_ok-unnamed.ensures.added h4 layout) scanned.read named read.read apart
+    c.in_ok-taken.ensures.grown in
+    let few : (m : ℕ) → claims taken.files.items m + claims taken.doubtful.items m + claims unnamed m ≤ 4 = λ m.
+    let held = c.in_ok-taken.ensures.held h3 m in
+    let most = c.in_ok-unnamed.ensures.few c.in_ok-taken.ensures.few m in omega (arith, held, most) in
     survey_more s.size layout s.contents search taken.files.items taken.doubtful.items unnamed fifth
     c.confirm.new.findings.items
     (surveyed s.size layout s.contents search named found taken.files.items taken.doubtful.items unnamed
-    tree.findings.items second third fourth fifth read one scanned two placed three others four)
+    tree.findings.items second third fourth fifth read one scanned two placed three others four few)
     (moved (λ n k. AreAdded n layout k fifth c.confirm.new.findings.items) s.size t4.size s.contents t4.contents z4 e4
     (c.in_ok-confirm.ensures.added h layout))

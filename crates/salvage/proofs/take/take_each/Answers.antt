@@ -1,14 +1,17 @@
-use Rattle.std.proofs.Common.{◌++◌, ◌∷◌, [], ℕ, List, length, refl, sym, subst, ◌∙◌, arith}
+use Rattle.std.proofs.Common.{◌++◌, ◌∷◌, [], ℕ, List, length, refl, sym, ap, subst, ◌∙◌, arith, take}
 use Rattle.std.proofs.lemmas.Iterator.Adapters.{YieldsList-from_vec}
 use Rattle.std.proofs.lemmas.Iterator.Consumers.{YieldsList-turn, YieldsList-end}
 use Rattle.std.proofs.lemmas.List.{length_push, take_all}
 use Rattle.std.specs.List.{AllByRecursion}
 use Rattle.blockdisk.specs.Common.{Contents, same_contents, same_disk_on, same_disk_start, still_start}
 use Rattle.changeset.proofs.LogRead.{only_reads_on}
-use Rattle.salvage.specs.Common.{FitsDisk, Judges}
+use Rattle.spec_image.specs.Common.{times}
+use Rattle.spec_image.proofs.Common.{total-append}
+use Rattle.salvage.specs.Common.{FitsDisk, Judges, blocks_of, claims}
 use Rattle.salvage.specs.declared.saved.SavedFile.{SavedFile}
 use Rattle.salvage.proofs.CountLaws.{fits_at}
 use Rattle.salvage.proofs.JudgedFiles.{judges_start, judges_next}
+use Rattle.salvage.proofs.KeptFiles.{one_more_of}
 use Rattle.salvage.proofs.Members.{nothing_behind}
 use Rattle.salvage.proofs.take.take_each.Goals as goal
 
@@ -31,6 +34,7 @@ loop-file-init g c =
       same = same_disk_start s;
       served = refl;
       reads = λ h. record { still = still_start s; is_open = λ n. refl };
+      few = λ n. omega arith;
       fits = λ fit. fit;
       fits_too = λ fit. fit;
       judged = λ h. judges_start s.contents c.args.counts.now c.args.free.now c.args.are_named files doubtful findings
@@ -52,6 +56,15 @@ loop-file-preserved g c =
       same = same_disk_on s now new inv.same c.take_file.ensures.same;
       served = e.served (λ is. cc) ∙ inv.served;
       reads = λ h. only_reads_on s now new (inv.reads (before h)) (c.take_file.ensures.reads h);
+      few = λ n.
+          let so_far = inv.few n in
+          let more = e.few n in
+          let all = ap (λ (l : List SavedFile). claims l n)
+          (one_more_of items (length c.loop-file.yielded) (length (c.loop-file.yielded ++ c.in-Some.file ∷ []))
+          c.in-Some.file (length_push c.loop-file.yielded c.in-Some.file) turn.0 turn.1) in
+          let both = total-append (λ file. times n (blocks_of file)) (take (length c.loop-file.yielded) items)
+          (c.in-Some.file ∷ []) in
+          omega (arith, so_far, more, all, both);
       fits = λ fit. subst (λ (z : ℕ). AllByRecursion (FitsDisk z) c.take_file.new.taken.files.items) inv.same.size
           (e.fits (subst (λ (z : ℕ). AllByRecursion (FitsDisk z) c.loop-file.taken.files.items) (sym inv.same.size)
           (inv.fits fit)));
@@ -70,6 +83,15 @@ loop-file-preserved g c =
           c.take_file.new.taken.doubtful.items c.loop-file.findings.items c.take_file.new.findings.items)
           (same_contents s.contents now.contents (inv.reads (before h)).still.contents) (e.judged h));
     }
+
+pub returns-clause-few : goal.returns-clause-few
+returns-clause-few g c n =
+    let items = c.args.candidates.items in
+    let end = YieldsList-end (YieldsList-from_vec items (cc) (cc)) c.loop-file.yielded _ c.loop-file.yielded_by _
+    c.next.new.self c.in-None.is c.next.ensures.steps in
+    let all = ap (λ (l : List SavedFile). claims l n)
+    (take_all (length c.loop-file.yielded) items (omega (arith, end.1))) in
+    omega (arith, all, c.loop-file.invariant.few n)
 
 pub returns-clause-judged : goal.returns-clause-judged
 returns-clause-judged g c h =

@@ -1,8 +1,8 @@
-use Rattle.std.proofs.Common.{◌≡◌, length, take}
+use Rattle.std.proofs.Common.{◌≡◌, ◌+◌, ◌≤◌, ℕ, length, take}
 use Rattle.std.specs.List.{AllByRecursion}
 use Rattle.blockdisk.specs.Common.{SameDisk}
 use Rattle.changeset.specs.Common.{OnlyReads}
-use Rattle.salvage.specs.Common.{FitsDisk, Judges}
+use Rattle.salvage.specs.Common.{FitsDisk, Judges, claims}
 use Rattle.salvage.proofs.take.take_each.Given as goal
 
 abbrev pub invariant-loop-file : goal.invariant-loop-file
@@ -10,6 +10,8 @@ invariant-loop-file g l = record {
   same : SameDisk (g.D.Disk.state l.fn.disk) (g.D.Disk.state l.disk);
   served : (g.D.Disk.state l.disk).failures ≡ (g.D.Disk.state l.fn.disk).failures;
   reads : (g.D.Disk.state l.disk).honest → OnlyReads (g.D.Disk.state l.fn.disk) (g.D.Disk.state l.disk);
+  few : (n : ℕ) → claims l.taken.files.items n
+      ≤ claims l.fn.taken.files.items n + claims (take (length l.yielded) l.fn.candidates.items) n;
   fits : AllByRecursion (FitsDisk (g.D.Disk.state l.fn.disk).size) l.fn.taken.files.items
       → AllByRecursion (FitsDisk (g.D.Disk.state l.fn.disk).size) l.taken.files.items;
   fits_too : AllByRecursion (FitsDisk (g.D.Disk.state l.fn.disk).size) l.fn.taken.doubtful.items

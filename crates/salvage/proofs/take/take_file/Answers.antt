@@ -1,7 +1,11 @@
-use Rattle.std.proofs.Common.{◌≡◌, ◌++◌, ◌∷◌, [], ap, subst, ◌∙◌}
+use Rattle.std.proofs.Common.{◌≡◌, ◌+◌, ◌≤◌, ◌++◌, ◌∷◌, [], ℕ, List, ap, subst, ◌∙◌, arith}
 use Rattle.volume.proofs.common.MarkedBlocks.{on_ok}
-use Rattle.salvage.specs.Common.{IsVerdict, Judges, told_of}
+use Rattle.spec_image.specs.Common.{times}
+use Rattle.spec_image.proofs.Common.{total-append}
+use Rattle.salvage.specs.Common.{IsVerdict, Judges, blocks_of, claims, told_of}
+use Rattle.salvage.specs.declared.saved.SavedFile.{SavedFile}
 use Rattle.salvage.specs.declared.take.Verdict.{Verdict}
+use Rattle.salvage.proofs.CarriedFacts.{always}
 use Rattle.salvage.proofs.JudgedFiles.{judged_doubtful, judged_good, judged_spoiled}
 use Rattle.salvage.proofs.Members.{nothing_behind}
 use Rattle.salvage.proofs.take.take_file.Goals as goal
@@ -84,3 +88,19 @@ returns-in-Spoiled-clause-judged g c h =
           (subst (λ (v : Verdict). IsVerdict s.contents counts free c.args.is_named file v) c.in-Spoiled.is
           (c.in_ok-judge.ensures.verdict h));
     }) c.push_finding-in-Spoiled.ensures.told
+
+pub returns-in-Good-clause-few : goal.returns-in-Good-clause-few
+returns-in-Good-clause-few g c =
+    let file = c.args.file in
+    let old = c.args.taken.now.files.items in
+    let new = c.push_file.new.files.items in
+    on_ok c.push_file.result (new ≡ old ++ file ∷ []) ((n : ℕ) → claims new n ≤ claims old n + claims (file ∷ []) n)
+    (λ pushed n. let all = ap (λ (l : List SavedFile). claims l n) pushed in
+    let both = total-append (λ other. times n (blocks_of other)) old (file ∷ []) in omega (arith, all, both))
+    c.push_file.ensures.pushed
+
+pub returns-in_ok-push_finding-in-Doubtful-clause-few : goal.returns-in_ok-push_finding-in-Doubtful-clause-few
+returns-in_ok-push_finding-in-Doubtful-clause-few g c = always c.push_file-in-Doubtful.result (λ n. omega arith)
+
+pub returns-in-Spoiled-clause-few : goal.returns-in-Spoiled-clause-few
+returns-in-Spoiled-clause-few g c = always c.push_finding-in-Spoiled.result (λ n. omega arith)

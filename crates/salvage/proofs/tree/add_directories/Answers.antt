@@ -19,9 +19,11 @@ loop-entry-init g c =
       served = refl;
       reads = λ h. record { still = still_start s; is_open = λ n. refl };
       fits = λ all. all;
+      held = λ own. own;
+      owners = refl;
       long = refl;
       marked = λ h. marked_none s.size s.contents c.args.marks.now s.size c.requires.fresh;
-      read = λ h named once r. r;
+      read = λ h own named once r. r;
     }
 
 pub claim_directory-requires-clause-inside : goal.claim_directory-requires-clause-inside
@@ -37,6 +39,10 @@ claim_directory-requires-clause-long g c =
     let fresh : length c.args.marks.now ≡ s.size = ap length c.requires.fresh
     ∙ length-replicate {A = Bool} s.size false in
     c.loop-entry.invariant.long ∙ fresh ∙ sym c.loop-entry.invariant.same.size
+
+pub claim_directory-requires-clause-owners : goal.claim_directory-requires-clause-owners
+claim_directory-requires-clause-owners g c =
+    c.loop-entry.invariant.owners ∙ c.requires.owners ∙ sym c.loop-entry.invariant.same.size
 
 pub returns-in_err-claim_directory-clause-reads : goal.returns-in_err-claim_directory-clause-reads
 returns-in_err-claim_directory-clause-reads g c h =
@@ -56,9 +62,12 @@ loop-entry-preserved g c =
       same = same_disk_on s now new before.same ensures.same;
       served = ensures.served (λ is. cc) ∙ before.served;
       reads = λ h. only_reads_on s now new (before.reads (ensures.same.was_honest h)) (ensures.reads h);
-      fits = λ all. subst (λ (n : ℕ). AllByRecursion (FitsDisk n) c.claim_directory.new.files.items) before.same.size
-          (ensures.fits (subst (λ (n : ℕ). AllByRecursion (FitsDisk n) c.loop-entry.files.items) (sym before.same.size)
-          (before.fits all)));
+      fits = λ all. subst (λ (n : ℕ). AllByRecursion (FitsDisk n) c.claim_directory.new.reading.files.items)
+          before.same.size
+          (ensures.fits (subst (λ (n : ℕ). AllByRecursion (FitsDisk n) c.loop-entry.reading.files.items)
+          (sym before.same.size) (before.fits all)));
+      held = λ own. ensures.held (before.held own);
+      owners = ensures.owners ∙ before.owners;
       long = ensures.long ∙ before.long;
       marked = λ h.
           let was = ensures.same.was_honest h in
@@ -67,16 +76,16 @@ loop-entry-preserved g c =
           c.loop-entry-test.true c.entry-item.is before.same.size
           (same_contents s.contents now.contents (before.reads was).still.contents) (before.marked was)
           (λ directories marked. ensures.marked h directories marked);
-      read = λ h named once r.
+      read = λ h own named once r.
           let was = ensures.same.was_honest h in
           directories_go_on master_view s.size now.size (layout_number c.args.layout) s.contents now.contents
-          c.args.entries.now c.loop-entry.entry-index c.entry-item.result c.loop-entry.marks c.loop-entry.files.items
-          c.claim_directory.new.files.items c.loop-entry.findings.items c.claim_directory.new.findings.items
-          c.loop-entry-test.true c.entry-item.is before.same.size
+          c.args.entries.now c.loop-entry.entry-index c.entry-item.result c.loop-entry.marks
+          c.loop-entry.reading.files.items c.claim_directory.new.reading.files.items c.loop-entry.reading.findings.items
+          c.claim_directory.new.reading.findings.items c.loop-entry-test.true c.entry-item.is before.same.size
           (same_contents s.contents now.contents (before.reads was).still.contents)
-          named once (before.marked was).walked (before.read was named once r)
+          named once (before.marked was).walked (before.read was own named once r)
           (λ directories word front walked here new_directory so_far.
-          ensures.read h directories word front walked here new_directory so_far);
+          ensures.read h (before.held own) directories word front walked here new_directory so_far);
     }
 
 pub returns-clause-walked : goal.returns-clause-walked

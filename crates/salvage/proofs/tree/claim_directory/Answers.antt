@@ -9,18 +9,18 @@ use Rattle.salvage.proofs.WalkedChains.{marked_one}
 use Rattle.salvage.proofs.tree.claim_directory.Goals as goal
 
 pub returns-in-None-clause-read : goal.returns-in-None-clause-read
-returns-in-None-clause-read g c h directories word all walked named new r =
+returns-in-None-clause-read g c h held directories word all walked named new r =
     let s = g.D.Disk.state c.args.disk.now in
     let now = g.D.Disk.state c.mark_chain.new.disk in
     let was = c.add_directory.ensures.same.was_honest h in
     let e = master_view c.args.entry.now in
     claimed_on s.size now.size (layout_number c.args.layout) s.contents now.contents directories e word
-    c.args.files.now.items c.add_directory.new.files.items c.args.findings.now.items
-    c.add_directory.new.findings.items c.add_directory.result c.mark_chain.ensures.same.size
+    c.args.reading.now.files.items c.add_directory.new.reading.files.items c.args.reading.now.findings.items
+    c.add_directory.new.reading.findings.items c.add_directory.result c.mark_chain.ensures.same.size
     (same_contents s.contents now.contents (c.mark_chain.ensures.reads was).still.contents)
     (apart_from s.size s.contents c.args.marks.now e.1.1 c.in_ok-met.met c.in-None.is (c.in_ok-met.ensures.unmet was)
     directories walked) named new r
-    (λ ds w named_here new_here apart so_far. c.add_directory.ensures.read h ds w named_here new_here apart so_far)
+    (λ ds w named_here new_here apart so_far. c.add_directory.ensures.read h held ds w named_here new_here apart so_far)
 
 pub returns-in-None-clause-owned : goal.returns-in-None-clause-owned
 returns-in-None-clause-owned g c h n set walk =
@@ -45,20 +45,20 @@ returns-in-None-clause-reads g c h =
     (c.add_directory.ensures.reads h)
 
 pub returns-in-Some-clause-read : goal.returns-in-Some-clause-read
-returns-in-Some-clause-read g c h directories word all walked named new r =
+returns-in-Some-clause-read g c h held directories word all walked named new r =
     let s = g.D.Disk.state c.args.disk.now in
     let e = c.args.entry.now in
-    shared_told c.args.findings.now.items c.push_finding.new.findings.items e.ppn c.in-Some.n c.push_finding.result
-    c.push_finding.ensures.told s.size (layout_number c.args.layout) s.contents directories word e.first
-    c.args.marks.now c.args.files.now.items all walked named new r
+    shared_told c.args.reading.now.findings.items c.push_finding.new.findings.items e.ppn c.in-Some.n
+    c.push_finding.result c.push_finding.ensures.told s.size (layout_number c.args.layout) s.contents directories word
+    e.first c.args.marks.now c.args.reading.now.files.items all walked named new r
     (if_some c.in_ok-met.met c.in-Some.n
     (IsMetAgain file_words IsFileEntry s.size s.contents c.args.marks.now e.first) c.in-Some.is
     (c.in_ok-met.ensures.met h)) (master_view e).1.0
 
 pub returns-in-Some-clause-owned : goal.returns-in-Some-clause-owned
 returns-in-Some-clause-owned g c h n set walk =
-    shared_lost c.args.findings.now.items c.push_finding.new.findings.items c.args.entry.now.ppn c.in-Some.n
-    c.push_finding.result c.push_finding.ensures.told c.args.files.now.items
+    shared_lost c.args.reading.now.findings.items c.push_finding.new.findings.items c.args.entry.now.ppn c.in-Some.n
+    c.push_finding.result c.push_finding.ensures.told c.args.reading.now.files.items
 
 pub returns-in-Some-clause-marked : goal.returns-in-Some-clause-marked
 returns-in-Some-clause-marked g c h directories before =
