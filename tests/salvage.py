@@ -6,18 +6,25 @@ usage: tests/salvage.py PROGRAM [COUNT]
 An image is damaged block by block, by an independent reader of the layout: what is whole comes out byte for byte, each
 fault is reported with the file that it costs, and no byte of the image changes. COUNT images (2000) are spoiled at
 random: the program ends with a status of its own, and the status is 0 exactly if a check accepts the image. As many
-have only their structure damaged: then each file in its place has the bytes that were put.
+have only their structure damaged: then each file in its place has the bytes that were put. A search for many files is
+made with each of some limits of memory.
 Prints a line for each failed check, and one line at the end.
 """
 
 import os
 import random
+import resource
+import shutil
 import subprocess
 import sys
 import tempfile
 
 BLOCK = 1024
 LIMIT = 60
+PAGE = 4096
+AMPLE = 1 << 28
+# How many files of a lost directory a search with little memory has to find.
+LOST = 1200
 DAMAGED = b"\xff" * BLOCK
 OPEN_GATE = 0o252525252525
 LOG = 0o545747000000
@@ -621,6 +628,62 @@ def lengths(tries):
              == {"short: ?Bytes after the last block: 575", "short/10,20/FOO.TXT: text OK"})
 
 
+def with_memory(tries, pages, *options):
+    """Saves what is on M.IMG, with this many pages of memory. Returns the lines, the status, and the files by their
+    names."""
+    limit, out = pages * PAGE, "m-out"
+    shutil.rmtree(tries.path(out), ignore_errors=True)
+    done = subprocess.run([tries.program, "salvage", "M.IMG", out, *options], capture_output=True, cwd=tries.folder,
+                          check=False, timeout=LIMIT,
+                          preexec_fn=lambda: resource.setrlimit(resource.RLIMIT_DATA, (limit, limit)))
+    found = {}
+    for folder, _, names in os.walk(tries.path(out)):
+        for name in names:
+            with open(os.path.join(folder, name), "rb") as file:
+                found[os.path.relpath(os.path.join(folder, name), tries.path(out))] = file.read()
+    return done.stdout.decode().splitlines(), done.returncode, found
+
+
+def little_memory(tries):
+    """Tests that what directories name is saved if memory runs out in the search for other files."""
+    tries.make("M.IMG", 8192)
+    names = [f"many/F{number}" for number in range(LOST)]
+    os.makedirs(tries.path("many"), exist_ok=True)
+    for name in names:
+        with open(tries.path(name), "wb") as file:
+            file.write(SMALL)
+    tries.run(["import", "M.IMG", "10,22", *names])
+    image = Image(tries.path("M.IMG"))
+    image.damage(image.directories()[0o10 << 18 | 0o22])
+    image.save()
+    incomplete, none = "?No memory: search incomplete", "?No memory"
+
+    def least(serves):
+        low, high = 0, AMPLE // PAGE
+        while high - low > 1:
+            middle = (low + high) // 2
+            low, high = (low, middle) if serves(middle) else (middle, high)
+        return high
+
+    some = least(lambda pages: with_memory(tries, pages)[0] not in ([], [none]))
+    every = least(lambda pages: not any(none in line for line in with_memory(tries, pages)[0]))
+    tries.so(f"memory of a search: {some} to {every} pages", some < every)
+    parts = 0
+    for pages in sorted({some + (every - some) * step // 12 for step in range(13)}):
+        lines, status, found = with_memory(tries, pages)
+        is_part = incomplete in lines
+        parts += is_part
+        placed = {place: data for place, data in found.items() if place.startswith("10,")}
+        right = {f"10,20/{name}": data for name, data in GIVEN.items()} | {"10,21/FOO.TXT": TEXT}
+        refused = {line.split(": ")[0].removeprefix("m-out/") for line in lines if line.endswith(f": {none}")}
+        tries.so(f"{pages} pages: {lines[-2:]}", all(right[place] == data for place, data in placed.items())
+                 and set(right) == set(placed) | refused & set(right))
+        tries.so(f"{pages} pages: status {status}", status == (4 if is_part or refused else 1))
+        others = 0 if is_part else LOST - len(refused - set(right))
+        tries.so(f"{pages} pages: the search", len(found) - len(placed) == others)
+    tries.so(f"{parts} searches that are incomplete", parts > 0)
+
+
 def odd_images(tries):
     """Tests images that are empty, or missing."""
     image = tries.make("J.IMG")
@@ -732,7 +795,7 @@ def main():
     with tempfile.TemporaryDirectory() as folder:
         tries = Tries(program, folder)
         for part in (whole_image, damaged_blocks, losses_told, tangled_image, shared_blocks, pointers, old_versions,
-                     deleted_files, searches, logs, silence, lengths, odd_images):
+                     deleted_files, searches, logs, silence, lengths, little_memory, odd_images):
             part(tries)
         spoiled_images(tries, count)
         damaged_structures(tries, count)
