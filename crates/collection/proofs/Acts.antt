@@ -1,5 +1,6 @@
 -- What a service did for one thing after the other is what it did for all of them.
-use Rattle.std.proofs.Common.{◌≡◌, ℕ, List, [], ◌∷◌, ◌++◌, Option, Result, Ok, Err, inl, inr, sym, subst}
+use Rattle.std.proofs.Common.{◌≡◌, ℕ, List, [], ◌∷◌, ◌++◌, Option, Result, Ok, Err, true, false, ap, inl, inr, refl}
+use Rattle.std.proofs.Common.{sym, subst, ◌∙◌}
 use Rattle.spec_language.specs.Common.{Say, silent}
 use Rattle.spec_machine.specs.declared.call.Reply.{Reply}
 use Rattle.spec_image.specs.declared.entry.Entry.{Entry}
@@ -10,7 +11,7 @@ use Rattle.blockdisk.specs.Common.{DiskState}
 use Rattle.monitor.specs.Common.{MonitorState}
 use Rattle.monitor.proofs.Events.EventCrashes.{state_stands}
 use Rattle.commands.proofs.ActLaws.{goes_nowhere, goes_on}
-use Rattle.collection.specs.Common.{EachDone, Goes, added, FileFacts}
+use Rattle.collection.specs.Common.{Acted, EachDone, Goes, added, folder_made, folder_of, unread}
 use Rattle.collection.specs.declared.task.ExportTask.{ExportTask}
 use Rattle.collection.specs.declared.task.ImportTask.{ImportTask}
 use Rattle.collection.specs.Export as exporting
@@ -36,108 +37,120 @@ module _ {S : Type 0} (machine : S → Machine) (stands : AlwaysStands machine) 
     goes = goes_on machine old mid new one.acts next.acts one.goes next.goes;
   }
 
-  module _ {X : Type 0} (step : X → Option (List ℕ) → Option (List ℕ) → S → S → Result Tally SessionError → Type 0)
-      (steps : (x : X) (sink full : Option (List ℕ)) (old new : S) (result : Result Tally SessionError)
-      → step x sink full old new result → Goes machine old new) where
-    pub each_goes : (xs : List X) (tally : Tally) (sink full : Option (List ℕ)) (old new : S)
-        (result : Result Tally SessionError) → EachDone step xs tally sink full old new result → Goes machine old new
-    each_goes [] tally sink full old new result (written, same, is) = same_goes old new same
+  -- nothing was done, or only with files of the host
+  acted_goes : (old mid new : Acted S) → new ≡ mid → mid.1 ≡ old.1 → Goes machine old.1 new.1
+  acted_goes old mid new same kept = same_goes old.1 new.1 (ap (λ (s : Acted S). s.1) same ∙ kept)
+
+  module _ {X : Type 0} (step : X → Option (List ℕ) → Option (List ℕ) → Acted S → Acted S
+      → Result Tally SessionError → Type 0)
+      (steps : (x : X) (sink full : Option (List ℕ)) (old new : Acted S) (result : Result Tally SessionError)
+      → step x sink full old new result → Goes machine old.1 new.1) where
+    pub each_goes : (xs : List X) (tally : Tally) (sink full : Option (List ℕ)) (old new : Acted S)
+        (result : Result Tally SessionError) → EachDone step xs tally sink full old new result
+        → Goes machine old.1 new.1
+    each_goes [] tally sink full old new result (written, same, is) = acted_goes old old new same refl
     each_goes (x ∷ xs) tally sink full old new result (Ok one, middle, mid, done, rest) =
-        then_goes old mid new (steps x sink middle old mid (Ok one) done)
+        then_goes old.1 mid.1 new.1 (steps x sink middle old mid (Ok one) done)
         (each_goes xs (added tally one) middle full mid new result rest)
     each_goes (x ∷ xs) tally sink full old new result (Err error, middle, mid, done, (written, same, is)) =
-        then_goes old mid new (steps x sink middle old mid (Err error) done) (same_goes mid new same)
+        then_goes old.1 mid.1 new.1 (steps x sink middle old mid (Err error) done) (acted_goes mid mid new same refl)
 
   -- A file of the host.
-  pub import_goes : (facts : FileFacts) (task : ImportTask) (path : List ℕ) (sink full : Option (List ℕ)) (old new : S)
-      (result : Result Tally SessionError) → importing.IsDoneWith facts machine task path sink full old new result
-      → Goes machine old new
-  import_goes facts task path sink full old new result (inl (text, name, named, inl (source, read, inl done))) =
+  pub import_goes : (task : ImportTask) (path : List ℕ) (sink full : Option (List ℕ)) (old new : Acted S)
+      (result : Result Tally SessionError) → importing.IsDoneWith machine task path sink full old new result
+      → Goes machine old.1 new.1
+  import_goes task path sink full old new result (inl (text, name, named, inl (source, read, inl done))) =
       record { acts = done.imported.acts; goes = done.imported.goes }
-  import_goes facts task path sink full old new result
-      (inl (text, name, named, inl (source, read, inr (inl (dated, undated, (same, line)))))) = same_goes old new same
-  import_goes facts task path sink full old new result
+  import_goes task path sink full old new result
+      (inl (text, name, named, inl (source, read, inr (inl (dated, undated, (same, line)))))) =
+      same_goes old.1 new.1 same
+  import_goes task path sink full old new result
       (inl (text, name, named, inl (source, read, inr (inr unnamed)))) =
-      same_goes old new unnamed.same
-  import_goes facts task path sink full old new result (inl (text, name, named, inr (error, read, (same, line)))) =
-      same_goes old new same
-  import_goes facts task path sink full old new result (inr (inl (nameless, (same, line)))) = same_goes old new same
-  import_goes facts task path sink full old new result (inr (inr unnamed)) = same_goes old new unnamed.same
+      same_goes old.1 new.1 unnamed.same
+  import_goes task path sink full old new result (inl (text, name, named, inr (asked, line))) =
+      acted_goes old (unread path (importing.most_read task.encoding) old) new asked refl
+  import_goes task path sink full old new result (inr (inl (nameless, (same, line)))) =
+      acted_goes old old new same refl
+  import_goes task path sink full old new result (inr (inr unnamed)) = acted_goes old old new unnamed.same refl
 
-  pub imports_go : (facts : FileFacts) (task : ImportTask) (paths : List (List ℕ)) (sink full : Option (List ℕ))
-      (old new : S) (result : Result Tally SessionError)
-      → importing.AreDoneWith facts machine task paths sink full old new result → Goes machine old new
-  imports_go facts task paths sink full old new result =
-      each_goes (importing.IsDoneWith facts machine task) (import_goes facts task) paths _ sink full old new result
+  pub imports_go : (task : ImportTask) (paths : List (List ℕ)) (sink full : Option (List ℕ)) (old new : Acted S)
+      (result : Result Tally SessionError) → importing.AreDoneWith machine task paths sink full old new result
+      → Goes machine old.1 new.1
+  imports_go task paths sink full old new result =
+      each_goes (importing.IsDoneWith machine task) (import_goes task) paths _ sink full old new result
 
-  goes_after : (facts : FileFacts) (task : ImportTask) (paths : List (List ℕ)) (made : Result (Unit {0}) Reply)
-      (sink full : Option (List ℕ)) (old new : S) (result : Result Tally SessionError)
-      → importing.GoesOn facts machine task paths sink full old new result made → Goes machine old new
-  goes_after facts task paths (Ok unit) sink full old new result done =
-      imports_go facts task paths sink full old new result done
-  goes_after facts task paths (Err reply) sink full old new result (inl (there, done)) =
-      imports_go facts task paths sink full old new result done
-  goes_after facts task paths (Err reply) sink full old new result (inr (other, same, line)) = same_goes old new same
+  goes_after : (task : ImportTask) (paths : List (List ℕ)) (made : Result (Unit {0}) Reply)
+      (sink full : Option (List ℕ)) (old new : Acted S) (result : Result Tally SessionError)
+      → importing.GoesOn machine task paths sink full old new result made → Goes machine old.1 new.1
+  goes_after task paths (Ok unit) sink full old new result done =
+      imports_go task paths sink full old new result done
+  goes_after task paths (Err reply) sink full old new result (inl (there, done)) =
+      imports_go task paths sink full old new result done
+  goes_after task paths (Err reply) sink full old new result (inr (other, same, line)) =
+      acted_goes old old new same refl
 
-  pub import_run_goes : (facts : FileFacts) (task : ImportTask) (paths : List (List ℕ)) (sink full : Option (List ℕ))
-      (old new : S) (result : Result Tally SessionError)
-      → importing.IsImportRun facts machine task paths sink full old new result → Goes machine old new
-  import_run_goes facts task paths sink full old new result run =
+  pub import_run_goes : (task : ImportTask) (paths : List (List ℕ)) (sink full : Option (List ℕ)) (old new : Acted S)
+      (result : Result Tally SessionError) → importing.IsImportRun machine task paths sink full old new result
+      → Goes machine old.1 new.1
+  import_run_goes task paths sink full old new result run =
       let made = run.makes.led (Say silent) in
-      then_goes old run.mid new (record { acts = made.acts; goes = made.goes })
-      (goes_after facts task paths run.made sink full run.mid new result run.done)
+      then_goes old.1 run.mid new.1 (record { acts = made.acts; goes = made.goes })
+      (goes_after task paths run.made sink full (old.0, run.mid) new result run.done)
 
   -- A file of a directory.
-  pub entry_goes : (facts : FileFacts) (task : ExportTask) (owner : ℕ) (entry : Entry) (sink full : Option (List ℕ))
-      (old new : S) (result : Result Tally SessionError)
-      → exporting.IsEntryDone facts machine task owner entry sink full old new result → Goes machine old new
-  entry_goes facts task owner entry sink full old new result (inl (made, taken)) =
+  pub entry_goes : (task : ExportTask) (owner : ℕ) (entry : Entry) (sink full : Option (List ℕ)) (old new : Acted S)
+      (result : Result Tally SessionError)
+      → exporting.IsEntryDone machine task owner entry sink full old new result → Goes machine old.1 new.1
+  entry_goes task owner entry sink full old new result (inl (made, taken)) =
       record { acts = taken.read.acts; goes = taken.read.goes }
-  entry_goes facts task owner entry sink full old new result (inr (inl (told, listed))) =
-      same_goes old new listed.same
-  entry_goes facts task owner entry sink full old new result (inr (inr unnamed)) = same_goes old new unnamed.same
+  entry_goes task owner entry sink full old new result (inr (inl (told, listed))) =
+      acted_goes old old new listed.same refl
+  entry_goes task owner entry sink full old new result (inr (inr unnamed)) = acted_goes old old new unnamed.same refl
 
-  pub entries_go : (facts : FileFacts) (task : ExportTask) (owner : ℕ) (es : List Entry) (sink full : Option (List ℕ))
-      (old new : S) (result : Result Tally SessionError)
-      → exporting.AreEntriesDone facts machine task owner es sink full old new result → Goes machine old new
-  entries_go facts task owner es sink full old new result (inl (made, done)) =
-      each_goes (exporting.IsEntryDone facts machine task owner) (entry_goes facts task owner) es _ sink full old new
-      result done
-  entries_go facts task owner es sink full old new result (inr (made, error, asked, same, line)) =
-      same_goes old new same
-
-  directory_goes : (facts : FileFacts) (task : ExportTask) (owner : ℕ) (answer : Result (List Entry) Reply)
-      (sink full : Option (List ℕ)) (mid new : S) (result : Result Tally SessionError)
-      → exporting.IsAnsweredDirectory facts machine task owner answer sink full mid new result → Goes machine mid new
-  directory_goes facts task owner (Ok es) sink full mid new result done =
-      entries_go facts task owner es sink full mid new result done
-  directory_goes facts task owner (Err reply) sink full mid new result (same, line) = same_goes mid new same
-
-  pub owner_goes : (facts : FileFacts) (task : ExportTask) (owner : ℕ) (sink full : Option (List ℕ)) (old new : S)
+  pub entries_go : (task : ExportTask) (owner : ℕ) (es : List Entry) (sink full : Option (List ℕ)) (old new : Acted S)
       (result : Result Tally SessionError)
-      → exporting.IsOwnerDone facts machine task owner sink full old new result → Goes machine old new
-  owner_goes facts task owner sink full old new result (inl d) =
-      then_goes old d.mid new (record { acts = d.asked.acts; goes = d.asked.goes })
-      (directory_goes facts task owner d.entries sink full d.mid new result d.done)
-  owner_goes facts task owner sink full old new result (inr unnamed) = same_goes old new unnamed.same
+      → exporting.AreEntriesDone machine task owner es sink full old new result → Goes machine old.1 new.1
+  entries_go task owner es sink full old new result (inl (lists, done)) =
+      each_goes (exporting.IsEntryDone machine task owner) (entry_goes task owner) es _ sink full old new result done
+  entries_go task owner es sink full old new result (inr (inl (makes, done))) =
+      each_goes (exporting.IsEntryDone machine task owner) (entry_goes task owner) es _ sink full
+      (folder_made (folder_of task.folder.now owner) true old) new result done
+  entries_go task owner es sink full old new result (inr (inr (makes, none))) =
+      acted_goes old (folder_made (folder_of task.folder.now owner) false old) new none.asked refl
 
-  owners_go : (facts : FileFacts) (task : ExportTask) (owners : List ℕ) (sink full : Option (List ℕ)) (old new : S)
+  directory_goes : (task : ExportTask) (owner : ℕ) (answer : Result (List Entry) Reply)
+      (sink full : Option (List ℕ)) (mid new : Acted S) (result : Result Tally SessionError)
+      → exporting.IsAnsweredDirectory machine task owner answer sink full mid new result → Goes machine mid.1 new.1
+  directory_goes task owner (Ok es) sink full mid new result done =
+      entries_go task owner es sink full mid new result done
+  directory_goes task owner (Err reply) sink full mid new result (same, line) = acted_goes mid mid new same refl
+
+  pub owner_goes : (task : ExportTask) (owner : ℕ) (sink full : Option (List ℕ)) (old new : Acted S)
       (result : Result Tally SessionError)
-      → exporting.AreOwnersDone facts machine task owners sink full old new result → Goes machine old new
-  owners_go facts task owners sink full old new result (inl (made, done)) =
-      each_goes (exporting.IsOwnerDone facts machine task) (owner_goes facts task) owners _ sink full old new result
-      done
-  owners_go facts task owners sink full old new result (inr (made, error, asked, same, line)) = same_goes old new same
+      → exporting.IsOwnerDone machine task owner sink full old new result → Goes machine old.1 new.1
+  owner_goes task owner sink full old new result (inl d) =
+      then_goes old.1 d.mid new.1 (record { acts = d.asked.acts; goes = d.asked.goes })
+      (directory_goes task owner d.entries sink full (old.0, d.mid) new result d.done)
+  owner_goes task owner sink full old new result (inr unnamed) = acted_goes old old new unnamed.same refl
 
-  answered_go : (facts : FileFacts) (task : ExportTask) (answer : Result (List ℕ) Reply) (sink full : Option (List ℕ))
-      (old new : S) (result : Result Tally SessionError)
-      → exporting.AreAnsweredOwners facts machine task answer sink full old new result → Goes machine old new
-  answered_go facts task (Ok owners) sink full old new result done =
-      owners_go facts task owners sink full old new result done
-  answered_go facts task (Err reply) sink full old new result (same, line) = same_goes old new same
-
-  pub exports_go : (facts : FileFacts) (task : ExportTask) (sink full : Option (List ℕ)) (old new : S)
+  owners_go : (task : ExportTask) (owners : List ℕ) (sink full : Option (List ℕ)) (old new : Acted S)
       (result : Result Tally SessionError)
-      → exporting.IsExportRun facts machine task sink full old new result → Goes machine old new
-  exports_go facts task sink full old new result run =
-      answered_go facts task run.owners sink full old new result run.done
+      → exporting.AreOwnersDone machine task owners sink full old new result → Goes machine old.1 new.1
+  owners_go task owners sink full old new result (inl (lists, done)) =
+      each_goes (exporting.IsOwnerDone machine task) (owner_goes task) owners _ sink full old new result done
+  owners_go task owners sink full old new result (inr (inl (makes, done))) =
+      each_goes (exporting.IsOwnerDone machine task) (owner_goes task) owners _ sink full
+      (folder_made task.folder.now true old) new result done
+  owners_go task owners sink full old new result (inr (inr (makes, none))) =
+      acted_goes old (folder_made task.folder.now false old) new none.asked refl
+
+  answered_go : (task : ExportTask) (answer : Result (List ℕ) Reply) (sink full : Option (List ℕ)) (old new : Acted S)
+      (result : Result Tally SessionError)
+      → exporting.AreAnsweredOwners machine task answer sink full old new result → Goes machine old.1 new.1
+  answered_go task (Ok owners) sink full old new result done = owners_go task owners sink full old new result done
+  answered_go task (Err reply) sink full old new result (same, line) = acted_goes old old new same refl
+
+  pub exports_go : (task : ExportTask) (sink full : Option (List ℕ)) (old new : Acted S)
+      (result : Result Tally SessionError) → exporting.IsExportRun machine task sink full old new result
+      → Goes machine old.1 new.1
+  exports_go task sink full old new result run = answered_go task run.owners sink full old new result run.done

@@ -4,7 +4,11 @@ use Rattle.std.proofs.Common.{drop, length, get_or, map}
 use Rattle.std.proofs.lemmas.List.{drop_more, drop_all, length-map}
 use Rattle.commands.specs.declared.answer.Tally.{Tally}
 use Rattle.commands.specs.declared.error.SessionError.{SessionError}
-use Rattle.collection.specs.Common.{EachDone, Then, added, none_counted}
+use Rattle.collection.specs.Common.{Acted, EachDone, FileAct, Then, added, none_counted}
+
+-- the acts so far, beside something else
+abbrev pub beside : {S : Type 0} → List FileAct → S → Acted S
+beside acts s = (acts, s)
 
 module _ {X S : Type 0} (step : X → Option (List ℕ) → Option (List ℕ) → S → S → Result Tally SessionError → Type 0)
     (xs : List X) (sink : Option (List ℕ)) (old : S) where
@@ -48,6 +52,12 @@ module _ {S : Type 0} (first next : Option (List ℕ) → Option (List ℕ) → 
   pub second_cut : (error : SessionError) → next middle full mid new (Err error)
       → Then first next sink full old new (Err error)
   second_cut error q = (Ok one, middle, mid, p, (Err error, q, refl))
+
+-- The first of two steps ended the run.
+pub first_cut : {S : Type 0} (first next : Option (List ℕ) → Option (List ℕ) → S → S → Result Tally SessionError
+    → Type 0) (sink full : Option (List ℕ)) (old new : S) (error : SessionError)
+    → first sink full old new (Err error) → Then first next sink full old new (Err error)
+first_cut first next sink full old new error p = (Err error, full, new, p, (refl, refl, refl))
 
 pub past_map : {A X : Type 0} (f : A → X) (xs : List A) (n : ℕ) → length xs ≤ n → length (map f xs) ≤ n
 past_map f xs n h = subst (λ k. k ≤ n) (sym (length-map xs f)) h

@@ -5,4 +5,5 @@ mod EachLaws
 mod FaultLaws
 pub mod QuietRuns
 mod SaveLaws
+mod ShownLaws
 mod ClockLaws

@@ -1,6 +1,6 @@
 -- Facts about a file that hold by other names of its parts.
 use Rattle.std.proofs.Common.{◌≡◌, ℕ, Bool, false, List, Option, Result, Ok, Err, codes, inl, inr, refl, subst, sym}
-use Rattle.std.proofs.Common.{◌⊎◌}
+use Rattle.std.proofs.Common.{◌⊎◌, ◌∷◌, ◌∙◌, None, ap}
 use Rattle.spec_language.specs.Common.{Plan, is_broken, owner_text, refusal}
 use Rattle.spec_language.specs.declared.encoding.Encoding.{Encoding}
 use Rattle.spec_image.specs.declared.entry.Entry.{Entry}
@@ -8,12 +8,11 @@ use Rattle.commands.specs.Common.{Imported, Machine, HasEntries}
 use Rattle.commands.specs.declared.answer.Tally.{Tally}
 use Rattle.commands.specs.declared.error.SessionError.{SessionError}
 use Rattle.commands.specs.declared.error.SessionError.TheVariants.{NoMemory}
-use Rattle.std.specs.declared.io.Error.{Error}
-use Rattle.collection.specs.Common.{AreEntriesDone, IsTakenOut, AreDoneWith, GoesOn, IsRefusedLine, folder_of}
-use Rattle.collection.specs.Common.{FileFacts}
+use Rattle.collection.specs.Common.{Acted, AreDoneWith, FileAct, GoesOn, HasNoFolder, IsRefusedLine, IsTakenOut}
+use Rattle.collection.specs.Common.{MadeFolder, ReadFile, folder_made, unread}
 use Rattle.collection.specs.declared.task.ImportTask.{ImportTask}
+use Rattle.collection.proofs.EachLaws.{beside}
 use Rattle.spec_machine.specs.declared.call.Reply.TheVariants.{Refused}
-use Rattle.collection.specs.declared.task.ExportTask.{ExportTask}
 use Rattle.words36.specs.declared.moment.Moment.{Moment}
 use Rattle.spec_machine.specs.declared.call.Reply.{Reply}
 
@@ -25,12 +24,12 @@ imported_as machine sink full old new encoding label other bytes more plan resul
     subst (λ l. Imported sink full machine old new encoding l more plan result) e
     (subst (λ b. Imported sink full machine old new encoding label b plan result) f p)
 
-pub taken_at : {S : Type 0} (facts : FileFacts) (machine : S → Machine) (asked : Option Encoding) (path other : List ℕ)
-    (owner : ℕ) (entry : Entry) (sink full : Option (List ℕ)) (old new : S) (result : Result Tally SessionError)
-    → path ≡ other → IsTakenOut facts machine asked path owner entry sink full old new result
-    → IsTakenOut facts machine asked other owner entry sink full old new result
-taken_at facts machine asked path other owner entry sink full old new result e p =
-    subst (λ l. IsTakenOut facts machine asked l owner entry sink full old new result) e p
+pub taken_at : {S : Type 0} (machine : S → Machine) (asked : Option Encoding) (path other : List ℕ) (owner : ℕ)
+    (entry : Entry) (sink full : Option (List ℕ)) (old new : Acted S) (result : Result Tally SessionError)
+    → path ≡ other → IsTakenOut machine asked path owner entry sink full old new result
+    → IsTakenOut machine asked other owner entry sink full old new result
+taken_at machine asked path other owner entry sink full old new result e p =
+    subst (λ l. IsTakenOut machine asked l owner entry sink full old new result) e p
 
 pub refused_as : (path other answer text : List ℕ) (broke broken : Bool) (sink full : Option (List ℕ))
     (result : Result Tally SessionError) → path ≡ other → answer ≡ text → broke ≡ broken
@@ -40,19 +39,27 @@ refused_as path other answer text broke broken sink full result e f h p =
     (subst (λ l. IsRefusedLine path l broken sink full result) f
     (subst (λ b. IsRefusedLine path answer b sink full result) h p))
 
+-- a folder was to be made at a path, which is this one
+pub made_at : {S : Type 0} (path other : List ℕ) (made : Bool) (old new : List FileAct) (s : S) → path ≡ other
+    → new ≡ MadeFolder path made ∷ old → beside new s ≡ folder_made other made (beside old s)
+made_at path other made old new s is asked = ap (λ acts. beside acts s) asked
+    ∙ ap (λ (p : List ℕ). beside (MadeFolder p made ∷ old) s) is
+
+-- a file couldn't be read
+pub unread_at : {S : Type 0} (path : List ℕ) (most other : ℕ) (old new : List FileAct) (s : S) → most ≡ other
+    → new ≡ ReadFile path most None ∷ old → beside new s ≡ unread path other (beside old s)
+unread_at path most other old new s is asked = ap (λ acts. beside acts s) asked
+    ∙ ap (λ (n : ℕ). beside (ReadFile path n None ∷ old) s) is
+
 -- no folder was made for a directory
-pub no_folder : {S : Type 0} (facts : FileFacts) (machine : S → Machine) (task : ExportTask) (owner : ℕ)
-    (entries : List Entry) (folder : List ℕ) (sink full : Option (List ℕ)) (now : S) (error : Error)
-    (result : Result Tally SessionError) → folder ≡ folder_of task.folder.now owner → task.lists ≡ false
-    → facts.folder folder (Err error) → IsRefusedLine folder (codes "?Can't make folder") false sink full result
-    → AreEntriesDone facts machine task owner entries sink full now now result
-no_folder facts machine task owner entries folder sink full now error result e lists asked line = inr (
-  lists,
-  error,
-  subst (λ l. facts.folder l (Err error)) e asked,
-  refl,
-  subst (λ l. IsRefusedLine l (codes "?Can't make folder") false sink full result) e line,
-)
+pub no_folder : {S : Type 0} (folder other : List ℕ) (sink full : Option (List ℕ)) (old new : List FileAct) (s : S)
+    (result : Result Tally SessionError) → folder ≡ other → new ≡ MadeFolder folder false ∷ old
+    → IsRefusedLine folder (codes "?Can't make folder") false sink full result
+    → HasNoFolder other sink full (beside old s) (beside new s) result
+no_folder folder other sink full old new s result is asked line = record {
+  asked = made_at folder other false old new s is asked;
+  written = subst (λ l. IsRefusedLine l (codes "?Can't make folder") false sink full result) is line;
+}
 
 pub entries_as : {V S : Type 0} (items : V → List Entry) (machine : S → Machine) (old new : S) (at : Moment) (owner : ℕ)
     (v : V) → HasEntries {V = V} items machine old new at owner (Ok v)
@@ -65,25 +72,26 @@ pub no_entries : {V S : Type 0} (items : V → List Entry) (machine : S → Mach
 no_entries items machine old new at owner reply p = record { acts = p.acts; goes = p.goes; answer = p.answer }
 
 -- a directory that was made, or exists
-pub let_in : {S : Type 0} (facts : FileFacts) (machine : S → Machine) (task : ImportTask) (paths : List (List ℕ))
-    (sink full : Option (List ℕ)) (old new : S) (result : Result Tally SessionError) (made : Result (Unit {0}) Reply)
-    → (made ≡ Ok tt) ⊎ (made ≡ Err (Refused 4)) → AreDoneWith facts machine task paths sink full old new result
-    → GoesOn facts machine task paths sink full old new result made
-let_in facts machine task paths sink full old new result made (inl e) done =
-    subst (GoesOn facts machine task paths sink full old new result) (sym e) done
-let_in facts machine task paths sink full old new result made (inr e) done =
-    subst (GoesOn facts machine task paths sink full old new result) (sym e) (inl (refl, done))
+pub let_in : {S : Type 0} (machine : S → Machine) (task : ImportTask) (paths : List (List ℕ))
+    (sink full : Option (List ℕ)) (old new : Acted S) (result : Result Tally SessionError)
+    (made : Result (Unit {0}) Reply) → (made ≡ Ok tt) ⊎ (made ≡ Err (Refused 4))
+    → AreDoneWith machine task paths sink full old new result
+    → GoesOn machine task paths sink full old new result made
+let_in machine task paths sink full old new result made (inl e) done =
+    subst (GoesOn machine task paths sink full old new result) (sym e) done
+let_in machine task paths sink full old new result made (inr e) done =
+    subst (GoesOn machine task paths sink full old new result) (sym e) (inl (refl, done))
 
 -- a directory that wasn't made and doesn't exist; its line may find no memory
-pub shut_out : {S : Type 0} (facts : FileFacts) (machine : S → Machine) (task : ImportTask) (paths : List (List ℕ))
-    (sink full : Option (List ℕ)) (now : S) (result : Result Tally SessionError) (made : Result (Unit {0}) Reply)
-    (reply : Reply) → made ≡ Err reply → (reply ≡ Refused 4 → ⊥)
+pub shut_out : {S : Type 0} (machine : S → Machine) (task : ImportTask) (paths : List (List ℕ))
+    (sink full : Option (List ℕ)) (now : Acted S) (result : Result Tally SessionError)
+    (made : Result (Unit {0}) Reply) (reply : Reply) → made ≡ Err reply → (reply ≡ Refused 4 → ⊥)
     → IsRefusedLine (owner_text task.owner) (refusal reply) (is_broken reply) sink full result
-    ⊎ ((full ≡ sink) × (result ≡ Err NoMemory)) → GoesOn facts machine task paths sink full now now result made
-shut_out facts machine task paths sink full now result made reply e other (inl line) =
-    subst (GoesOn facts machine task paths sink full now now result) (sym e) (inr (other, refl, inl line))
-shut_out facts machine task paths sink full now result made reply e other (inr (unwritten, memory)) =
-    subst (GoesOn facts machine task paths sink full now now result) (sym e) (inr (
+    ⊎ ((full ≡ sink) × (result ≡ Err NoMemory)) → GoesOn machine task paths sink full now now result made
+shut_out machine task paths sink full now result made reply e other (inl line) =
+    subst (GoesOn machine task paths sink full now now result) (sym e) (inr (other, refl, inl line))
+shut_out machine task paths sink full now result made reply e other (inr (unwritten, memory)) =
+    subst (GoesOn machine task paths sink full now now result) (sym e) (inr (
       other,
       refl,
       inr (record { same = refl; unwritten = unwritten; memory = memory }),

@@ -17,7 +17,7 @@ use Rattle.volume.specs.declared.error.VolumeError.TheVariants.{NotVolume, BadHo
 use Rattle.volume.specs.declared.error.VolumeError.TheVariants.{BadRetrieval, BlockTwice, TableWrong, Device}
 use Rattle.volume.specs.declared.error.VolumeError.TheVariants.{NoMemory, Failed, BadData}
 use Rattle.directory.proofs.GatheredEntries.{all_of}
-use Rattle.collection.specs.Common.{AreApartSaved, AreFilesSaved, AreFindingsDone, EachDone, FileFacts, IsKindDone}
+use Rattle.collection.specs.Common.{Acted, AreApartSaved, AreFilesSaved, AreFindingsDone, EachDone, IsKindDone}
 use Rattle.collection.specs.Common.{IsLineDone, IsRestDone, IsSalvageRun, Then, added, is_of_kind, is_wanted_cost}
 use Rattle.collection.specs.Common.{doubtful_folder, kind_of, kind_texts, kinds, none_counted, of_kind, unnamed_folder}
 use Rattle.collection.specs.declared.task.ExportTask.{ExportTask}
@@ -169,23 +169,24 @@ no_findings task findings sink full old new tally all done quiet = none_told tas
     (quiet_each (IsKindDone task findings) kinds none_counted sink full tt tt tally done.1 quiet).1)
 
 -- A whole run.
-pub nothing_told : {D : Type 0} (facts : FileFacts) (state : D → DiskState) (task : ExportTask) (head : List Finding)
-    (files doubtful unnamed : List SavedFile) (findings : List Finding) (sink full : Option (List ℕ)) (old new : D)
+pub nothing_told : {D : Type 0} (state : D → DiskState) (task : ExportTask) (head : List Finding)
+    (files doubtful unnamed : List SavedFile) (findings : List Finding) (sink full : Option (List ℕ))
+    (old new : Acted D)
     (tally : Tally) → task.owner ≡ None
-    → IsSalvageRun facts state task head files doubtful unnamed findings sink full old new (Ok tally)
+    → IsSalvageRun state task head files doubtful unnamed findings sink full old new (Ok tally)
     → tally.refused ≡ false → (head ≡ []) × (findings ≡ [])
-nothing_told {D = D} facts state task head files doubtful unnamed findings sink full old new tally all run quiet =
-    let Step : Type 1 = Option (List ℕ) → Option (List ℕ) → D → D → Result Tally SessionError → Type 0 in
+nothing_told {D = D} state task head files doubtful unnamed findings sink full old new tally all run quiet =
+    let Step : Type 1 = Option (List ℕ) → Option (List ℕ) → Acted D → Acted D → Result Tally SessionError → Type 0 in
     let told : Step = AreFindingsDone task findings in
-    let others : Step = Then (AreApartSaved facts state task (unnamed_folder task.folder.now) true unnamed) told in
-    let more : Step = Then (AreApartSaved facts state task (doubtful_folder task.folder.now) false doubtful) others in
-    let rest : Step = Then (AreFilesSaved facts state task task.folder.now false files) more in
+    let others : Step = Then (AreApartSaved state task (unnamed_folder task.folder.now) true unnamed) told in
+    let more : Step = Then (AreApartSaved state task (doubtful_folder task.folder.now) false doubtful) others in
+    let rest : Step = Then (AreFilesSaved state task task.folder.now false files) more in
     let first = both_quiet (AreFindingsDone task head) rest sink full old new tally run quiet in
-    let second = both_quiet (AreFilesSaved facts state task task.folder.now false files) more first.middle full
+    let second = both_quiet (AreFilesSaved state task task.folder.now false files) more first.middle full
     first.mid new first.two first.then_done first.quiet_too in
-    let third = both_quiet (AreApartSaved facts state task (doubtful_folder task.folder.now) false doubtful) others
+    let third = both_quiet (AreApartSaved state task (doubtful_folder task.folder.now) false doubtful) others
     second.middle full second.mid new second.two second.then_done second.quiet_too in
-    let last = both_quiet (AreApartSaved facts state task (unnamed_folder task.folder.now) true unnamed) told
+    let last = both_quiet (AreApartSaved state task (unnamed_folder task.folder.now) true unnamed) told
     third.middle full third.mid new third.two third.then_done third.quiet_too in (
       no_findings task head sink first.middle old first.mid first.one all first.done first.quiet,
       no_findings task findings last.middle full last.mid new last.two all last.then_done last.quiet_too,

@@ -1,6 +1,7 @@
 -- The names of files of the host on a volume, and of files of a volume on the host.
-use Rattle.std.specs.Prelude.{◌≡◌, ◌⊎◌, ◌/◌, ◌%◌, ◌+◌, ◌==◌, ℕ, zero, suc, Bool, true, nat_lt, if◌then◌else◌, List}
-use Rattle.std.specs.Prelude.{[], ◌∷◌, ◌++◌, ◌||◌, map, flat_map, Option, Some, None, codes, option_map}
+use Rattle.std.specs.Prelude.{◌≡◌, ◌⊎◌, ◌/◌, ◌%◌, ◌+◌, ◌-◌, ◌==◌, ℕ, zero, suc, Bool, true, nat_lt, nat_le}
+use Rattle.std.specs.Prelude.{if◌then◌else◌, List, [], ◌∷◌, ◌++◌, ◌||◌, ◌&&◌, map, flat_map, slice_index, Option, Some}
+use Rattle.std.specs.Prelude.{None, codes, option_map}
 use Rattle.std.specs.Fmt.{decimal}
 use Rattle.std.specs.Path.{path_file_name, path_file_stem, path_extension}
 use Rattle.words36.specs.Common.{characters}
@@ -41,12 +42,35 @@ IsNameFor shortens path text file = IsFileName (map upper text) file.name file.e
     × ((own : List ℕ) (named : FileName) → IsOwnText path (Some own)
     → IsFileName (map upper own) named.name named.ext → ⊥)))
 
--- A path as it is shown in a line: without control characters.
-abbrev pub shown_byte : ℕ → ℕ
-shown_byte b = if nat_lt b 32 || b == 127 then 63 else b
+-- A path as it is shown in a line: with a question mark for each character on which a terminal might act.
+
+abbrev pub is_within : ℕ → ℕ → ℕ → Bool
+is_within low high b = nat_le low b && nat_le b high
+
+-- How many bytes the character has that begins with these bytes, if it isn't shown, else 0. Not shown are control
+-- characters, U+0080 to U+009F among them, and marks that turn the direction of writing: U+202A to U+202E and U+2066 to
+-- U+2069.
+abbrev pub hidden : ℕ → ℕ → ℕ → ℕ
+hidden a b c =
+    if nat_lt a 32 || a == 127 then 1
+    else if a == 194 && is_within 128 159 b then 2
+    else if a == 226 && b == 128 && is_within 170 174 c then 3
+    else if a == 226 && b == 129 && is_within 166 169 c then 3
+    else 0
+
+-- a byte of a character that isn't hidden, or a question mark for one that has this many bytes
+abbrev pub shown_byte : ℕ → ℕ → ℕ
+shown_byte n b = if n == 0 then b else 63
+
+-- the bytes as they are shown, without these first ones
+abbrev pub shown_after : ℕ → List ℕ → List ℕ
+shown_after skip [] = []
+shown_after zero (b ∷ bs) =
+    let n = hidden b (slice_index bs 0) (slice_index bs 1) in shown_byte n b ∷ shown_after (n - 1) bs
+shown_after (suc skip) (b ∷ bs) = shown_after skip bs
 
 abbrev pub shown : List ℕ → List ℕ
-shown path = map shown_byte path
+shown path = shown_after 0 path
 
 -- The path of a file of a volume on the host: FOLDER/10,20/FOO.TXT. In a name, a character that isn't a letter or a
 -- digit is shown as % and its code in two hexadecimal digits.

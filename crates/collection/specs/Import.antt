@@ -1,6 +1,5 @@
 -- Files of the host that are put, one after the other.
-use Rattle.std.specs.Prelude.{◌≡◌, ◌⊎◌, ℕ, true, false, List, Option, Some, None, Result, Ok, Err, codes}
-use Rattle.std.specs.declared.io.Error.{Error}
+use Rattle.std.specs.Prelude.{◌≡◌, ◌⊎◌, ◌∷◌, ℕ, true, false, List, Option, Some, None, Result, Ok, Err, codes}
 use Rattle.words36.specs.declared.moment.Moment.{Moment}
 use Rattle.words36.specs.declared.names.FileName.{FileName}
 use Rattle.spec_language.specs.Common.{login_events, is_character, own_file, Plan, make_dir_events, each, Are}
@@ -16,7 +15,7 @@ use Rattle.commands.specs.declared.error.SessionError.{SessionError}
 use Rattle.commands.specs.declared.existing.Existing.TheVariants.{Refuse}
 use Rattle.collection.specs.Clock.{at_first}
 use Rattle.collection.specs.Each.{EachDone, none_counted}
-use Rattle.collection.specs.HostFacts.{FileFacts}
+use Rattle.collection.specs.HostActs.{Acted, ReadFile, day_of, unread}
 use Rattle.collection.specs.Lines.{IsRefusedLine, IsUnnamed, label_of}
 use Rattle.collection.specs.HostNames.{IsNameFor}
 use Rattle.collection.specs.declared.source.Source.{Source}
@@ -64,29 +63,30 @@ IsSourcePut machine task path text name source sink full old new result =
     ⊎ IsUnnamed sink full old new result
 
 -- What the host returned for a file that gets this name, which a text spells, and what became of it.
-abbrev pub IsReadAndPut : {S : Type 0} → FileFacts → (S → Machine) → ImportTask → List ℕ → List ℕ → FileName
-    → Option (List ℕ) → Option (List ℕ) → S → S → Result Tally SessionError → Type 0
-IsReadAndPut facts machine task path text name sink full old new result =
-    ((source : Source) × facts.read path (most_read task.encoding) (Ok source)
-    × IsSourcePut machine task path text name source sink full old new result)
-    ⊎ ((error : Error) × facts.read path (most_read task.encoding) (Err error)
-    × IsTurnedDown path sink full old new (codes "?Can't read") result)
+abbrev pub IsReadAndPut : {S : Type 0} → (S → Machine) → ImportTask → List ℕ → List ℕ → FileName → Option (List ℕ)
+    → Option (List ℕ) → Acted S → Acted S → Result Tally SessionError → Type 0
+IsReadAndPut machine task path text name sink full old new result =
+    ((source : Source) × (new.0 ≡ ReadFile path (most_read task.encoding)
+    (Some (source.bytes.items, day_of source.changed)) ∷ old.0)
+    × IsSourcePut machine task path text name source sink full old.1 new.1 result)
+    ⊎ ((new ≡ unread path (most_read task.encoding) old)
+    × IsRefusedLine path (codes "?Can't read") false sink full result)
 
 -- What became of one file: it gets a name and is read, or there is no name that it can have.
-abbrev pub IsDoneWith : {S : Type 0} → FileFacts → (S → Machine) → ImportTask → List ℕ → Option (List ℕ)
-    → Option (List ℕ) → S → S → Result Tally SessionError → Type 0
-IsDoneWith facts machine task path sink full old new result =
+abbrev pub IsDoneWith : {S : Type 0} → (S → Machine) → ImportTask → List ℕ → Option (List ℕ) → Option (List ℕ)
+    → Acted S → Acted S → Result Tally SessionError → Type 0
+IsDoneWith machine task path sink full old new result =
     ((text : List ℕ) × (name : FileName) × IsNameFor task.shortens path text name
-    × IsReadAndPut facts machine task path text name sink full old new result)
+    × IsReadAndPut machine task path text name sink full old new result)
     ⊎ (((text : List ℕ) (name : FileName) → IsNameFor task.shortens path text name → ⊥)
     × IsTurnedDown path sink full old new (codes "?Bad name") result)
     ⊎ IsUnnamed sink full old new result
 
 -- What became of all of them, in their order. A fault of the writer and a lack of memory end the run.
-abbrev pub AreDoneWith : {S : Type 0} → FileFacts → (S → Machine) → ImportTask → List (List ℕ) → Option (List ℕ)
-    → Option (List ℕ) → S → S → Result Tally SessionError → Type 0
-AreDoneWith facts machine task paths sink full old new result =
-    EachDone (IsDoneWith facts machine task) paths none_counted sink full old new result
+abbrev pub AreDoneWith : {S : Type 0} → (S → Machine) → ImportTask → List (List ℕ) → Option (List ℕ)
+    → Option (List ℕ) → Acted S → Acted S → Result Tally SessionError → Type 0
+AreDoneWith machine task paths sink full old new result =
+    EachDone (IsDoneWith machine task) paths none_counted sink full old new result
 
 -- The owner's job made its directory, first of all, and this is the result.
 pub record HasMade {S : Type 0} (machine : S → Machine) (old new : S) (owner : ℕ) (made : Result (Unit {0}) Reply)
@@ -98,21 +98,20 @@ pub record HasMade {S : Type 0} (machine : S → Machine) (old new : S) (owner :
       (followed at made (λ unit. next))
 
 -- The directory was made, or exists; or it does neither, and a line states this: whose it is, and why.
-abbrev pub GoesOn : {S : Type 0} → FileFacts → (S → Machine) → ImportTask → List (List ℕ) → Option (List ℕ)
-    → Option (List ℕ) → S → S → Result Tally SessionError → Result (Unit {0}) Reply → Type 0
-GoesOn facts machine task paths sink full old new result (Ok unit) =
-    AreDoneWith facts machine task paths sink full old new result
-GoesOn facts machine task paths sink full old new result (Err reply) =
-    ((reply ≡ Refused 4) × AreDoneWith facts machine task paths sink full old new result)
+abbrev pub GoesOn : {S : Type 0} → (S → Machine) → ImportTask → List (List ℕ) → Option (List ℕ) → Option (List ℕ)
+    → Acted S → Acted S → Result Tally SessionError → Result (Unit {0}) Reply → Type 0
+GoesOn machine task paths sink full old new result (Ok unit) =
+    AreDoneWith machine task paths sink full old new result
+GoesOn machine task paths sink full old new result (Err reply) =
+    ((reply ≡ Refused 4) × AreDoneWith machine task paths sink full old new result)
     ⊎ ((reply ≡ Refused 4 → ⊥) × (new ≡ old)
     × (IsRefusedLine (owner_text task.owner) (refusal reply) (is_broken reply) sink full result
     ⊎ IsUnnamed sink full old new result))
 
 -- What became of a directory and of the files that were put into it.
-pub record IsImportRun {S : Type 0} (facts : FileFacts) (machine : S → Machine) (task : ImportTask)
-    (paths : List (List ℕ)) (sink full : Option (List ℕ)) (old new : S) (result : Result Tally SessionError)
-    : Type 0 where
+pub record IsImportRun {S : Type 0} (machine : S → Machine) (task : ImportTask) (paths : List (List ℕ))
+    (sink full : Option (List ℕ)) (old new : Acted S) (result : Result Tally SessionError) : Type 0 where
   pub mid : S
   pub made : Result (Unit {0}) Reply
-  pub makes : HasMade machine old mid task.owner made
-  pub done : GoesOn facts machine task paths sink full mid new result made
+  pub makes : HasMade machine old.1 mid task.owner made
+  pub done : GoesOn machine task paths sink full (old.0, mid) new result made

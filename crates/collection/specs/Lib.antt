@@ -1,6 +1,7 @@
 pub mod Clock
 pub mod HostNames
-pub mod HostFacts
+pub mod HostActs
+pub mod ActMade
 pub mod Each
 pub mod Lines
 pub mod Import

@@ -4,12 +4,12 @@ ghost use Rattle.monitor.specs.Common.{MonitorState};
 ghost use Rattle.commands.specs.Common.{machine_of};
 ghost use Rattle.collection.specs.Common.{EachDone, Goes, none_counted, folder_of as folder_text, AreEntriesDone};
 ghost use Rattle.collection.specs.Common.{AreOwnersDone, IsChangeOf, IsEntryDone, IsExportRun, IsOwnerDone, IsStored};
-ghost use Rattle.collection.specs.Common.{IsTakenOut, MayExport, encoding_text};
+ghost use Rattle.collection.specs.Common.{IsTakenOut, encoding_text};
 
 use crate::clock::first_moment;
 use crate::lines::{added, say, say_path, turn_down};
 use crate::paths::{folder_of, path_of};
-use crate::report::report;
+use crate::report::{report, report_undated};
 use crate::{ExportTask, HostFiles};
 use blockdisk::Disk;
 use commands::{
@@ -43,7 +43,7 @@ fn change_of(entry: &Entry) -> Option<Moment>
 
 /// Makes a file of the host from what was read, last changed at a moment, and writes its line.
 pub(crate) fn store<H: HostFiles, W: Write, E: Write>(
-    host: &H,
+    host: &mut H,
     alloc: Global,
     path: &str,
     changed: Option<Moment>,
@@ -51,9 +51,8 @@ pub(crate) fn store<H: HostFiles, W: Write, E: Write>(
     writer: &mut W,
     errors: &mut E,
 ) -> Result<Tally, SessionError>
-    requires { (H.files host.now).may_store path.now }
-    ensures { IsStored (H.files host.now) path.now changed exported (W.contents writer.old) (W.contents writer.new)
-        result }
+    ensures { IsStored path.now changed exported (H.acts host.old) (H.acts host.new) (W.contents writer.old)
+        (W.contents writer.new) result }
 {
     let (encoding, bytes) = match exported {
         Ok(Exported::File(encoding, bytes)) => (encoding, bytes),
@@ -63,8 +62,9 @@ pub(crate) fn store<H: HostFiles, W: Write, E: Write>(
         Ok(Exported::NotBytes) => return turn_down(alloc, writer, path, "?Not bytes", false),
         Err(_) => return Err(SessionError::NoMemory),
     };
-    match host.store(path, &bytes, changed) {
-        Ok(()) => {
+    match host.store(alloc, path, &bytes, changed) {
+        Ok(undated) => {
+            report_undated(errors, path, undated);
             let said = encoding_text(encoding).as_bytes();
             say(alloc, writer, path, said, "OK", Tally::none())
         }
@@ -98,7 +98,7 @@ struct Listed<'a> {
 
 /// Reads a file and makes one of the host from it, at a path.
 fn take_out<H: HostFiles, W: Write, E: Write, D: Disk>(
-    host: &H,
+    host: &mut H,
     alloc: Global,
     directory: &Directory<'_>,
     file: &Outgoing<'_>,
@@ -106,10 +106,9 @@ fn take_out<H: HostFiles, W: Write, E: Write, D: Disk>(
     writer: &mut W,
     errors: &mut E,
 ) -> Result<Tally, SessionError>
-    requires { (H.files host.now).may_store file.now.path.now }
-    ensures { IsTakenOut (H.files host.now) (λ (m : MonitorState D). machine_of (D.state m.disk) m.map m.failed m.jobs)
+    ensures { IsTakenOut (λ (m : MonitorState D). machine_of (D.state m.disk) m.map m.failed m.jobs)
         directory.now.task.now.encoding file.now.path.now directory.now.owner file.now.entry.now (W.contents writer.old)
-        (W.contents writer.new) monitor.old monitor.new result }
+        (W.contents writer.new) (H.acts host.old, monitor.old) (H.acts host.new, monitor.new) result }
 {
     let entry = file.entry;
     let wanted = Export {
@@ -126,7 +125,7 @@ fn take_out<H: HostFiles, W: Write, E: Write, D: Disk>(
 
 /// Makes a file of the host from a file, or only lists its path.
 fn export_one<H: HostFiles, W: Write, E: Write, D: Disk>(
-    host: &H,
+    host: &mut H,
     alloc: Global,
     directory: &Directory<'_>,
     entry: &Entry,
@@ -134,10 +133,9 @@ fn export_one<H: HostFiles, W: Write, E: Write, D: Disk>(
     writer: &mut W,
     errors: &mut E,
 ) -> Result<Tally, SessionError>
-    requires { MayExport (H.files host.now) directory.now.task.now }
-    ensures { IsEntryDone (H.files host.now) (λ (m : MonitorState D). machine_of (D.state m.disk) m.map m.failed m.jobs)
+    ensures { IsEntryDone (λ (m : MonitorState D). machine_of (D.state m.disk) m.map m.failed m.jobs)
         directory.now.task.now directory.now.owner entry.now (W.contents writer.old) (W.contents writer.new)
-        monitor.old monitor.new result }
+        (H.acts host.old, monitor.old) (H.acts host.new, monitor.new) result }
 {
     let task = directory.task;
     let Ok(path) = path_of(alloc, task.folder, directory.owner, entry.name) else {
@@ -155,7 +153,7 @@ fn export_one<H: HostFiles, W: Write, E: Write, D: Disk>(
 
 /// Makes files of the host from these files of a directory, or only lists their paths.
 fn export_entries<H: HostFiles, W: Write, E: Write, D: Disk>(
-    host: &H,
+    host: &mut H,
     alloc: Global,
     directory: &Directory<'_>,
     entries: &[Entry],
@@ -163,11 +161,9 @@ fn export_entries<H: HostFiles, W: Write, E: Write, D: Disk>(
     writer: &mut W,
     errors: &mut E,
 ) -> Result<Tally, SessionError>
-    requires { MayExport (H.files host.now) directory.now.task.now }
-    ensures { EachDone (IsEntryDone (H.files host.now)
-        (λ (m : MonitorState D). machine_of (D.state m.disk) m.map m.failed m.jobs) directory.now.task.now
-        directory.now.owner) entries.now none_counted (W.contents writer.old) (W.contents writer.new) monitor.old
-        monitor.new result }
+    ensures { EachDone (IsEntryDone (λ (m : MonitorState D). machine_of (D.state m.disk) m.map m.failed m.jobs)
+        directory.now.task.now directory.now.owner) entries.now none_counted (W.contents writer.old)
+        (W.contents writer.new) (H.acts host.old, monitor.old) (H.acts host.new, monitor.new) result }
 {
     let mut tally = Tally::none();
     for entry in entries {
@@ -179,7 +175,7 @@ fn export_entries<H: HostFiles, W: Write, E: Write, D: Disk>(
 
 /// Makes the folder of a directory, unless paths are only listed, and then exports its files.
 fn fill_folder<H: HostFiles, W: Write, E: Write, D: Disk>(
-    host: &H,
+    host: &mut H,
     alloc: Global,
     directory: &Directory<'_>,
     listed: &Listed<'_>,
@@ -187,37 +183,36 @@ fn fill_folder<H: HostFiles, W: Write, E: Write, D: Disk>(
     writer: &mut W,
     errors: &mut E,
 ) -> Result<Tally, SessionError>
-    requires folder { listed.now.folder.now ≡ folder_text directory.now.task.now.folder.now directory.now.owner }
-    requires allowed { MayExport (H.files host.now) directory.now.task.now }
-    ensures { AreEntriesDone (H.files host.now)
-        (λ (m : MonitorState D). machine_of (D.state m.disk) m.map m.failed m.jobs) directory.now.task.now
-        directory.now.owner listed.now.entries.now (W.contents writer.old) (W.contents writer.new) monitor.old
-        monitor.new result }
+    requires { listed.now.folder.now ≡ folder_text directory.now.task.now.folder.now directory.now.owner }
+    ensures { AreEntriesDone (λ (m : MonitorState D). machine_of (D.state m.disk) m.map m.failed m.jobs)
+        directory.now.task.now directory.now.owner listed.now.entries.now (W.contents writer.old)
+        (W.contents writer.new) (H.acts host.old, monitor.old) (H.acts host.new, monitor.new) result }
 {
-    let folder = listed.folder;
-    if !directory.task.lists
-        && let Err(error) = host.make_folder(folder)
-    {
-        report(errors, folder, &error);
-        return turn_down(alloc, writer, folder, "?Can't make folder", false);
+    let Listed { folder, entries } = *listed;
+    if directory.task.lists {
+        return export_entries(host, alloc, directory, entries, monitor, writer, errors);
     }
-    let entries = listed.entries;
-    export_entries(host, alloc, directory, entries, monitor, writer, errors)
+    match host.make_folder(folder) {
+        Ok(()) => export_entries(host, alloc, directory, entries, monitor, writer, errors),
+        Err(error) => {
+            report(errors, folder, &error);
+            turn_down(alloc, writer, folder, "?Can't make folder", false)
+        }
+    }
 }
 
 /// Makes files of the host from the files of a directory.
 fn export_directory<H: HostFiles, W: Write, E: Write, D: Disk>(
-    host: &H,
+    host: &mut H,
     alloc: Global,
     directory: &Directory<'_>,
     monitor: &mut Monitor<D>,
     writer: &mut W,
     errors: &mut E,
 ) -> Result<Tally, SessionError>
-    requires { MayExport (H.files host.now) directory.now.task.now }
-    ensures { IsOwnerDone (H.files host.now) (λ (m : MonitorState D). machine_of (D.state m.disk) m.map m.failed m.jobs)
-        directory.now.task.now directory.now.owner (W.contents writer.old) (W.contents writer.new) monitor.old
-        monitor.new result }
+    ensures { IsOwnerDone (λ (m : MonitorState D). machine_of (D.state m.disk) m.map m.failed m.jobs)
+        directory.now.task.now directory.now.owner (W.contents writer.old) (W.contents writer.new)
+        (H.acts host.old, monitor.old) (H.acts host.new, monitor.new) result }
 {
     let Ok(folder) = folder_of(alloc, directory.task.folder, directory.owner) else {
         return Err(SessionError::NoMemory);
@@ -237,7 +232,7 @@ fn export_directory<H: HostFiles, W: Write, E: Write, D: Disk>(
 
 /// Makes files of the host from the files of these directories.
 fn export_directories<H: HostFiles, W: Write, E: Write, D: Disk>(
-    host: &H,
+    host: &mut H,
     alloc: Global,
     task: &ExportTask<'_>,
     owners: &[Ppn],
@@ -245,10 +240,9 @@ fn export_directories<H: HostFiles, W: Write, E: Write, D: Disk>(
     writer: &mut W,
     errors: &mut E,
 ) -> Result<Tally, SessionError>
-    requires { MayExport (H.files host.now) task.now }
-    ensures { EachDone (IsOwnerDone (H.files host.now)
-        (λ (m : MonitorState D). machine_of (D.state m.disk) m.map m.failed m.jobs) task.now) owners.now none_counted
-        (W.contents writer.old) (W.contents writer.new) monitor.old monitor.new result }
+    ensures { EachDone (IsOwnerDone (λ (m : MonitorState D). machine_of (D.state m.disk) m.map m.failed m.jobs)
+        task.now) owners.now none_counted (W.contents writer.old) (W.contents writer.new) (H.acts host.old, monitor.old)
+        (H.acts host.new, monitor.new) result }
 {
     let mut tally = Tally::none();
     for owner in owners {
@@ -264,7 +258,7 @@ fn export_directories<H: HostFiles, W: Write, E: Write, D: Disk>(
 
 /// Makes the folder for all directories, unless paths are only listed, and then exports these.
 fn export_owners<H: HostFiles, W: Write, E: Write, D: Disk>(
-    host: &H,
+    host: &mut H,
     alloc: Global,
     task: &ExportTask<'_>,
     owners: &[Ppn],
@@ -272,18 +266,20 @@ fn export_owners<H: HostFiles, W: Write, E: Write, D: Disk>(
     writer: &mut W,
     errors: &mut E,
 ) -> Result<Tally, SessionError>
-    requires { MayExport (H.files host.now) task.now }
-    ensures { AreOwnersDone (H.files host.now)
-        (λ (m : MonitorState D). machine_of (D.state m.disk) m.map m.failed m.jobs) task.now owners.now
-        (W.contents writer.old) (W.contents writer.new) monitor.old monitor.new result }
+    ensures { AreOwnersDone (λ (m : MonitorState D). machine_of (D.state m.disk) m.map m.failed m.jobs) task.now
+        owners.now (W.contents writer.old) (W.contents writer.new) (H.acts host.old, monitor.old)
+        (H.acts host.new, monitor.new) result }
 {
-    if !task.lists
-        && let Err(error) = host.make_folder(task.folder)
-    {
-        report(errors, task.folder, &error);
-        return turn_down(alloc, writer, task.folder, "?Can't make folder", false);
+    if task.lists {
+        return export_directories(host, alloc, task, owners, monitor, writer, errors);
     }
-    export_directories(host, alloc, task, owners, monitor, writer, errors)
+    match host.make_folder(task.folder) {
+        Ok(()) => export_directories(host, alloc, task, owners, monitor, writer, errors),
+        Err(error) => {
+            report(errors, task.folder, &error);
+            turn_down(alloc, writer, task.folder, "?Can't make folder", false)
+        }
+    }
 }
 
 /// Makes a file of the host from each file of a directory, or of all directories, at a path where there is none:
@@ -295,17 +291,16 @@ fn export_owners<H: HostFiles, W: Write, E: Write, D: Disk>(
 ///
 /// `Write` if the writer failed, `NoMemory` if there is no memory for a file or its line: those before it were made.
 pub fn export_files<H: HostFiles, W: Write, E: Write, D: Disk>(
-    host: &H,
+    host: &mut H,
     alloc: Global,
     task: &ExportTask<'_>,
     monitor: &mut Monitor<D>,
     writer: &mut W,
     errors: &mut E,
 ) -> Result<Tally, SessionError>
-    requires { MayExport (H.files host.now) task.now }
-    ensures done { IsExportRun (H.files host.now)
-        (λ (m : MonitorState D). machine_of (D.state m.disk) m.map m.failed m.jobs) task.now
-        (W.contents writer.old) (W.contents writer.new) monitor.old monitor.new result }
+    ensures done { IsExportRun (λ (m : MonitorState D). machine_of (D.state m.disk) m.map m.failed m.jobs) task.now
+        (W.contents writer.old) (W.contents writer.new) (H.acts host.old, monitor.old) (H.acts host.new, monitor.new)
+        result }
     ensures goes { Goes (λ (m : MonitorState D). machine_of (D.state m.disk) m.map m.failed m.jobs) monitor.old
         monitor.new }
 {

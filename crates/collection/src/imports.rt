@@ -1,5 +1,5 @@
 //! The import of files of the host into a directory.
-ghost use Rattle.std.specs.Prelude.{◌≡◌, ◌⊎◌, ◌<◌, ℕ, List, All, length, get_or, map, true, IfSome, IfNone, Ok, Err};
+ghost use Rattle.std.specs.Prelude.{◌≡◌, ◌⊎◌, ◌<◌, ℕ, List, length, get_or, map, true, IfSome, IfNone, Ok, Err};
 ghost use Rattle.std.specs.Prelude.{None};
 ghost use Rattle.spec_machine.specs.declared.call.Reply.TheVariants.{Refused};
 ghost use Rattle.spec_language.specs.Common.{is_broken, owner_text, refusal};
@@ -22,8 +22,9 @@ use commands::{
 };
 use spec_machine::Reply;
 use std::alloc::Global;
+use std::collections::BTreeMap;
 use std::io::Write;
-use words36::{Moment, Ppn};
+use words36::{FileName, Moment, Ppn};
 
 /// Code 4: the directory exists.
 const ALREADY_EXISTS: u32 = 4;
@@ -123,7 +124,7 @@ fn put_source<W: Write, E: Write, D: Disk>(
 
 /// Reads a file of the host and puts it, if no file has its name, and writes its line.
 fn import_one<H: HostFiles, W: Write, E: Write, D: Disk>(
-    host: &H,
+    host: &mut H,
     alloc: Global,
     task: &ImportTask<'_>,
     path: &str,
@@ -131,9 +132,9 @@ fn import_one<H: HostFiles, W: Write, E: Write, D: Disk>(
     writer: &mut W,
     errors: &mut E,
 ) -> Result<Tally, SessionError>
-    requires { (H.files host.now).may_read path.now }
-    ensures { IsDoneWith (H.files host.now) (λ (m : MonitorState D). machine_of (D.state m.disk) m.map m.failed m.jobs)
-        task.now path.now (W.contents writer.old) (W.contents writer.new) monitor.old monitor.new result }
+    ensures { IsDoneWith (λ (m : MonitorState D). machine_of (D.state m.disk) m.map m.failed m.jobs) task.now path.now
+        (W.contents writer.old) (W.contents writer.new) (H.acts host.old, monitor.old) (H.acts host.new, monitor.new)
+        result }
 {
     let Ok(found) = name_for(alloc, path, task.shortens) else {
         return Err(SessionError::NoMemory);
@@ -150,22 +151,30 @@ fn import_one<H: HostFiles, W: Write, E: Write, D: Disk>(
     }
 }
 
-/// Tells people which of the files before a refused one has the same name, if one has.
-fn report_same_name<E: Write>(alloc: Global, task: &ImportTask<'_>, place: usize, errors: &mut E) {
-    let (before, rest) = task.paths.as_slice().split_at(place.min(task.paths.len()));
-    let Some(path) = rest.first() else {
+/// Remembers the name of a file that was put. For a refused one it reports which file of this run was put under its
+/// name, if one was.
+fn note_name<E: Write>(
+    alloc: Global,
+    task: &ImportTask<'_>,
+    place: usize,
+    refused: bool,
+    put: &mut BTreeMap<FileName, usize>,
+    errors: &mut E,
+) {
+    let Some(path) = task.paths.get(place) else {
         return;
     };
     let Ok(Some(named)) = name_for(alloc, path, task.shortens) else {
         return;
     };
-    for other in before {
-        if let Ok(Some(earlier)) = name_for(alloc, other, task.shortens)
-            && earlier.name == named.name
-        {
-            report_collision(errors, path, other);
-            return;
-        }
+    if !refused {
+        let _ = put.insert(named.name, place); // without memory a later note is missing, and nothing else
+        return;
+    }
+    if let Some(earlier) = put.get(&named.name)
+        && let Some(other) = task.paths.get(*earlier)
+    {
+        report_collision(errors, path, other);
     }
 }
 
@@ -179,25 +188,23 @@ fn path_at<'a>(task: &ImportTask<'a>, place: usize) -> &'a str
 
 /// Puts files of the host into a directory that exists.
 fn import_all<H: HostFiles, W: Write, E: Write, D: Disk>(
-    host: &H,
+    host: &mut H,
     alloc: Global,
     task: &ImportTask<'_>,
     monitor: &mut Monitor<D>,
     writer: &mut W,
     errors: &mut E,
 ) -> Result<Tally, SessionError>
-    requires { All (H.files host.now).may_read (map (λ p. p.now) task.now.paths.items) }
-    ensures { AreDoneWith (H.files host.now) (λ (m : MonitorState D). machine_of (D.state m.disk) m.map m.failed m.jobs)
-        task.now (map (λ p. p.now) task.now.paths.items) (W.contents writer.old) (W.contents writer.new) monitor.old
-        monitor.new result }
+    ensures { AreDoneWith (λ (m : MonitorState D). machine_of (D.state m.disk) m.map m.failed m.jobs) task.now
+        (map (λ p. p.now) task.now.paths.items) (W.contents writer.old) (W.contents writer.new)
+        (H.acts host.old, monitor.old) (H.acts host.new, monitor.new) result }
 {
     let mut tally = Tally::none();
+    let mut put = BTreeMap::new(alloc);
     for place in 0..task.paths.len() {
         let path = path_at(task, place);
         let one = import_one(host, alloc, task, path, monitor, writer, errors)?;
-        if one.refused {
-            report_same_name(alloc, task, place, errors);
-        }
+        note_name(alloc, task, place, one.refused, &mut put, errors);
         tally = added(tally, one);
     }
     Ok(tally)
@@ -243,18 +250,16 @@ fn refuse_owner<W: Write>(
 /// `Write` if the writer failed, `NoMemory` if there is no memory for the words or the line of a file: those before it
 /// were put.
 pub fn import_files<H: HostFiles, W: Write, E: Write, D: Disk>(
-    host: &H,
+    host: &mut H,
     alloc: Global,
     task: &ImportTask<'_>,
     monitor: &mut Monitor<D>,
     writer: &mut W,
     errors: &mut E,
 ) -> Result<Tally, SessionError>
-    requires { All (H.files host.now).may_read (map (λ p. p.now) task.now.paths.items) }
-    ensures done { IsImportRun (H.files host.now)
-        (λ (m : MonitorState D). machine_of (D.state m.disk) m.map m.failed m.jobs) task.now
-        (map (λ p. p.now) task.now.paths.items) (W.contents writer.old) (W.contents writer.new) monitor.old
-        monitor.new result }
+    ensures done { IsImportRun (λ (m : MonitorState D). machine_of (D.state m.disk) m.map m.failed m.jobs) task.now
+        (map (λ p. p.now) task.now.paths.items) (W.contents writer.old) (W.contents writer.new)
+        (H.acts host.old, monitor.old) (H.acts host.new, monitor.new) result }
     ensures goes { Goes (λ (m : MonitorState D). machine_of (D.state m.disk) m.map m.failed m.jobs) monitor.old
         monitor.new }
 {

@@ -9,10 +9,11 @@
 //! 3. `import_files` makes the directory first, and then takes the files in the order in which they are given: each has
 //!    one line, and is either put as a file of its name that didn't exist, or refused for the cause that its line
 //!    states. A refused file makes no call, and the files after it are done. A fault of the writer and a lack of memory
-//!    end the run. (`IsImportRun`)
+//!    end the run. The host reads each file that has a name once, and does nothing else. (`IsImportRun`)
 //! 4. `export_files` takes the directories and their files in the order of the volume. Each file has one line: what the
 //!    host stored at its path are the bytes of the file, with the moment that the volume has for it. If paths are only
-//!    to be listed, no call is made for a file. No clause states what else the host isn't asked to do. (`IsExportRun`)
+//!    to be listed, no call is made for a file. The host makes the folders and these files in the order of their lines,
+//!    and does nothing else. (`IsExportRun`)
 //! 5. Both work by calls of job 1: what a crash leaves is stated as for a session, and the failure count rises by one
 //!    for each call that is answered Device, and for nothing else. (`Goes`)
 //! 6. `save_survey` takes the files that a survey of a disk found, in their order: those in their place, the doubtful
@@ -20,13 +21,14 @@
 //!    what the host stored at its path are bytes that spell its words, with the moment when it was written. Faults are
 //!    told kind by kind: the first 1,000 of a kind have a line each, with the path of what it costs, and one line says
 //!    how many more there are. A file for which there is no memory is refused, and ends nothing. (`IsSalvageRun`)
-//! 7. The statements about the host hold for any host that reports what it read and stored. (`HostFiles`) No clause is
+//! 7. The statements about the host hold for any host that puts each of its calls on record. (`HostFiles`) No clause is
 //!    about lines for people, by which nothing is decided.
 #![tactic(auto)]
 
 mod clock;
 mod exports;
 mod faults;
+mod file_record;
 mod host_files;
 mod host_names;
 mod imports;
@@ -39,6 +41,7 @@ mod task;
 
 pub use clock::{moment_of, second_of};
 pub use exports::export_files;
+pub use file_record::{ActMade, FileRecord};
 pub use host_files::HostFiles;
 pub use host_names::{Named, name_for};
 pub use imports::import_files;

@@ -1,31 +1,80 @@
 //! The line of each file, and its tally.
-ghost use Rattle.std.specs.Prelude.{◌≡◌, ◌++◌, OnOk, IfOk};
+ghost use Rattle.std.specs.Prelude.{◌≡◌, ◌+◌, ◌++◌, ◌<◌, OnOk, IfOk, drop, length, slice_index};
 ghost use Rattle.spec_language.specs.Common.{line as line_of};
-ghost use Rattle.collection.specs.Common.{added as added_to, none_counted, shown_byte, IsLineWritten, IsCounted};
+ghost use Rattle.collection.specs.Common.{added as added_to, none_counted, IsLineWritten, IsCounted};
 ghost use Rattle.collection.specs.Common.{IsRefusedLine, label_of, refused_tally};
-ghost use Rattle.collection.specs.HostNames.{shown as shown_text};
+ghost use Rattle.collection.specs.HostNames.{hidden as hidden_bytes, shown as shown_text, shown_after};
+ghost use Rattle.collection.specs.HostNames.{shown_byte as byte_shown};
 
 use commands::{SessionError, Tally, write_text};
 use std::alloc::{AllocError, Global};
 use std::io::Write;
 
-/// Returns a byte as it is shown: a control character as a question mark.
-fn shown(byte: u8) -> u8
-    ensures { result ≡ shown_byte byte }
+/// Returns the byte at a place of a path, or 0 if it has none.
+fn byte_at(path: &[u8], place: usize) -> u8
+    ensures { result ≡ slice_index path.now place }
 {
-    if byte < b' ' || byte == 127 {
-        b'?'
-    } else {
-        byte
+    match path.get(place) {
+        Some(byte) => *byte,
+        None => 0,
     }
+}
+
+/// Returns how many bytes the character has that begins with these bytes, if it isn't shown, else 0. A control
+/// character isn't, nor a mark that turns the direction of writing, since a terminal acts on them.
+fn hidden(first: u8, second: u8, third: u8) -> usize
+    ensures { result ≡ hidden_bytes first second third }
+{
+    if first < b' ' || first == 127 {
+        1
+    } else if first == 0xc2 && (0x80..=0x9f).contains(&second) {
+        2
+    } else if first == 0xe2 && second == 0x80 && (0xaa..=0xae).contains(&third) {
+        3
+    } else if first == 0xe2 && second == 0x81 && (0xa6..=0xa9).contains(&third) {
+        3
+    } else {
+        0
+    }
+}
+
+/// Returns a byte of a path as it is shown: a question mark, if it begins a character of this many bytes that isn't.
+fn shown_byte(hidden: usize, byte: u8) -> u8
+    ensures { result ≡ byte_shown hidden byte }
+{
+    if hidden == 0 { byte } else { b'?' }
+}
+
+/// Appends the byte at a place of a path as it is shown, unless it is one of these next ones that aren't. Returns how
+/// many of the bytes after it aren't.
+fn push_shown_byte(
+    text: &mut Vec<u8>,
+    path: &[u8],
+    place: usize,
+    skipped: usize,
+) -> Result<usize, AllocError>
+    requires { place < length path.now }
+    ensures { IfOk result (λ rest. text.new.items ++ shown_after rest (drop (place + 1) path.now)
+        ≡ text.old.items ++ shown_after skipped (drop place path.now)) }
+{
+    if skipped > 0 {
+        return Ok(skipped - 1);
+    }
+    let first = byte_at(path, place);
+    let second = byte_at(path, place + 1);
+    let third = byte_at(path, place + 2);
+    let hidden = hidden(first, second, third);
+    text.push(shown_byte(hidden, first))?;
+    Ok(hidden.saturating_sub(1))
 }
 
 /// Appends a path as it is shown in a line.
 fn push_shown(text: &mut Vec<u8>, path: &[u8]) -> Result<(), AllocError>
     ensures { OnOk result (text.new.items ≡ text.old.items ++ shown_text path.now) }
 {
-    for byte in path {
-        text.push(shown(*byte))?;
+    let mut skipped = 0;
+    for place in 0..path.len() {
+        skipped = push_shown_byte(text, path, place, skipped)?;
     }
     Ok(())
 }

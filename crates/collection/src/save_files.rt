@@ -5,7 +5,7 @@ ghost use Rattle.blockdisk.specs.Common.{memory_state};
 ghost use Rattle.salvage.specs.Common.{FitsDisk};
 ghost use Rattle.collection.specs.Common.{EachDone, Then, none_counted, AreApartSaved, AreFilesSaved, AreWordsStored};
 ghost use Rattle.collection.specs.Common.{AreFindingsDone, IsFileDone, IsReadStored, IsSalvageRun, IsSavedAt};
-ghost use Rattle.collection.specs.Common.{IsWantedDone, MayRescue, MaySave, doubtful_folder as doubtful_text};
+ghost use Rattle.collection.specs.Common.{IsWantedDone, doubtful_folder as doubtful_text};
 ghost use Rattle.collection.specs.Common.{saved_path, unnamed_folder as unnamed_text, words_read};
 ghost use Rattle.salvage.specs.declared.error.SalvageError.TheVariants.{NotVolume};
 
@@ -42,15 +42,14 @@ struct Saving<'a> {
 
 /// Makes a file of the host from its bytes, or refuses it if there was no memory for them, and writes its line.
 fn store_words<H: HostFiles, W: Write, E: Write>(
-    host: &H,
+    host: &mut H,
     alloc: Global,
     saving: &Saving<'_>,
     exported: Result<Exported, AllocError>,
     writer: &mut W,
     errors: &mut E,
 ) -> Result<Tally, SessionError>
-    requires { (H.files host.now).may_store saving.now.path.now }
-    ensures { AreWordsStored (H.files host.now) saving.now.path.now saving.now.file.now exported
+    ensures { AreWordsStored saving.now.path.now saving.now.file.now exported (H.acts host.old) (H.acts host.new)
         (W.contents writer.old) (W.contents writer.new) result }
 {
     let path = saving.path;
@@ -63,17 +62,16 @@ fn store_words<H: HostFiles, W: Write, E: Write>(
 
 /// Makes a file of the host from what was read, and writes its line.
 fn store_read<H: HostFiles, W: Write, E: Write>(
-    host: &H,
+    host: &mut H,
     alloc: Global,
     saving: &Saving<'_>,
     read: Result<Option<Vec<Word>>, SalvageError>,
     writer: &mut W,
     errors: &mut E,
 ) -> Result<Tally, SessionError>
-    requires size { IsErrOf read NotVolume → ⊥ }
-    requires allowed { (H.files host.now).may_store saving.now.path.now }
-    ensures { IsReadStored (H.files host.now) saving.now.task.now saving.now.path.now saving.now.file.now
-        (words_read (λ v. v.items) read) (W.contents writer.old) (W.contents writer.new) result }
+    requires { IsErrOf read NotVolume → ⊥ }
+    ensures { IsReadStored saving.now.task.now saving.now.path.now saving.now.file.now (words_read (λ v. v.items) read)
+        (H.acts host.old) (H.acts host.new) (W.contents writer.old) (W.contents writer.new) result }
 {
     let Saving { task, path, file } = *saving;
     match read {
@@ -92,17 +90,16 @@ fn store_read<H: HostFiles, W: Write, E: Write>(
 
 /// Reads a file and makes one of the host from it.
 fn save<H: HostFiles, W: Write, E: Write, D: Disk>(
-    host: &H,
+    host: &mut H,
     alloc: Global,
     saving: &Saving<'_>,
     disk: &mut D,
     writer: &mut W,
     errors: &mut E,
 ) -> Result<Tally, SessionError>
-    requires fits { FitsDisk (D.state disk.old).size saving.now.file.now }
-    requires allowed { (H.files host.now).may_store saving.now.path.now }
-    ensures { IsSavedAt (H.files host.now) D.state saving.now.task.now saving.now.path.now saving.now.file.now
-        (W.contents writer.old) (W.contents writer.new) disk.old disk.new result }
+    requires { FitsDisk (D.state disk.old).size saving.now.file.now }
+    ensures { IsSavedAt D.state saving.now.task.now saving.now.path.now saving.now.file.now (W.contents writer.old)
+        (W.contents writer.new) (H.acts host.old, disk.old) (H.acts host.new, disk.new) result }
 {
     let read = read_words(alloc, disk, saving.file);
     store_read(host, alloc, saving, read, writer, errors)
@@ -123,9 +120,8 @@ fn saved_path(alloc: Global, target: &Target<'_>, file: &SavedFile) -> Result<St
 }
 
 /// Makes the folder of a file, and then a file of the host from it, or only lists its path.
-#[tactic(auto, using(crate::proofs::SaveLaws::saves_directory, crate::proofs::SaveLaws::saves_file))]
 fn save_wanted<H: HostFiles, W: Write, E: Write, D: Disk>(
-    host: &H,
+    host: &mut H,
     alloc: Global,
     target: &Target<'_>,
     file: &SavedFile,
@@ -133,11 +129,9 @@ fn save_wanted<H: HostFiles, W: Write, E: Write, D: Disk>(
     writer: &mut W,
     errors: &mut E,
 ) -> Result<Tally, SessionError>
-    requires fits { FitsDisk (D.state disk.old).size file.now }
-    requires allowed { target.now.task.now.lists ≡ false
-        → MaySave (H.files host.now) target.now.folder.now target.now.numbered }
-    ensures { IsWantedDone (H.files host.now) D.state target.now.task.now target.now.folder.now target.now.numbered
-        file.now (W.contents writer.old) (W.contents writer.new) disk.old disk.new result }
+    requires { FitsDisk (D.state disk.old).size file.now }
+    ensures { IsWantedDone D.state target.now.task.now target.now.folder.now target.now.numbered file.now
+        (W.contents writer.old) (W.contents writer.new) (H.acts host.old, disk.old) (H.acts host.new, disk.new) result }
 {
     let task = target.task;
     let Ok(folder) = folder_of(alloc, target.folder, file.stored.prime.ppn) else {
@@ -166,7 +160,7 @@ fn save_wanted<H: HostFiles, W: Write, E: Write, D: Disk>(
 
 /// Saves a file, if it is of a directory that is wanted.
 fn save_one<H: HostFiles, W: Write, E: Write, D: Disk>(
-    host: &H,
+    host: &mut H,
     alloc: Global,
     target: &Target<'_>,
     file: &SavedFile,
@@ -174,11 +168,9 @@ fn save_one<H: HostFiles, W: Write, E: Write, D: Disk>(
     writer: &mut W,
     errors: &mut E,
 ) -> Result<Tally, SessionError>
-    requires fits { FitsDisk (D.state disk.old).size file.now }
-    requires allowed { target.now.task.now.lists ≡ false
-        → MaySave (H.files host.now) target.now.folder.now target.now.numbered }
-    ensures { IsFileDone (H.files host.now) D.state target.now.task.now target.now.folder.now target.now.numbered
-        file.now (W.contents writer.old) (W.contents writer.new) disk.old disk.new result }
+    requires { FitsDisk (D.state disk.old).size file.now }
+    ensures { IsFileDone D.state target.now.task.now target.now.folder.now target.now.numbered file.now
+        (W.contents writer.old) (W.contents writer.new) (H.acts host.old, disk.old) (H.acts host.new, disk.new) result }
 {
     if is_wanted(target.task.owner, file.stored.prime.ppn) {
         save_wanted(host, alloc, target, file, disk, writer, errors)
@@ -189,7 +181,7 @@ fn save_one<H: HostFiles, W: Write, E: Write, D: Disk>(
 
 /// Saves these files, or only lists their paths.
 fn save_each<H: HostFiles, W: Write, E: Write, D: Disk>(
-    host: &H,
+    host: &mut H,
     alloc: Global,
     target: &Target<'_>,
     files: &[SavedFile],
@@ -197,12 +189,10 @@ fn save_each<H: HostFiles, W: Write, E: Write, D: Disk>(
     writer: &mut W,
     errors: &mut E,
 ) -> Result<Tally, SessionError>
-    requires fit { AllByRecursion (FitsDisk (D.state disk.old).size) files.now }
-    requires allowed { target.now.task.now.lists ≡ false
-        → MaySave (H.files host.now) target.now.folder.now target.now.numbered }
-    ensures { EachDone (IsFileDone (H.files host.now) D.state target.now.task.now target.now.folder.now
-        target.now.numbered) files.now none_counted (W.contents writer.old) (W.contents writer.new) disk.old disk.new
-        result }
+    requires { AllByRecursion (FitsDisk (D.state disk.old).size) files.now }
+    ensures { EachDone (IsFileDone D.state target.now.task.now target.now.folder.now target.now.numbered) files.now
+        none_counted (W.contents writer.old) (W.contents writer.new) (H.acts host.old, disk.old)
+        (H.acts host.new, disk.new) result }
 {
     let mut tally = Tally::none();
     for file in files {
@@ -213,9 +203,8 @@ fn save_each<H: HostFiles, W: Write, E: Write, D: Disk>(
 }
 
 /// Makes the folder for all directories, unless paths are only listed, and saves these files.
-#[tactic(auto, using(crate::proofs::SaveLaws::saves_itself))]
 fn save_files<H: HostFiles, W: Write, E: Write, D: Disk>(
-    host: &H,
+    host: &mut H,
     alloc: Global,
     target: &Target<'_>,
     files: &[SavedFile],
@@ -223,25 +212,26 @@ fn save_files<H: HostFiles, W: Write, E: Write, D: Disk>(
     writer: &mut W,
     errors: &mut E,
 ) -> Result<Tally, SessionError>
-    requires fit { AllByRecursion (FitsDisk (D.state disk.old).size) files.now }
-    requires allowed { target.now.task.now.lists ≡ false
-        → MaySave (H.files host.now) target.now.folder.now target.now.numbered }
-    ensures { AreFilesSaved (H.files host.now) D.state target.now.task.now target.now.folder.now target.now.numbered
-        files.now (W.contents writer.old) (W.contents writer.new) disk.old disk.new result }
+    requires { AllByRecursion (FitsDisk (D.state disk.old).size) files.now }
+    ensures { AreFilesSaved D.state target.now.task.now target.now.folder.now target.now.numbered files.now
+        (W.contents writer.old) (W.contents writer.new) (H.acts host.old, disk.old) (H.acts host.new, disk.new) result }
 {
     let folder = target.folder;
-    if !target.task.lists
-        && let Err(error) = host.make_folder(folder)
-    {
-        report(errors, folder, &error);
-        return turn_down(alloc, writer, folder, "?Can't make folder", false);
+    if target.task.lists {
+        return save_each(host, alloc, target, files, disk, writer, errors);
     }
-    save_each(host, alloc, target, files, disk, writer, errors)
+    match host.make_folder(folder) {
+        Ok(()) => save_each(host, alloc, target, files, disk, writer, errors),
+        Err(error) => {
+            report(errors, folder, &error);
+            turn_down(alloc, writer, folder, "?Can't make folder", false)
+        }
+    }
 }
 
 /// Saves the files with a block that may not be theirs, if there are any.
 fn save_doubtful<H: HostFiles, W: Write, E: Write, D: Disk>(
-    host: &H,
+    host: &mut H,
     alloc: Global,
     task: &ExportTask<'_>,
     files: &[SavedFile],
@@ -249,10 +239,9 @@ fn save_doubtful<H: HostFiles, W: Write, E: Write, D: Disk>(
     writer: &mut W,
     errors: &mut E,
 ) -> Result<Tally, SessionError>
-    requires fit { AllByRecursion (FitsDisk (D.state disk.old).size) files.now }
-    requires allowed { MayRescue (H.files host.now) task.now }
-    ensures { AreApartSaved (H.files host.now) D.state task.now (doubtful_text task.now.folder.now) false files.now
-        (W.contents writer.old) (W.contents writer.new) disk.old disk.new result }
+    requires { AllByRecursion (FitsDisk (D.state disk.old).size) files.now }
+    ensures { AreApartSaved D.state task.now (doubtful_text task.now.folder.now) false files.now (W.contents writer.old)
+        (W.contents writer.new) (H.acts host.old, disk.old) (H.acts host.new, disk.new) result }
 {
     if files.is_empty() {
         return Ok(Tally::none());
@@ -270,7 +259,7 @@ fn save_doubtful<H: HostFiles, W: Write, E: Write, D: Disk>(
 
 /// Saves the files that no directory names, if there are any.
 fn save_unnamed<H: HostFiles, W: Write, E: Write, D: Disk>(
-    host: &H,
+    host: &mut H,
     alloc: Global,
     task: &ExportTask<'_>,
     files: &[SavedFile],
@@ -278,10 +267,9 @@ fn save_unnamed<H: HostFiles, W: Write, E: Write, D: Disk>(
     writer: &mut W,
     errors: &mut E,
 ) -> Result<Tally, SessionError>
-    requires fit { AllByRecursion (FitsDisk (D.state disk.old).size) files.now }
-    requires allowed { MayRescue (H.files host.now) task.now }
-    ensures { AreApartSaved (H.files host.now) D.state task.now (unnamed_text task.now.folder.now) true files.now
-        (W.contents writer.old) (W.contents writer.new) disk.old disk.new result }
+    requires { AllByRecursion (FitsDisk (D.state disk.old).size) files.now }
+    ensures { AreApartSaved D.state task.now (unnamed_text task.now.folder.now) true files.now (W.contents writer.old)
+        (W.contents writer.new) (H.acts host.old, disk.old) (H.acts host.new, disk.new) result }
 {
     if files.is_empty() {
         return Ok(Tally::none());
@@ -299,7 +287,7 @@ fn save_unnamed<H: HostFiles, W: Write, E: Write, D: Disk>(
 
 /// Saves the files that no directory names, and writes the lines of the faults.
 fn save_last<H: HostFiles, W: Write, E: Write, D: Disk>(
-    host: &H,
+    host: &mut H,
     alloc: Global,
     task: &ExportTask<'_>,
     found: &Survey,
@@ -307,11 +295,10 @@ fn save_last<H: HostFiles, W: Write, E: Write, D: Disk>(
     writer: &mut W,
     errors: &mut E,
 ) -> Result<Tally, SessionError>
-    requires fit { AllByRecursion (FitsDisk (D.state disk.old).size) found.now.unnamed.items }
-    requires allowed { MayRescue (H.files host.now) task.now }
-    ensures { Then (AreApartSaved (H.files host.now) D.state task.now (unnamed_text task.now.folder.now) true
-        found.now.unnamed.items) (AreFindingsDone task.now found.now.findings.items) (W.contents writer.old)
-        (W.contents writer.new) disk.old disk.new result }
+    requires { AllByRecursion (FitsDisk (D.state disk.old).size) found.now.unnamed.items }
+    ensures { Then (AreApartSaved D.state task.now (unnamed_text task.now.folder.now) true found.now.unnamed.items)
+        (AreFindingsDone task.now found.now.findings.items) (W.contents writer.old) (W.contents writer.new)
+        (H.acts host.old, disk.old) (H.acts host.new, disk.new) result }
 {
     let files = found.unnamed.as_slice();
     let saved = save_unnamed(host, alloc, task, files, disk, writer, errors)?;
@@ -321,7 +308,7 @@ fn save_last<H: HostFiles, W: Write, E: Write, D: Disk>(
 
 /// Saves the doubtful files, and then those that no directory names, and writes the lines of the faults.
 fn save_apart<H: HostFiles, W: Write, E: Write, D: Disk>(
-    host: &H,
+    host: &mut H,
     alloc: Global,
     task: &ExportTask<'_>,
     found: &Survey,
@@ -331,12 +318,10 @@ fn save_apart<H: HostFiles, W: Write, E: Write, D: Disk>(
 ) -> Result<Tally, SessionError>
     requires fit { AllByRecursion (FitsDisk (D.state disk.old).size) found.now.doubtful.items }
     requires fit_unnamed { AllByRecursion (FitsDisk (D.state disk.old).size) found.now.unnamed.items }
-    requires allowed { MayRescue (H.files host.now) task.now }
-    ensures { Then (AreApartSaved (H.files host.now) D.state task.now (doubtful_text task.now.folder.now) false
-        found.now.doubtful.items)
-        (Then (AreApartSaved (H.files host.now) D.state task.now (unnamed_text task.now.folder.now) true
-        found.now.unnamed.items) (AreFindingsDone task.now found.now.findings.items)) (W.contents writer.old)
-        (W.contents writer.new) disk.old disk.new result }
+    ensures { Then (AreApartSaved D.state task.now (doubtful_text task.now.folder.now) false found.now.doubtful.items)
+        (Then (AreApartSaved D.state task.now (unnamed_text task.now.folder.now) true found.now.unnamed.items)
+        (AreFindingsDone task.now found.now.findings.items)) (W.contents writer.old) (W.contents writer.new)
+        (H.acts host.old, disk.old) (H.acts host.new, disk.new) result }
 {
     let files = found.doubtful.as_slice();
     let saved = save_doubtful(host, alloc, task, files, disk, writer, errors)?;
@@ -346,7 +331,7 @@ fn save_apart<H: HostFiles, W: Write, E: Write, D: Disk>(
 
 /// Saves the files in their place, and then the others, and writes the lines of the faults.
 fn save_found<H: HostFiles, W: Write, E: Write, D: Disk>(
-    host: &H,
+    host: &mut H,
     alloc: Global,
     task: &ExportTask<'_>,
     found: &Survey,
@@ -357,14 +342,11 @@ fn save_found<H: HostFiles, W: Write, E: Write, D: Disk>(
     requires fit { AllByRecursion (FitsDisk (D.state disk.old).size) found.now.files.items }
     requires fit_doubtful { AllByRecursion (FitsDisk (D.state disk.old).size) found.now.doubtful.items }
     requires fit_unnamed { AllByRecursion (FitsDisk (D.state disk.old).size) found.now.unnamed.items }
-    requires allowed { MayRescue (H.files host.now) task.now }
-    ensures { Then (AreFilesSaved (H.files host.now) D.state task.now task.now.folder.now false
-        found.now.files.items)
-        (Then (AreApartSaved (H.files host.now) D.state task.now (doubtful_text task.now.folder.now) false
-        found.now.doubtful.items)
-        (Then (AreApartSaved (H.files host.now) D.state task.now (unnamed_text task.now.folder.now) true
-        found.now.unnamed.items) (AreFindingsDone task.now found.now.findings.items))) (W.contents writer.old)
-        (W.contents writer.new) disk.old disk.new result }
+    ensures { Then (AreFilesSaved D.state task.now task.now.folder.now false found.now.files.items) (Then (AreApartSaved
+        D.state task.now (doubtful_text task.now.folder.now) false found.now.doubtful.items) (Then (AreApartSaved
+        D.state task.now (unnamed_text task.now.folder.now) true found.now.unnamed.items)
+        (AreFindingsDone task.now found.now.findings.items))) (W.contents writer.old) (W.contents writer.new)
+        (H.acts host.old, disk.old) (H.acts host.new, disk.new) result }
 {
     let target = Target {
         task,
@@ -389,7 +371,7 @@ fn save_found<H: HostFiles, W: Write, E: Write, D: Disk>(
 ///
 /// `Write` if the writer failed, `NoMemory` if there is no memory for a name or a line: what came before was done.
 pub fn save_survey<H: HostFiles, W: Write, E: Write>(
-    host: &H,
+    host: &mut H,
     alloc: Global,
     task: &ExportTask<'_>,
     found: &Survey,
@@ -397,14 +379,12 @@ pub fn save_survey<H: HostFiles, W: Write, E: Write>(
     writer: &mut W,
     errors: &mut E,
 ) -> Result<Tally, SessionError>
-    requires fit { AllByRecursion (FitsDisk (length copied.old.disk.blocks)) found.now.files.items
+    requires { AllByRecursion (FitsDisk (length copied.old.disk.blocks)) found.now.files.items
         × AllByRecursion (FitsDisk (length copied.old.disk.blocks)) found.now.doubtful.items
         × AllByRecursion (FitsDisk (length copied.old.disk.blocks)) found.now.unnamed.items }
-    requires allowed { MayRescue (H.files host.now) task.now }
-    ensures { IsSalvageRun (H.files host.now) memory_state task.now
-        copied.old.findings.items found.now.files.items found.now.doubtful.items
-        found.now.unnamed.items found.now.findings.items (W.contents writer.old) (W.contents writer.new)
-        copied.old.disk copied.new.disk result }
+    ensures { IsSalvageRun memory_state task.now copied.old.findings.items found.now.files.items
+        found.now.doubtful.items found.now.unnamed.items found.now.findings.items (W.contents writer.old)
+        (W.contents writer.new) (H.acts host.old, copied.old.disk) (H.acts host.new, copied.new.disk) result }
 {
     let first = report_copy(alloc, task, copied, writer)?;
     let rest = save_found(host, alloc, task, found, &mut copied.disk, writer, errors)?;

@@ -1,11 +1,10 @@
--- Images, files and folders that a request names are words of the command line.
+-- Images that a request names are words of the command line.
 use Rattle.std.proofs.Common.{◌≡◌, inl, inr, refl, List, Option, Some, None, All, codes}
 use Rattle.std.specs.Prelude.{drop}
 use Rattle.clap.specs.Words.{Row, Text, subcommand_of}
-use Rattle.collection.specs.Common.{FileFacts, MayFill, MayFillApart}
 use Rattle.arguments.specs.CommandLine.{command_line}
-use Rattle.arguments.proofs.NamedWords.{files_are_words, text_is_a_word}
-use Rattle.filser.specs.Common.{AllowsMoved, AllowsNamed, Asks, HoldsOfImages}
+use Rattle.arguments.proofs.NamedWords.{text_is_a_word}
+use Rattle.filser.specs.Common.{Asks, HoldsOfImages}
 use Rattle.filser.specs.declared.request.Request.{Request}
 use Rattle.filser.specs.declared.request.Request.TheVariants.{Fresh, Init, Work, Convert, Migrate, Import, Export}
 use Rattle.filser.specs.declared.request.Request.TheVariants.{Salvage}
@@ -39,23 +38,3 @@ holds_of_images Holds words (Some found) (Export image form task) is asks all =
     (text_is_a_word Holds words found (codes "IMAGE") image.now is (inl refl) asks.1 all, tt)
 holds_of_images Holds words (Some found) (Salvage image form task) is asks all =
     (text_is_a_word Holds words found (codes "IMAGE") image.now is (inl refl) asks.1 all, tt)
-
--- a host that allows what the words name allows what their request moves
-pub allows_moved : (files : FileFacts) (words : List Text) (found : Option (Text × List Row)) (request : Request)
-    → subcommand_of command_line words ≡ found → Asks found request → AllowsNamed files (drop 1 words)
-    → AllowsMoved files request
-allows_moved files words found Fresh is asks allows = tt
-allows_moved files words found (Init image blocks form layout) is asks allows = tt
-allows_moved files words found (Work image form task) is asks allows = tt
-allows_moved files words found (Convert image new form) is asks allows = tt
-allows_moved files words found (Migrate image form) is asks allows = tt
-allows_moved files words None (Import image form task) is asks allows = absurd asks
-allows_moved files words None (Export image form task) is asks allows = absurd asks
-allows_moved files words None (Salvage image form task) is asks allows = absurd asks
-allows_moved files words (Some found) (Import image form task) is asks allows =
-    files_are_words files.may_read words found _ is asks.3.paths allows.read
-allows_moved files words (Some found) (Export image form task) is asks allows = λ makes. text_is_a_word (MayFill files)
-    words found (codes "FOLDER") task.folder.now is (inr (inr refl)) asks.3.folder allows.fill
-allows_moved files words (Some found) (Salvage image form task) is asks allows = λ makes.
-    text_is_a_word (MayFillApart files) words found (codes "FOLDER") task.export.folder.now is (inr (inr refl))
-    asks.3.export.folder allows.rescue

@@ -19,7 +19,7 @@ use Rattle.salvage.specs.declared.search.Search.TheVariants.{Named}
 use Rattle.commands.specs.declared.answer.Tally.{Tally}
 use Rattle.commands.specs.declared.error.SessionError.{SessionError}
 use Rattle.salvage.specs.declared.finding.Finding.{Finding}
-use Rattle.collection.specs.Common.{FileFacts, IsSalvageRun}
+use Rattle.collection.specs.Common.{Acted, FileAct, IsSalvageRun}
 use Rattle.collection.specs.declared.task.ExportTask.{ExportTask}
 use Rattle.collection.proofs.QuietRuns.{nothing_told}
 use Rattle.filser.specs.Common.{AreAllFound, AreExact, AreFound, HostFacts, IsCopySalvaged, IsCut, IsNoCopy, IsOpened}
@@ -68,10 +68,10 @@ module _ (form : Form) (u : Unseen) (tail : ℕ) (d : DiskState) (began : BeganC
         (subst (λ (c : Contents). Stands d.size c files) (sym (same h)) stands);
   }
 
-  copied_since : (facts : FileFacts) (task : SalvageTask) (sink full : Option (List ℕ)) (end : DiskState)
-      (status : Status) → (end.honest → d.honest) → IsCopied facts task tail sink full d end status
-      → IsCopied facts task tail sink full begun end status
-  copied_since facts task sink full end status was p = record {
+  copied_since : (before after : List FileAct) (task : SalvageTask) (sink full : Option (List ℕ)) (end : DiskState)
+      (status : Status) → (end.honest → d.honest) → IsCopied before after task tail sink full d end status
+      → IsCopied before after task tail sink full begun end status
+  copied_since before after task sink full end status was p = record {
     copy = p.copy;
     last = p.last;
     faults = p.faults;
@@ -111,30 +111,31 @@ module _ (form : Form) (u : Unseen) (tail : ℕ) (d : DiskState) (began : BeganC
       cause_since Device cause = cause
       cause_since NoMemory cause = tt
 
-  pub salvaged_since : (facts : FileFacts) (task : SalvageTask) (sink full : Option (List ℕ)) (end : DiskState)
-      (status : Status) → (end.honest → d.honest) → IsSalvagedFrom facts task tail sink full d end status
-      → IsSalvagedFrom facts task tail sink full begun end status
-  salvaged_since facts task sink full end status was p = record {
+  pub salvaged_since : (before after : List FileAct) (task : SalvageTask) (sink full : Option (List ℕ))
+      (end : DiskState) (status : Status) → (end.honest → d.honest)
+      → IsSalvagedFrom before after task tail sink full d end status
+      → IsSalvagedFrom before after task tail sink full begun end status
+  salvaged_since before after task sink full end status was p = record {
     still = λ h. still_on begun d end (began.still (was h)) (p.still h);
-    done = ⊎_elim (λ copied. inl (copied_since facts task sink full end status was copied))
-        (λ uncopied. inr (uncopied_since sink full end status was uncopied)) p.done;
+    done = ⊎_elim (λ copied. inl (copied_since before after task sink full end status was copied))
+        (λ uncopied. inr (uncopied.0, uncopied_since sink full end status was uncopied.1)) p.done;
   }
 
 -- The same with the number of blocks that the disk has at the end, and with its file.
 pub salvage_run : {H : Type 0} {access : Access} (facts : HostFacts H) (path : List ℕ) (form : Form) (u : Unseen)
-    (tail : ℕ) (task : SalvageTask) (sink full : Option (List ℕ)) (status : Status) (d e : DiskState)
-    → IsOpened facts path access u → BeganCut form u tail d → d.failures ≡ 0 → SameDisk d e
-    → IsSalvagedFrom facts.files task tail sink full d e status
+    (tail : ℕ) (before after : List FileAct) (task : SalvageTask) (sink full : Option (List ℕ)) (status : Status)
+    (d e : DiskState) → IsOpened facts path access u → BeganCut form u tail d → d.failures ≡ 0 → SameDisk d e
+    → IsSalvagedFrom before after task tail sink full d e status
     → IsOpened facts path access u × IsCut form u tail e
-    × IsSalvagedFrom facts.files task tail sink full (begun_image form e.size u) e status
-salvage_run facts path form u tail task sink full status d e opened began sound kept ran = (
+    × IsSalvagedFrom before after task tail sink full (begun_image form e.size u) e status
+salvage_run facts path form u tail before after task sink full status d e opened began sound kept ran = (
   opened,
   record {
     size = λ h. began.size (kept.was_honest h) ∙ (λ i. block_length form * sym kept.size i + tail);
     short = began.short;
   },
-  subst (λ n. IsSalvagedFrom facts.files task tail sink full (begun_image form n u) e status) (sym kept.size)
-      (salvaged_since form u tail d began sound facts.files task sink full e status kept.was_honest ran),
+  subst (λ n. IsSalvagedFrom before after task tail sink full (begun_image form n u) e status) (sym kept.size)
+      (salvaged_since form u tail d began sound before after task sink full e status kept.was_honest ran),
 )
 
 -- Status 0.
@@ -146,19 +147,19 @@ refused_none true false is = absurd (omega (arith, is))
 refused_none true true is = absurd (omega (arith, is))
 
 -- Status 0 without a PPN means that no fault was found, and what follows from that.
-pub accepted_on : {D : Type 0} (facts : FileFacts) (state : D → DiskState) (task : ExportTask) (head : List Finding)
-    (files doubtful unnamed : List SavedFile) (findings : List Finding) (sink full : Option (List ℕ)) (old new : D)
-    (result : Result Tally SessionError) (status : Status) (Accepts : Type 0) → IsEnding status result
-    → IsSalvageRun facts state task head files doubtful unnamed findings sink full old new result
+pub accepted_on : {D : Type 0} (state : D → DiskState) (task : ExportTask) (head : List Finding)
+    (files doubtful unnamed : List SavedFile) (findings : List Finding) (sink full : Option (List ℕ))
+    (old new : Acted D) (result : Result Tally SessionError) (status : Status) (Accepts : Type 0)
+    → IsEnding status result → IsSalvageRun state task head files doubtful unnamed findings sink full old new result
     → (findings ≡ [] → Accepts) → status ≡ Done → task.owner ≡ None → (head ≡ []) × Accepts
-accepted_on facts state task head files doubtful unnamed findings sink full old new (Ok tally) status Accepts ends run
+accepted_on state task head files doubtful unnamed findings sink full old new (Ok tally) status Accepts ends run
     silent done all =
     let code : status_code Done ≡ max (if tally.refused then 1 else 0) (if tally.broke then 4 else 0) =
     ap status_code (sym done) ∙ ends in
-    let none = nothing_told facts state task head files doubtful unnamed findings sink full old new tally all run
+    let none = nothing_told state task head files doubtful unnamed findings sink full old new tally all run
     (refused_none tally.refused tally.broke code) in
     (none.0, silent none.1)
-accepted_on facts state task head files doubtful unnamed findings sink full old new (Err error) status Accepts ends run
+accepted_on state task head files doubtful unnamed findings sink full old new (Err error) status Accepts ends run
     silent done all = absurd (cc (ends, done))
 
 -- What a result that is known leads to.
@@ -172,23 +173,23 @@ pub match_err : {T E : Type 0} (r : Result T E) (e : E) (P : T → Type 0) (Q : 
 match_err r e P Q is holds = subst (λ s. MatchResult s P Q) (sym is) holds
 
 -- A part of a task that searches.
-pub part_copied : (facts : FileFacts) (task : SalvageTask) (sink full : Option (List ℕ)) (copy last : Memory)
+pub part_copied : (before after : List FileAct) (task : SalvageTask) (sink full : Option (List ℕ)) (copy last : Memory)
     (faults : CopyFaults) (status : Status) → (task.search ≡ Named → ⊥)
-    → IsPartSalvaged facts task sink full copy last faults status
-    → IsCopySalvaged facts task sink full copy last faults status
-part_copied facts task sink full copy last faults status searches ran = ⊎_elim
+    → IsPartSalvaged before after task sink full copy last faults status
+    → IsCopySalvaged before after task sink full copy last faults status
+part_copied before after task sink full copy last faults status searches ran = ⊎_elim
     (λ part. inl (part.0, part.1, part.2, inr (searches, part.3), part.4)) (λ none. inr none) ran
 
 -- A copy that was only read before.
-module _ (facts : FileFacts) (task : SalvageTask) (sink full : Option (List ℕ)) (copy mid last : Memory)
+module _ (before after : List FileAct) (task : SalvageTask) (sink full : Option (List ℕ)) (copy mid last : Memory)
     (faults : CopyFaults) (same : SameDisk (memory_state copy) (memory_state mid))
     (reads : OnlyReads (memory_state copy) (memory_state mid)) where
   contents_same : held mid.blocks ≡ held copy.blocks
   contents_same = same_contents (held copy.blocks) (held mid.blocks) reads.still.contents
 
   found_since : (other : SalvageTask) (end : Option (List ℕ)) (files doubtful unnamed : List SavedFile)
-      (status : Status) → AreFound facts other sink end mid last faults files doubtful unnamed status
-      → AreFound facts other sink end copy last faults files doubtful unnamed status
+      (status : Status) → AreFound before after other sink end mid last faults files doubtful unnamed status
+      → AreFound before after other sink end copy last faults files doubtful unnamed status
   found_since other end files doubtful unnamed status p = record {
     layout = p.layout;
     findings = p.findings;
@@ -218,8 +219,8 @@ module _ (facts : FileFacts) (task : SalvageTask) (sink full : Option (List ℕ)
       (held mid.blocks) same.size contents_same
 
   pub copy_salvaged_since : (status : Status) → mid.failures ≡ copy.failures
-      → IsCopySalvaged facts task sink full mid last faults status
-      → IsCopySalvaged facts task sink full copy last faults status
+      → IsCopySalvaged before after task sink full mid last faults status
+      → IsCopySalvaged before after task sink full copy last faults status
   unfolding found_since
   copy_salvaged_since status sound ran = ⊎_elim
       (λ saved. inl (
@@ -239,10 +240,13 @@ module _ (facts : FileFacts) (task : SalvageTask) (sink full : Option (List ℕ)
             )) saved.3,
         exact_since saved.0 saved.1 saved.2 saved.4,
       ))
-      (λ none. inr (record {
-        error = none.error;
-        read = only_reads_on (memory_state copy) (memory_state mid) (memory_state last) reads none.read;
-        cause = ⊎_elim (λ memory. inl (memory.0, memory.1 ∙ sound))
-            (λ device. inr (device.0, device.1 ∙ ap one_more sound)) none.cause;
-        said = none.said;
-      })) ran
+      (λ none. inr (
+        none.0,
+        record {
+          error = none.1.error;
+          read = only_reads_on (memory_state copy) (memory_state mid) (memory_state last) reads none.1.read;
+          cause = ⊎_elim (λ memory. inl (memory.0, memory.1 ∙ sound))
+              (λ device. inr (device.0, device.1 ∙ ap one_more sound)) none.1.cause;
+          said = none.1.said;
+        },
+      )) ran

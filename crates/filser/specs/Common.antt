@@ -6,7 +6,7 @@ pub use Rattle.filser.specs.Requests.{IsExisting, IsExportTask, IsFaultIn, IsImp
 pub use Rattle.filser.specs.Requests.{IsNamedFile, IsOneEncoding, IsSalvageTask, IsStyle, IsTask, IsUsage, IsWrong}
 pub use Rattle.filser.specs.Requests.{LacksDate, LacksOwned, NamesDate, NamesEncoding, NamesFile, NamesNoDate}
 pub use Rattle.filser.specs.Requests.{NamesOwner, NamesSearch, SaysDate, Spells}
-pub use Rattle.filser.specs.Requests.{MovesFiles, encoding_flag, image_named, new_named, task_name}
+pub use Rattle.filser.specs.Requests.{encoding_flag, image_named, new_named, task_name}
 pub use Rattle.filser.specs.Statuses.{status_code}
 pub use Rattle.filser.specs.Refusals.{converted_text, refusal_code, refusal_text, start_text}
 pub use Rattle.filser.specs.Outputs.{fault_of_count, fault_of_flush, fault_of_write}
@@ -21,7 +21,7 @@ pub use Rattle.filser.specs.Views.{Views}
 pub use Rattle.filser.specs.Denials.{IsCleared, IsDeviceFault, IsExplained, IsNoCutImage, IsNoDisk, IsNoImage}
 pub use Rattle.filser.specs.Denials.{IsUnfilled, IsUnfit, IsUnlocked, IsUnmade, IsUnopened, of_host}
 pub use Rattle.filser.specs.FreeStreams.{BarsErrors, BarsOutput, SparesErrors, SparesNamed, SparesOutput}
-pub use Rattle.filser.specs.MovedFiles.{AllowsMoved, AllowsNamed}
+pub use Rattle.filser.specs.Permits.{MovesIfServed, acts_of}
 pub use Rattle.filser.specs.Images.{HasNoDisk, IsCopied, IsCopyFault, IsCopyRun, IsCut, IsDenied, IsDeniedCut}
 pub use Rattle.filser.specs.Images.{IsEmptyVolume, IsFaultOf, IsFresh, IsLeftAlone, IsNameTaken, IsNewDisk}
 pub use Rattle.filser.specs.Images.{IsNoNewDisk, IsNotMade, IsOnBoth, IsOnCopy, IsOnFresh, IsOnImage, IsOnNew}

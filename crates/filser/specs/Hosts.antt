@@ -3,7 +3,6 @@
 use Rattle.std.specs.Prelude.{◌⊎◌, ℕ, ℤ, List, Option, Result, Ok, Err, pos, ◌<ℤ◌}
 use Rattle.std.specs.declared.io.Error.{Error}
 use Rattle.std.specs.declared.fs.TryLockError.{TryLockError}
-use Rattle.collection.specs.Common.{FileFacts}
 use Rattle.imagefile.specs.Common.{Unseen}
 use Rattle.imagefile.specs.declared.form.Form.{Form}
 use Rattle.filser.specs.declared.host.Access.{Access}
@@ -29,8 +28,6 @@ pub record HostFacts (F : Type 0) : Type 1 where
   pub number : F → ℤ
   -- what is supposed of an open file that the calls on it don't show
   pub supposed : F → Unseen → Type 0
-  -- the answers to calls on files that aren't images
-  pub files : FileFacts
 
 -- A lock was requested, and the system gave it.
 abbrev pub IsKept : {F : Type 0} → HostFacts F → F → Type 0

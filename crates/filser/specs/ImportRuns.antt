@@ -1,28 +1,30 @@
 -- What became of an image on which files of the host were to be put.
-use Rattle.std.specs.Prelude.{◌⊎◌, ℕ, List, Option, None as Nothing, map}
+use Rattle.std.specs.Prelude.{◌≡◌, ◌⊎◌, ℕ, List, Option, None as Nothing, map}
 use Rattle.blockdisk.specs.Common.{DiskState}
 use Rattle.imagefile.specs.Common.{Unseen}
 use Rattle.imagefile.specs.declared.form.Form.{Form}
-use Rattle.collection.specs.Common.{FileFacts, IsImportRun as IsCollectionPut}
+use Rattle.collection.specs.Common.{FileAct, IsImportRun as IsCollectionPut}
 use Rattle.collection.specs.declared.task.ImportTask.{ImportTask}
 use Rattle.filser.specs.Hosts.{HostFacts}
 use Rattle.filser.specs.Images.{IsOnImageBy}
 use Rattle.filser.specs.ServedDisks.{IsServed, IsUnserved, machine_over}
+use Rattle.filser.specs.Permits.{MovesIfServed}
 use Rattle.filser.specs.Views.{Views}
 use Rattle.filser.specs.declared.disks.Disks.{Disks}
 use Rattle.filser.specs.declared.host.Access.TheVariants.{Write}
 use Rattle.filser.specs.declared.status.Status.{Status}
 
 -- The files were put by a service on a disk, or the disk was refused.
-abbrev pub IsImportRun : {D : Type 0} → FileFacts → (D → DiskState) → ImportTask → Option (List ℕ) → Option (List ℕ)
-    → DiskState → D → Status → Type 0
-IsImportRun files state task sink full begun end status =
+abbrev pub IsImportRun : {D : Type 0} → (D → DiskState) → ImportTask → List FileAct → List FileAct
+    → Option (List ℕ) → Option (List ℕ) → DiskState → D → Status → Type 0
+IsImportRun state task before after sink full begun end status =
     IsServed state begun end status (λ first last result.
-    IsCollectionPut files (machine_over state) task (map (λ p. p.now) task.paths.items) sink full first last result)
-    ⊎ IsUnserved begun (state end) Nothing Nothing sink full status
+    IsCollectionPut (machine_over state) task (map (λ p. p.now) task.paths.items) sink full (before, first)
+    (after, last) result)
+    ⊎ ((after ≡ before) × IsUnserved begun (state end) Nothing Nothing sink full status)
 
 abbrev pub IsOnImported : {H L M F D I : Type 0} → HostFacts H → Views M F D I → List ℕ → Form → ImportTask
-    → Unseen → Option (List ℕ) → Option (List ℕ) → Disks L F D I → Status → Type 0
-IsOnImported facts views path form task u sink full disks status =
-    IsOnImageBy facts views path Write form u (IsImportRun facts.files views.image task sink full) sink full disks
-    status
+    → Unseen → List FileAct → List FileAct → Option (List ℕ) → Option (List ℕ) → Disks L F D I → Status → Type 0
+IsOnImported facts views path form task u before after sink full disks status =
+    IsOnImageBy facts views path Write form u (IsImportRun views.image task before after sink full) sink full disks
+    status × MovesIfServed disks before after

@@ -12,7 +12,7 @@ pub mod Tasks
 pub mod Views
 pub mod Denials
 pub mod FreeStreams
-pub mod MovedFiles
+pub mod Permits
 pub mod Images
 pub mod Migrations
 pub mod ImportRuns

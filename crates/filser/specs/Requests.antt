@@ -285,17 +285,6 @@ image_named (Import image form task) = Some image.now
 image_named (Export image form task) = Some image.now
 image_named (Salvage image form task) = Some image.now
 
--- Files move between an image and the host.
-abbrev pub MovesFiles : Request → Type 0
-MovesFiles Fresh = ⊥
-MovesFiles (Init image blocks form layout) = ⊥
-MovesFiles (Work image form task) = ⊥
-MovesFiles (Convert image new form) = ⊥
-MovesFiles (Migrate image form) = ⊥
-MovesFiles (Import image form task) = Unit
-MovesFiles (Export image form task) = Unit
-MovesFiles (Salvage image form task) = Unit
-
 -- the path of a new image beside an existing one
 abbrev pub new_named : Request → Option Text
 new_named Fresh = None

@@ -2,6 +2,7 @@
 use Rattle.std.specs.Prelude.{◌≡◌, ◌⊎◌, ℕ, List, Option, Some, None as Nothing, All, IfSome}
 use Rattle.clap.specs.Words.{Kinds, kind_of, Row, Text}
 use Rattle.imagefile.specs.Common.{Unseen}
+use Rattle.collection.specs.Common.{FileAct}
 use Rattle.volume.specs.declared.error.VolumeError.TheVariants.{Device}
 use Rattle.filser.specs.Denials.{IsExplained}
 use Rattle.filser.specs.Endings.{AsksForHelp, EndsUnasked}
@@ -32,51 +33,59 @@ use Rattle.filser.specs.declared.status.Status.TheVariants.{Fault}
 use Rattle.filser.specs.declared.streams.MissingStreams.{MissingStreams}
 
 -- What a run is handed, and what it hands back: the leaves to open and to make a file, with what is supposed of the
--- files, and what is left of the existing image, of the new one, and of the volume in memory.
+-- files, and what was done with other files before it; what is left of the existing image, of the new one, and of the
+-- volume in memory, and what was done with other files by its end.
 pub record Things (L N M F D I : Type 0) : Type 0 where
   pub opening : L
   pub making : N
   pub u : Unseen
   pub v : Unseen
+  pub before : List FileAct
   pub image : Disks L F D I
   pub new : Disks N F D I
   pub memory : Option M
+  pub after : List FileAct
 
--- Neither leave was used, and there is no volume in memory.
+-- Neither leave was used, there is no volume in memory, and nothing was done with other files.
 pub record AreUntouched {L N M F D I : Type 0} (things : Things L N M F D I) : Type 0 where
   pub image : things.image ≡ Unasked things.opening
   pub new : things.new ≡ Unasked things.making
   pub memory : things.memory ≡ Nothing
+  pub files : things.after ≡ things.before
 
--- The request was served, or it wasn't for a reason that holds; and nothing else was requested of the host.
+-- The request was served, or it wasn't for a reason that holds; and nothing else was requested of the host. Only a
+-- request that moves files between an image and the host reads or makes files that aren't images.
 abbrev pub IsRequestRun : {H L N M F D I : Type 0} → HostFacts H → Views M F D I → Things L N M F D I → Request
     → Option (List ℕ) → Option (List ℕ) → Option (List ℕ) → Option (List ℕ) → Status → Type 0
 IsRequestRun facts views things Fresh source left sink full status =
     IsOnFresh views source left sink full things.memory status × (things.image ≡ Unasked things.opening)
-    × (things.new ≡ Unasked things.making)
+    × (things.new ≡ Unasked things.making) × (things.after ≡ things.before)
 IsRequestRun facts views things (Init path blocks form layout) source left sink full status =
     (left ≡ source) × IsOnNew facts views path.now form blocks layout things.v sink full things.new
     status
-    × (things.image ≡ Unasked things.opening) × (things.memory ≡ Nothing)
+    × (things.image ≡ Unasked things.opening) × (things.memory ≡ Nothing) × (things.after ≡ things.before)
 IsRequestRun facts views things (Work path form task) source left sink full status =
     IsOnImage facts views path.now form things.u task source left sink full things.image status
-    × (things.new ≡ Unasked things.making) × (things.memory ≡ Nothing)
+    × (things.new ≡ Unasked things.making) × (things.memory ≡ Nothing) × (things.after ≡ things.before)
 IsRequestRun facts views things (Convert path other form) source left sink full status =
     (left ≡ source) × IsOnBoth facts views path.now other.now form things.u things.v things.opening things.making sink
     full things.image things.new status × (things.memory ≡ Nothing)
     × ((things.image ≡ Unasked things.opening) ⊎ facts.found other.now Nothing)
-    × ((things.new ≡ Unasked things.making) ⊎ IsMadeLike facts other.now path.now)
+    × ((things.new ≡ Unasked things.making) ⊎ IsMadeLike facts other.now path.now) × (things.after ≡ things.before)
 IsRequestRun facts views things (Migrate path form) source left sink full status =
     (left ≡ source) × IsOnMigrated facts views path.now form things.u sink full things.image status
-    × (things.new ≡ Unasked things.making) × (things.memory ≡ Nothing)
+    × (things.new ≡ Unasked things.making) × (things.memory ≡ Nothing) × (things.after ≡ things.before)
 IsRequestRun facts views things (Import path form task) source left sink full status =
-    (left ≡ source) × IsOnImported facts views path.now form task things.u sink full things.image status
+    (left ≡ source) × IsOnImported facts views path.now form task things.u things.before
+    things.after sink full things.image status
     × (things.new ≡ Unasked things.making) × (things.memory ≡ Nothing)
 IsRequestRun facts views things (Export path form task) source left sink full status =
-    (left ≡ source) × IsOnExported facts views path.now form task things.u sink full things.image status
+    (left ≡ source) × IsOnExported facts views path.now form task things.u things.before
+    things.after sink full things.image status
     × (things.new ≡ Unasked things.making) × (things.memory ≡ Nothing)
 IsRequestRun facts views things (Salvage path form task) source left sink full status =
-    (left ≡ source) × IsOnSalvaged facts views path.now form task things.u sink full things.image status
+    (left ≡ source) × IsOnSalvaged facts views path.now form task things.u things.before
+    things.after sink full things.image status
     × (things.new ≡ Unasked things.making) × (things.memory ≡ Nothing)
 
 -- No standard stream leads to an image, if it is named.

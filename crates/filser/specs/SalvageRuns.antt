@@ -17,7 +17,7 @@ use Rattle.salvage.specs.declared.error.SalvageError.TheVariants.{NotVolume, Dev
 use Rattle.salvage.specs.declared.finding.Finding.{Finding}
 use Rattle.salvage.specs.declared.saved.SavedFile.{SavedFile}
 use Rattle.salvage.specs.declared.search.Search.TheVariants.{Every, Named}
-use Rattle.collection.specs.Common.{FileFacts, IsSalvageRun}
+use Rattle.collection.specs.Common.{FileAct, IsSalvageRun}
 use Rattle.filser.specs.Denials.{IsExplained}
 use Rattle.filser.specs.Hosts.{HostFacts, IsOpened}
 use Rattle.filser.specs.Images.{IsCut, IsDeniedCut}
@@ -42,8 +42,9 @@ start_error NoMemory = volume.NoMemory
 
 -- A copy was surveyed, and what was found was written to files of the host and printed as lines: the files in their
 -- place, the doubtful ones, and those that no directory names, at blocks that the task requires to be searched.
-pub record AreFound (facts : FileFacts) (task : SalvageTask) (sink full : Option (List ℕ)) (copy last : Memory)
-    (faults : CopyFaults) (files doubtful unnamed : List SavedFile) (status : Status) : Type 0 where
+pub record AreFound (before after : List FileAct) (task : SalvageTask) (sink full : Option (List ℕ))
+    (copy last : Memory) (faults : CopyFaults) (files doubtful unnamed : List SavedFile) (status : Status)
+    : Type 0 where
   pub layout : ℕ
   pub findings : List Finding
   pub middle : Memory
@@ -58,8 +59,8 @@ pub record AreFound (facts : FileFacts) (task : SalvageTask) (sink full : Option
       × SettledStands (memory_state copy).size (held copy.blocks) stored
   -- the words were read from the very copy
   pub read : OnlyReads (memory_state copy) (memory_state middle)
-  pub saved : IsSalvageRun facts memory_state task.export (copy_findings faults) files doubtful unnamed findings
-      sink full middle last result
+  pub saved : IsSalvageRun memory_state task.export (copy_findings faults) files doubtful unnamed findings
+      sink full (before, middle) (after, last) result
   pub ends : IsEnding status result
   -- status 0 only of a copy that is whole and stands for files, unless those of one directory were wanted
   pub accepted : status ≡ Done → task.export.owner ≡ None → (copy_findings faults ≡ []) × ((stored : Files File)
@@ -79,11 +80,12 @@ named_only task = record { export = task.export; search = Named }
 
 -- Memory ran out in the search: only what directories name was found and saved, and that is said at the end, unless the
 -- run broke off before.
-pub record ArePartFound (facts : FileFacts) (task : SalvageTask) (sink full : Option (List ℕ)) (copy last : Memory)
-    (faults : CopyFaults) (files doubtful unnamed : List SavedFile) (status : Status) : Type 0 where
+pub record ArePartFound (before after : List FileAct) (task : SalvageTask) (sink full : Option (List ℕ))
+    (copy last : Memory) (faults : CopyFaults) (files doubtful unnamed : List SavedFile) (status : Status)
+    : Type 0 where
   pub between : Option (List ℕ)
   pub reached : Status
-  pub found : AreFound facts (named_only task) sink between copy last faults files doubtful unnamed reached
+  pub found : AreFound before after (named_only task) sink between copy last faults files doubtful unnamed reached
   pub said : MatchResult found.result (λ tally. IsLine between full status 4 (codes "?No memory: search incomplete"))
       (λ error. (full ≡ between) × (status ≡ Fault))
 
@@ -96,12 +98,13 @@ pub record IsUnsurveyed (copy last : Memory) (sink full : Option (List ℕ)) (st
   pub said : IsLine sink full status (start_code (start_error error)) (start_text (start_error error))
 
 -- What was found in a copy, all or as far as memory went, was saved, and is right.
-abbrev pub IsSaved : FileFacts → SalvageTask → Option (List ℕ) → Option (List ℕ) → Memory → Memory → CopyFaults
-    → Status → (List SavedFile → List SavedFile → List SavedFile → Type 0) → Type 0
-IsSaved facts task sink full copy last faults status AreRight =
+abbrev pub IsSaved : List FileAct → List FileAct → SalvageTask → Option (List ℕ) → Option (List ℕ) → Memory
+    → Memory → CopyFaults → Status → (List SavedFile → List SavedFile → List SavedFile → Type 0) → Type 0
+IsSaved before after task sink full copy last faults status AreRight =
     (files : List SavedFile) × (doubtful : List SavedFile) × (unnamed : List SavedFile)
-    × (AreFound facts task sink full copy last faults files doubtful unnamed status
-    ⊎ ((task.search ≡ Named → ⊥) × ArePartFound facts task sink full copy last faults files doubtful unnamed status))
+    × (AreFound before after task sink full copy last faults files doubtful unnamed status
+    ⊎ ((task.search ≡ Named → ⊥)
+    × ArePartFound before after task sink full copy last faults files doubtful unnamed status))
     × AreRight files doubtful unnamed
 
 -- The files that were found are exactly those that a copy stands for, if it stands for any.
@@ -111,22 +114,24 @@ AreExact task copy files doubtful unnamed = (stored : Files File)
     → AreAllFound (held copy.blocks) task files doubtful unnamed stored
 
 -- This became of a copy, which is `last` at the end.
-abbrev pub IsCopySalvaged : FileFacts → SalvageTask → Option (List ℕ) → Option (List ℕ) → Memory → Memory → CopyFaults
-    → Status → Type 0
-IsCopySalvaged facts task sink full copy last faults status =
-    IsSaved facts task sink full copy last faults status (AreExact task copy) ⊎ IsUnsurveyed copy last sink full status
+abbrev pub IsCopySalvaged : List FileAct → List FileAct → SalvageTask → Option (List ℕ) → Option (List ℕ) → Memory
+    → Memory → CopyFaults → Status → Type 0
+IsCopySalvaged before after task sink full copy last faults status =
+    IsSaved before after task sink full copy last faults status (AreExact task copy)
+    ⊎ ((after ≡ before) × IsUnsurveyed copy last sink full status)
 
 -- The same without a search for files that no directory names.
-abbrev pub IsPartSalvaged : FileFacts → SalvageTask → Option (List ℕ) → Option (List ℕ) → Memory → Memory → CopyFaults
-    → Status → Type 0
-IsPartSalvaged facts task sink full copy last faults status =
+abbrev pub IsPartSalvaged : List FileAct → List FileAct → SalvageTask → Option (List ℕ) → Option (List ℕ) → Memory
+    → Memory → CopyFaults → Status → Type 0
+IsPartSalvaged before after task sink full copy last faults status =
     ((files : List SavedFile) × (doubtful : List SavedFile) × (unnamed : List SavedFile)
-    × ArePartFound facts task sink full copy last faults files doubtful unnamed status
-    × AreExact task copy files doubtful unnamed) ⊎ IsUnsurveyed copy last sink full status
+    × ArePartFound before after task sink full copy last faults files doubtful unnamed status
+    × AreExact task copy files doubtful unnamed)
+    ⊎ ((after ≡ before) × IsUnsurveyed copy last sink full status)
 
 -- The disk, which `tail` bytes follow, was copied, and this became of the copy, which is `last` at the end. Each time
 -- that a block couldn't be read is a failure of the disk.
-pub record IsCopied (facts : FileFacts) (task : SalvageTask) (tail : ℕ) (sink full : Option (List ℕ))
+pub record IsCopied (before after : List FileAct) (task : SalvageTask) (tail : ℕ) (sink full : Option (List ℕ))
     (begun end : DiskState) (status : Status) : Type 0 where
   pub copy : Memory
   pub last : Memory
@@ -136,10 +141,10 @@ pub record IsCopied (facts : FileFacts) (task : SalvageTask) (tail : ℕ) (sink 
   pub few : faults.unread ≤ 2 * begun.size + 2
   pub failures : end.failures ≡ failed_by faults.unread begun.failures
   -- if all was read, and the disk stood for files, exactly these were found
-  pub ran : IsSaved facts task sink full copy last faults status (λ files doubtful unnamed.
+  pub ran : IsSaved before after task sink full copy last faults status (λ files doubtful unnamed.
       end.honest → faults.unread ≡ 0 → (stored : Files File) → Stands begun.size begun.contents stored
       → AreAllFound (held copy.blocks) task files doubtful unnamed stored)
-      ⊎ IsUnsurveyed copy last sink full status
+      ⊎ ((after ≡ before) × IsUnsurveyed copy last sink full status)
 
 -- Why a disk isn't copied: neither it nor a home copy has a volume's size; or a home copy couldn't be read, and its
 -- size isn't known; or memory ran out.
@@ -159,17 +164,19 @@ pub record IsUncopied (begun end : DiskState) (sink full : Option (List ℕ)) (s
   pub said : IsLine sink full status (start_code (start_error error)) (start_text (start_error error))
 
 -- The disk, which `tail` bytes follow, was copied, or it wasn't. Nothing was written.
-pub record IsSalvagedFrom (facts : FileFacts) (task : SalvageTask) (tail : ℕ) (sink full : Option (List ℕ))
+pub record IsSalvagedFrom (before after : List FileAct) (task : SalvageTask) (tail : ℕ) (sink full : Option (List ℕ))
     (begun end : DiskState) (status : Status) : Type 0 where
   pub still : end.honest → Still begun end
-  pub done : IsCopied facts task tail sink full begun end status ⊎ IsUncopied begun end sink full status
+  pub done : IsCopied before after task tail sink full begun end status
+      ⊎ ((after ≡ before) × IsUncopied begun end sink full status)
 
 -- What became of the image, which may be cut in the middle of a block: its file was opened, and the disk of its whole
 -- blocks salvaged only by calls of it since; or it wasn't, for a reason that holds.
 abbrev pub IsOnSalvaged : {H L M F D I : Type 0} → HostFacts H → Views M F D I → List ℕ → Form → SalvageTask → Unseen
-    → Option (List ℕ) → Option (List ℕ) → Disks L F D I → Status → Type 0
-IsOnSalvaged {D = D} facts views path form task u sink full disks status =
+    → List FileAct → List FileAct → Option (List ℕ) → Option (List ℕ) → Disks L F D I → Status → Type 0
+IsOnSalvaged {D = D} facts views path form task u before after sink full disks status =
     ((disk : D) × (tail : ℕ) × (disks ≡ Unserved disk) × IsOpened facts path Read u
-    × IsCut form u tail (views.disk disk) × IsSalvagedFrom facts.files task tail sink full
+    × IsCut form u tail (views.disk disk) × IsSalvagedFrom before after task tail sink full
     (begun_image form (views.disk disk).size u) (views.disk disk) status)
-    ⊎ ((fault : ImageFault) × IsDeniedCut facts views path form u fault disks × IsExplained sink full status fault)
+    ⊎ ((after ≡ before)
+    × ((fault : ImageFault) × IsDeniedCut facts views path form u fault disks × IsExplained sink full status fault))

@@ -1,8 +1,8 @@
 //! Texts with their control characters escaped.
 use std::fmt::{self, Display, Formatter, Write};
 
-/// A text of one line, in which a control character is shown as `\n` or `\u{1b}`, so that a name can't act on a
-/// terminal, or look like a line of its own.
+/// A text of one line, in which a control character is shown as `\n` or `\u{1b}`, and a mark that turns the direction
+/// of writing as `\u{202e}`: so a name can't act on a terminal, nor look like another one or like a line of its own.
 #[derive(Clone, Copy, Debug)]
 pub struct Escaped<'a>(pub &'a str);
 
@@ -25,6 +25,11 @@ impl<T: Display> Display for EscapedLines<'_, T> {
     }
 }
 
+/// Returns whether a character turns the direction in which the text around it is shown.
+fn turns_direction(c: char) -> bool {
+    matches!(c, '\u{202a}'..='\u{202e}' | '\u{2066}'..='\u{2069}')
+}
+
 /// A writer that escapes the control characters of texts, except one, and passes them on.
 #[derive(Drop)]
 struct Escaper<'a, W: fmt::Write> {
@@ -35,7 +40,7 @@ struct Escaper<'a, W: fmt::Write> {
 impl<W: fmt::Write> Escaper<'_, W> {
     /// Returns whether a character is escaped.
     fn escapes(&self, c: char) -> bool {
-        c.is_control() && self.keeps != Some(c)
+        (c.is_control() || turns_direction(c)) && self.keeps != Some(c)
     }
 }
 

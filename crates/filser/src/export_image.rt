@@ -1,8 +1,7 @@
 //! `export`: files of an image written to new files of the host.
 ghost use Rattle.std.specs.Prelude.{◌≡◌, ◌≢◌};
 ghost use Rattle.imagefile.specs.Common.{assumed_in};
-ghost use Rattle.collection.specs.Common.{MayExport};
-ghost use Rattle.filser.specs.Common.{IsExportedFrom, IsOnExported};
+ghost use Rattle.filser.specs.Common.{IsExportedFrom, IsOnExported, acts_of};
 ghost use Rattle.filser.specs.declared.status.Status.TheVariants.{BadArguments};
 
 use crate::host::Shelf;
@@ -21,16 +20,16 @@ use std::io::Write;
 
 /// Writes files of a disk to files of the host, reports what was refused, and hands the disk back.
 fn export_from<H: Host, D: Disk + Drop, W: Write, E: Write>(
-    shelf: &Shelf<'_, H>,
+    shelf: &mut Shelf<'_, H>,
     alloc: Global,
     disk: D,
     task: &ExportTask<'_>,
     writer: &mut W,
     errors: &mut E,
 ) -> (Status, D)
-    requires { MayExport (H.facts shelf.now.host.now).files task.now }
     ensures serving { result.0 ≢ BadArguments }
-    ensures ran { IsExportedFrom (H.facts shelf.now.host.now).files D.state task.now (W.contents writer.old)
+    ensures ran { IsExportedFrom D.state task.now (acts_of shelf.old.permit) (acts_of shelf.new.permit)
+        (W.contents writer.old)
         (W.contents writer.new) (D.state disk) result.1 result.0 }
     ensures size { (D.state result.1).size ≡ (D.state disk).size }
     ensures was_honest { (D.state result.1).honest → (D.state disk).honest }
@@ -49,7 +48,7 @@ fn export_from<H: Host, D: Disk + Drop, W: Write, E: Write>(
 /// Writes the files of an image to files of the host, if these don't exist, and prints a line for each. As for a task,
 /// nothing is assumed of the host.
 pub(crate) fn export_image<H: Host, W: Write, E: Write>(
-    shelf: &Shelf<'_, H>,
+    shelf: &mut Shelf<'_, H>,
     alloc: Global,
     image: &NamedImage<'_>,
     leave: OpeningLeave,
@@ -57,10 +56,10 @@ pub(crate) fn export_image<H: Host, W: Write, E: Write>(
     writer: &mut W,
     errors: &mut E,
 ) -> (Status, ImageDisks)
-    requires { MayExport (H.facts shelf.now.host.now).files task.now }
     ensures serving { result.0 ≢ BadArguments }
-    ensures ran { IsOnExported (H.facts shelf.now.host.now) (⟦<Run as Seen>⟧.views) image.now.path.now
-        image.now.form task.now (assumed_in leave.supposed) (W.contents writer.old) (W.contents writer.new)
+    ensures ran { IsOnExported (H.facts shelf.old.host.now) (⟦<Run as Seen>⟧.views) image.now.path.now
+        image.now.form task.now (assumed_in leave.supposed) (acts_of shelf.old.permit) (acts_of shelf.new.permit)
+        (W.contents writer.old) (W.contents writer.new)
         result.1 result.0 }
 {
     let (path, form) = (image.path, image.form);

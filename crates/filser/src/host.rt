@@ -1,28 +1,30 @@
 //! The files of the host: the calls that the program makes on them, and the system that serves these.
-ghost use Rattle.std.specs.Prelude.{◌≡◌, Ok, Err, IfOk, IfErr, IfSome, pos, ◌<ℤ◌};
+ghost use Rattle.std.specs.Prelude.{◌≡◌, ◌∷◌, Ok, Err, IfOk, IfErr, IfSome, is_ok, pos, ◌<ℤ◌};
+ghost use Rattle.collection.specs.Common.{MadeFile, MadeFolder, ReadFile, day_of, read_from};
 ghost use Rattle.imagefile.specs.Common.{BeganAs, BeganCut, HasTooManyBlocks, IsImageSize, assumed_in, size_of};
 ghost use Rattle.imagefile.specs.declared.size.ImageError.TheVariants.{BadSize, Device};
 ghost use Rattle.filser.specs.Hosts.{HostFacts};
+ghost use Rattle.filser.specs.Permits.{acts_of};
 
+use crate::system_files::{NewContent, folder_at, read_file, store_file};
 use crate::{FileId, Leaves};
 use blockdisk::Disk;
-use collection::{HostFiles, Source, moment_of, second_of};
+use collection::{ActMade, FileRecord, HostFiles, Source};
 use imagefile::{AssumedImage, Durable, Form, HostFile, ImageDisk, ImageError};
 use std::alloc::Global;
 use std::fs::{self, File, Metadata, OpenOptions, Permissions, TryLockError};
-use std::io::{self, ErrorKind, Read, Write};
+use std::io::{self, ErrorKind, Write};
 use std::os::fd::{AsRawFd, RawFd};
 use std::os::unix::fs::{MetadataExt, OpenOptionsExt, PermissionsExt};
 use std::path::Path;
 use std::rt::Files;
-use std::time::{Duration, SystemTime};
 use words36::{BLOCK_BYTES, Moment};
 
 /// The permission bits of a file that only its owner may read and write.
-const OWNER_ALONE: u32 = 0o600;
+pub(crate) const OWNER_ALONE: u32 = 0o600;
 
 /// The bits of a mode that determine who may read, write and run a file.
-const PERMISSION_BITS: u32 = 0o777;
+pub(crate) const PERMISSION_BITS: u32 = 0o777;
 
 /// What the program may do with the files of the host: open one, make one if it doesn't exist, fill that with zeros,
 /// and find out which file a path leads to. The program can't truncate a file or write to one, except through the disk
@@ -146,40 +148,49 @@ pub trait Host {
         requires { (file : Self.File) × (facts self.now).created path.now (Ok file) }
         ensures { (facts self.now).removed path.now result };
 
-    /// Reads the file at a path to its end, or until it has more bytes than `most`.
+    /// Reads the file at a path from its beginning to its end, or until it has more bytes than `most`. It must be a
+    /// regular file, or a link to one.
     ///
     /// # Errors
     ///
     /// The system's, and `OutOfMemory` if its bytes find no room.
-    fn read(&self, alloc: Global, path: &str, most: usize, right: &FilesRight) -> io::Result<Source>
-        requires { (facts self.now).files.may_read path.now }
-        ensures { (facts self.now).files.read path.now most result };
+    fn read(
+        &self,
+        alloc: Global,
+        path: &str,
+        most: usize,
+        permit: &mut FilesPermit,
+    ) -> io::Result<Source>
+        ensures { acts_of permit.new ≡ ReadFile path.now most (read_from result) ∷ acts_of permit.old };
 
-    /// Makes a folder at a path, unless there is one.
+    /// Makes a folder at a path, unless there is one. Only the first one of a run may be a link to a folder. A new one
+    /// gets the permission bits of the file at `like`, and whoever may read it may search it.
     ///
     /// # Errors
     ///
     /// The system's. Its parent must exist.
-    fn make_folder(&self, path: &str, right: &FilesRight) -> io::Result<()>
-        requires { (facts self.now).files.may_make_folder path.now }
-        ensures { (facts self.now).files.folder path.now result };
+    fn make_folder(&self, path: &str, like: &str, permit: &mut FilesPermit) -> io::Result<()>
+        ensures { acts_of permit.new ≡ MadeFolder path.now (is_ok result) ∷ acts_of permit.old };
 
-    /// Makes a file of these bytes at a path, if nothing is there, with this moment, in UTC, as its last change. A
-    /// moment before 1970 isn't set.
+    /// Makes a file of these bytes at a path, if nothing is there, in the folder that was made last, and waits until
+    /// these and its name are on the device. It gets the permission bits of the file at `like`, and this moment, in
+    /// UTC, as its last change; one before 1970 isn't set. Returns why the moment couldn't be set, if it couldn't.
     ///
     /// # Errors
     ///
-    /// The system's: `AlreadyExists` if something has that name, which is left alone. If the bytes can't be written,
-    /// the file that was made is removed.
+    /// The system's: `AlreadyExists` if something has that name, which is left alone. What was made is removed then, if
+    /// the system allows it.
     fn store(
         &self,
+        alloc: Global,
         path: &str,
         bytes: &[u8],
         changed: Option<Moment>,
-        right: &FilesRight,
-    ) -> io::Result<()>
-        requires { (facts self.now).files.may_store path.now }
-        ensures { (facts self.now).files.stored path.now bytes.now changed result };
+        like: &str,
+        permit: &mut FilesPermit,
+    ) -> io::Result<Option<io::Error>>
+        ensures { acts_of permit.new ≡ MadeFile path.now bytes.now (day_of changed) (is_ok result)
+            ∷ acts_of permit.old };
 }
 
 /// A host whose files that aren't images may be read and made.
@@ -187,35 +198,51 @@ pub trait Host {
 pub(crate) struct Shelf<'a, H: Host> {
     /// The host.
     pub(crate) host: &'a H,
-    right: FilesRight,
+    /// The image whose permission bits new files get.
+    like: &'a str,
+    permit: FilesPermit,
 }
 
 impl<'a, H: Host> Shelf<'a, H> {
-    /// Returns the shelf of this host. The leave is used up.
-    pub(crate) fn of(host: &'a H, leave: FilesLeave) -> Self
-        ensures { result.host.now ≡ host.entry.now }
+    /// Returns the shelf of this host, for a run on the image at a path.
+    pub(crate) fn of(host: &'a H, like: &'a str, permit: FilesPermit) -> Self
+        ensures host { result.host.now ≡ host.entry.now }
+        ensures permit { result.permit ≡ permit }
     {
-        let FilesLeave { _once } = leave;
-        Shelf {
-            host,
-            right: FilesRight { _once },
-        }
+        Shelf { host, like, permit }
+    }
+
+    /// Returns the permit with which it was made, with what was done since then.
+    pub(crate) fn into_permit(self) -> FilesPermit
+        ensures { result ≡ self.entry.permit }
+    {
+        self.permit
     }
 }
 
 impl<H: Host> HostFiles for Shelf<'_, H> {
-    ghost files = { λ shelf. (H.facts shelf.host.now).files };
+    ghost use Rattle.filser.specs.Permits.{acts_of};
 
-    fn read(&self, alloc: Global, path: &str, most: usize) -> io::Result<Source> {
-        self.host.read(alloc, path, most, &self.right)
+    ghost acts = { λ shelf. acts_of shelf.permit };
+
+    fn read(&mut self, alloc: Global, path: &str, most: usize) -> io::Result<Source> {
+        self.host.read(alloc, path, most, &mut self.permit)
     }
 
-    fn make_folder(&self, path: &str) -> io::Result<()> {
-        self.host.make_folder(path, &self.right)
+    fn make_folder(&mut self, path: &str) -> io::Result<()> {
+        self.host.make_folder(path, self.like, &mut self.permit)
     }
 
-    fn store(&self, path: &str, bytes: &[u8], changed: Option<Moment>) -> io::Result<()> {
-        self.host.store(path, bytes, changed, &self.right)
+    fn store(
+        &mut self,
+        alloc: Global,
+        path: &str,
+        bytes: &[u8],
+        changed: Option<Moment>,
+    ) -> io::Result<Option<io::Error>> {
+        let like = self.like;
+        self.host
+            .store(alloc, path, bytes, changed, like, &mut self.permit)
     }
 }
 
@@ -243,17 +270,43 @@ pub struct MakingLeave {
     _once: (),
 }
 
-/// The leave to read files that aren't images, and to make such files and folders. A run has it once, and only one that
-/// moves files between an image and the host uses it.
+/// The permit to read files that aren't images, and to make such files and folders. A run has it once. Each call that
+/// is made by it goes on its record.
 #[derive(Drop)]
-pub struct FilesLeave {
-    _once: (),
+pub struct FilesPermit {
+    record: FileRecord,
+    /// The folder that was made last, if the system could tell which one that is.
+    folder: Option<FileId>,
+    /// Whether a folder was made before.
+    has_root: bool,
 }
 
-/// The right to read files that aren't images, and to make such files and folders. Whoever gave up the leave has it.
-#[derive(Drop)]
-pub struct FilesRight {
-    _once: (),
+impl FilesPermit {
+    /// Records that a file was read.
+    fn note_read(&mut self, path: &str, most: usize, read: &io::Result<Source>)
+        ensures { acts_of self.new ≡ ReadFile path.now most (read_from read.now) ∷ acts_of self.old }
+    {
+        self.record = match read {
+            Ok(source) => self.record.then(&ActMade::Read(path, most, Some(source))),
+            Err(_) => self.record.then(&ActMade::Read(path, most, None)),
+        };
+    }
+
+    /// Records that a folder was to be made.
+    fn note_folder(&mut self, path: &str, made: bool)
+        ensures { acts_of self.new ≡ MadeFolder path.now made ∷ acts_of self.old }
+    {
+        self.record = self.record.then(&ActMade::Folder(path, made));
+    }
+
+    /// Records that a file was to be made.
+    fn note_file(&mut self, path: &str, bytes: &[u8], changed: Option<Moment>, made: bool)
+        ensures { acts_of self.new ≡ MadeFile path.now bytes.now (day_of changed) made ∷ acts_of self.old }
+    {
+        self.record = self
+            .record
+            .then(&ActMade::Store(path, bytes, changed, made));
+    }
 }
 
 /// A file that was made, and the right to remove it.
@@ -290,7 +343,11 @@ impl<'a, F: Files<File = File>> SystemHost<'a, F> {
                 supposed: AssumedImage::any(),
                 _once: (),
             },
-            files: FilesLeave { _once: () },
+            files: FilesPermit {
+                record: FileRecord::new(),
+                folder: None,
+                has_root: false,
+            },
         };
         (SystemHost { files }, leaves)
     }
@@ -352,12 +409,17 @@ fn create_like<F: Files<File = File>>(files: &F, path: &str, like: &str) -> io::
 }
 
 /// Returns the numbers by which the system knows a file, if it could read them.
-fn file_id(asked: io::Result<Metadata>) -> Option<FileId> {
+pub(crate) fn file_id(asked: io::Result<Metadata>) -> Option<FileId> {
     let found = asked.ok()?;
-    Some(FileId {
+    Some(id_of(&found))
+}
+
+/// Returns the numbers by which the system knows a file.
+pub(crate) fn id_of(found: &Metadata) -> FileId {
+    FileId {
         device: found.dev(),
         inode: found.ino(),
-    })
+    }
 }
 
 /// Waits until the entry of a file in its folder is on the device.
@@ -365,7 +427,7 @@ fn file_id(asked: io::Result<Metadata>) -> Option<FileId> {
 /// # Errors
 ///
 /// The system's.
-fn sync_folder<F: Files<File = File>>(files: &F, path: &str) -> io::Result<()> {
+pub(crate) fn sync_folder<F: Files<File = File>>(files: &F, path: &str) -> io::Result<()> {
     let parent = Path::new(path).parent();
     let folder = match &parent {
         Some(folder) => folder.to_string_lossy(),
@@ -390,14 +452,6 @@ impl<F: Files<File = File>> Host for SystemHost<'_, F> {
       found = λ path file. Unit {0};
       number = λ file. file_raw_fd file;
       supposed = λ file u. Unit {0};
-      files = record {
-        may_read = λ path. Unit {0};
-        may_make_folder = λ path. Unit {0};
-        may_store = λ path. Unit {0};
-        read = λ path most result. Unit {0};
-        folder = λ path result. Unit {0};
-        stored = λ path bytes changed result. Unit {0};
-      };
     } };
 
     fn open(
@@ -470,78 +524,48 @@ impl<F: Files<File = File>> Host for SystemHost<'_, F> {
         alloc: Global,
         path: &str,
         most: usize,
-        _right: &FilesRight,
+        permit: &mut FilesPermit,
     ) -> io::Result<Source> {
-        let file = File::open(self.files, path)?;
-        let changed = moment_of(file.metadata()?.mtime());
-        let bytes = read_most(alloc, file, most)?;
-        Ok(Source { bytes, changed })
+        let read = read_file(self.files, alloc, path, most);
+        permit.note_read(path, most, &read);
+        read
     }
 
-    fn make_folder(&self, path: &str, _right: &FilesRight) -> io::Result<()> {
-        match fs::create_dir(self.files, path) {
-            Err(error) if error.kind() == ErrorKind::AlreadyExists && is_folder(self.files, path) =>
-                Ok(()),
-            made => made,
+    fn make_folder(&self, path: &str, like: &str, permit: &mut FilesPermit) -> io::Result<()> {
+        let made = folder_at(self.files, path, like, !permit.has_root);
+        permit.note_folder(path, made.is_ok());
+        permit.has_root = true;
+        match made {
+            Ok(folder) => {
+                permit.folder = Some(folder);
+                Ok(())
+            }
+            Err(error) => Err(error),
         }
     }
 
     fn store(
         &self,
+        alloc: Global,
         path: &str,
         bytes: &[u8],
         changed: Option<Moment>,
-        _right: &FilesRight,
-    ) -> io::Result<()> {
-        let file = File::create_new(self.files, path)?;
-        let made = file_id(file.metadata());
-        let filled = fill_file(&file, bytes, changed);
-        if filled.is_err() {
-            let _ = remove_made(self.files, path, made);
-        }
-        filled
-    }
-}
-
-/// Returns whether a folder is at a path.
-fn is_folder<F: Files<File = File>>(files: &F, path: &str) -> bool {
-    fs::metadata(files, path).is_ok_and(|found| found.is_dir())
-}
-
-/// Returns the bytes of a file up to its end, but at most `most` and one more.
-///
-/// # Errors
-///
-/// The system's, and `OutOfMemory` if there is no room for them.
-fn read_most(alloc: Global, file: File, most: usize) -> io::Result<Vec<u8>> {
-    let mut bytes = Vec::new(alloc);
-    file.take((most as u64).saturating_add(1))
-        .read_to_end(&mut bytes)?;
-    Ok(bytes)
-}
-
-/// Returns the time of a moment, unless that is before 1970.
-fn time_of(moment: Moment) -> Option<SystemTime> {
-    let seconds = u64::try_from(second_of(moment)?).ok()?;
-    SystemTime::UNIX_EPOCH.checked_add(Duration::from_secs(seconds))
-}
-
-/// Writes the bytes of a file that was made, and the moment of its last change, unless that is before 1970.
-///
-/// # Errors
-///
-/// The system's.
-fn fill_file(file: &File, bytes: &[u8], changed: Option<Moment>) -> io::Result<()> {
-    let mut writer = file;
-    writer.write_all(bytes)?;
-    match changed.and_then(time_of) {
-        Some(time) => file.set_modified(time),
-        None => Ok(()),
+        like: &str,
+        permit: &mut FilesPermit,
+    ) -> io::Result<Option<io::Error>> {
+        let content = NewContent {
+            bytes,
+            changed,
+            like,
+        };
+        let stored = store_file(self.files, alloc, path, &content, permit.folder);
+        permit.note_file(path, bytes, changed, stored.is_ok());
+        stored
     }
 }
 
 /// Removes the file that was made at a path, unless something else has taken its place.
-fn remove_made<F: Files<File = File>>(
+pub(crate) fn remove_made<F: Files<File = File>>(
     files: &F,
     path: &str,
     made: Option<FileId>,

@@ -1,7 +1,7 @@
 //! `import`: files of the host put on an image.
-ghost use Rattle.std.specs.Prelude.{◌≡◌, ◌≢◌, All, map};
+ghost use Rattle.std.specs.Prelude.{◌≡◌, ◌≢◌};
 ghost use Rattle.imagefile.specs.Common.{assumed_in};
-ghost use Rattle.filser.specs.Common.{IsImportRun, IsOnImported};
+ghost use Rattle.filser.specs.Common.{IsImportRun, IsOnImported, acts_of};
 ghost use Rattle.filser.specs.declared.status.Status.TheVariants.{BadArguments};
 
 use crate::host::Shelf;
@@ -28,16 +28,15 @@ fn report_date<E: Write>(errors: &mut E, task: &ImportTask<'_>, layout: Layout) 
 
 /// Puts files of the host on a disk, reports what was refused, and hands the disk back.
 fn import_on<H: Host, D: Disk + Drop, W: Write, E: Write>(
-    shelf: &Shelf<'_, H>,
+    shelf: &mut Shelf<'_, H>,
     alloc: Global,
     disk: D,
     task: &ImportTask<'_>,
     writer: &mut W,
     errors: &mut E,
 ) -> (Status, D)
-    requires { All (H.facts shelf.now.host.now).files.may_read (map (λ p. p.now) task.now.paths.items) }
     ensures serving { result.0 ≢ BadArguments }
-    ensures ran { IsImportRun (H.facts shelf.now.host.now).files D.state task.now
+    ensures ran { IsImportRun D.state task.now (acts_of shelf.old.permit) (acts_of shelf.new.permit)
         (W.contents writer.old) (W.contents writer.new) (D.state disk) result.1 result.0 }
     ensures size { (D.state result.1).size ≡ (D.state disk).size }
     ensures was_honest { (D.state result.1).honest → (D.state disk).honest }
@@ -57,7 +56,7 @@ fn import_on<H: Host, D: Disk + Drop, W: Write, E: Write>(
 /// Puts files of the host on an image, each one if no file has its name, and prints a line for each. As for a task,
 /// nothing is assumed of the host.
 pub(crate) fn import_image<H: Host, W: Write, E: Write>(
-    shelf: &Shelf<'_, H>,
+    shelf: &mut Shelf<'_, H>,
     alloc: Global,
     image: &NamedImage<'_>,
     leave: OpeningLeave,
@@ -65,10 +64,10 @@ pub(crate) fn import_image<H: Host, W: Write, E: Write>(
     writer: &mut W,
     errors: &mut E,
 ) -> (Status, ImageDisks)
-    requires { All (H.facts shelf.now.host.now).files.may_read (map (λ p. p.now) task.now.paths.items) }
     ensures serving { result.0 ≢ BadArguments }
-    ensures ran { IsOnImported (H.facts shelf.now.host.now) (⟦<Run as Seen>⟧.views) image.now.path.now
-        image.now.form task.now (assumed_in leave.supposed) (W.contents writer.old) (W.contents writer.new)
+    ensures ran { IsOnImported (H.facts shelf.old.host.now) (⟦<Run as Seen>⟧.views) image.now.path.now
+        image.now.form task.now (assumed_in leave.supposed) (acts_of shelf.old.permit) (acts_of shelf.new.permit)
+        (W.contents writer.old) (W.contents writer.new)
         result.1 result.0 }
 {
     let (path, form) = (image.path, image.form);

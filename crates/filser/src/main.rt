@@ -14,9 +14,10 @@
 //!    that it reports why there are no arguments or no numbers.
 //! 6. Files are reached through `Host` alone: generic code can't truncate one, write to one except through its disk, or
 //!    remove one that it didn't make. A call of the host can be shown only by making it. (`HostFacts`) A run can open
-//!    one file and make one, and hands back the leave that it didn't use. (`Leaves`) Only a run that moves files
-//!    between an image and the host can read or make other files, and these only at paths that its words name, or in a
-//!    folder that they name. (`MovesFiles`, `AllowsNamed`)
+//!    one file and make one, and hands back the leave that it didn't use. (`Leaves`) Other files are read and made by a
+//!    permit that records each call. Only a run that moves files between an image and the host makes such calls: an
+//!    import reads each file that it names once, an export and a salvage make the files that have lines, in the order
+//!    of the lines, and nothing else is done. (`FilesPermit`, `IsRequestRun`)
 //! 7. The file of an image was opened at its path, doesn't have the number of a standard stream, and is locked.
 //!    (`IsOpened`) That it may be written is required only if the request can change a file. (`access_of`) The disk
 //!    that is served has been that file's since before its first call. (`IsOnImage`)
@@ -63,6 +64,7 @@ mod seen;
 mod serve_image;
 mod status;
 mod streams;
+mod system_files;
 mod task;
 
 pub use collection::{ExportTask, ImportTask};
@@ -71,8 +73,7 @@ pub use error::{RequestError, WrongArgument};
 pub use escaped::Escaped;
 pub use fault::{HostFault, ImageFault};
 pub use host::{
-    Access, FilesLeave, FilesRight, Host, MakingLeave, NewFile, OpeningLeave, RemovalRight,
-    SystemHost,
+    Access, FilesPermit, Host, MakingLeave, NewFile, OpeningLeave, RemovalRight, SystemHost,
 };
 pub use identity::FileId;
 pub use lines::LineReader;

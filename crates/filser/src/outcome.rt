@@ -1,9 +1,9 @@
 //! How a run ends, and what is left of the things it worked on.
-ghost use Rattle.std.specs.Prelude.{◌≡◌, None, Some};
+ghost use Rattle.std.specs.Prelude.{◌≡◌, None};
 ghost use Rattle.filser.specs.declared.disks.Disks.TheVariants.{Unasked};
 
 use crate::convert::Converted;
-use crate::{Disks, FilesLeave, ImageDisks, MakingLeave, NewDisks, OpeningLeave, Status};
+use crate::{Disks, FilesPermit, ImageDisks, MakingLeave, NewDisks, OpeningLeave, Status};
 use blockdisk::MemDisk;
 
 /// What a run may request from the host: one existing file, one that it makes, and files that aren't images.
@@ -14,7 +14,7 @@ pub struct Leaves {
     /// To make a new one.
     pub new: MakingLeave,
     /// To read and make files that aren't images.
-    pub files: FilesLeave,
+    pub files: FilesPermit,
 }
 
 /// How a run ended, and what is left of what it worked on.
@@ -28,8 +28,8 @@ pub(crate) struct Outcome {
     pub(crate) new: NewDisks,
     /// The volume in memory.
     pub(crate) memory: Option<MemDisk>,
-    /// The leave for files that aren't images, if it wasn't used.
-    pub(crate) files: Option<FilesLeave>,
+    /// The permit for files that aren't images, with what was done by it.
+    pub(crate) files: FilesPermit,
 }
 
 impl Outcome {
@@ -40,7 +40,7 @@ impl Outcome {
           image = Unasked leaves.image;
           new = Unasked leaves.new;
           memory = None;
-          files = Some leaves.files;
+          files = leaves.files;
         } }
     {
         Outcome {
@@ -48,7 +48,7 @@ impl Outcome {
             image: Disks::Unasked(leaves.image),
             new: Disks::Unasked(leaves.new),
             memory: None,
-            files: Some(leaves.files),
+            files: leaves.files,
         }
     }
 
@@ -59,7 +59,7 @@ impl Outcome {
           image = Unasked leaves.image;
           new = Unasked leaves.new;
           memory = served.1;
-          files = Some leaves.files;
+          files = leaves.files;
         } }
     {
         Outcome {
@@ -67,15 +67,15 @@ impl Outcome {
             image: Disks::Unasked(leaves.image),
             new: Disks::Unasked(leaves.new),
             memory: served.1,
-            files: Some(leaves.files),
+            files: leaves.files,
         }
     }
 
-    /// Returns the outcome of a run on an existing image, with the leaves that it didn't use.
+    /// Returns the outcome of a run on an existing image, with the leave that it didn't use.
     pub(crate) fn of_image(
         served: (Status, ImageDisks),
         leave: MakingLeave,
-        files: Option<FilesLeave>,
+        files: FilesPermit,
     ) -> Self
         ensures { result ≡ record {
           status = served.0;
@@ -95,13 +95,13 @@ impl Outcome {
     }
 
     /// Returns the outcome of a run that only made an image, with the leaves that it didn't use.
-    pub(crate) fn of_new(made: (Status, NewDisks), leave: OpeningLeave, files: FilesLeave) -> Self
+    pub(crate) fn of_new(made: (Status, NewDisks), leave: OpeningLeave, files: FilesPermit) -> Self
         ensures { result ≡ record {
           status = made.0;
           image = Unasked leave;
           new = made.1;
           memory = None;
-          files = Some files;
+          files = files;
         } }
     {
         Outcome {
@@ -109,18 +109,18 @@ impl Outcome {
             image: Disks::Unasked(leave),
             new: made.1,
             memory: None,
-            files: Some(files),
+            files,
         }
     }
 
     /// Returns the outcome of a conversion, with the leave that it didn't use.
-    pub(crate) fn of_both(converted: Converted, files: FilesLeave) -> Self
+    pub(crate) fn of_both(converted: Converted, files: FilesPermit) -> Self
         ensures { result ≡ record {
           status = converted.status;
           image = converted.image;
           new = converted.new;
           memory = None;
-          files = Some files;
+          files = files;
         } }
     {
         Outcome {
@@ -128,7 +128,7 @@ impl Outcome {
             image: converted.image,
             new: converted.new,
             memory: None,
-            files: Some(files),
+            files,
         }
     }
 }
@@ -144,6 +144,6 @@ pub struct Run {
     pub new: NewDisks,
     /// The volume in memory.
     pub memory: Option<MemDisk>,
-    /// The leave for files that aren't images, if it wasn't used.
-    pub files: Option<FilesLeave>,
+    /// The permit for files that aren't images, with what was done by it.
+    pub files: FilesPermit,
 }

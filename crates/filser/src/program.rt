@@ -8,8 +8,7 @@ ghost use Rattle.arguments.specs.CommandLine.{command_line};
 ghost use Rattle.imagefile.specs.Common.{assumed_in};
 ghost use Rattle.filser.specs.Common.{IsExplained, AreMistaken, AskToSee, EndsUnasked, AsksForHelp, forbids_errors};
 ghost use Rattle.filser.specs.Common.{IsOnNew, Asks, InRange, IsHandled, IsRequestRun, WasRun};
-ghost use Rattle.filser.specs.Common.{AllowsMoved, AllowsNamed};
-ghost use Rattle.filser.specs.Common.{AreReportsSpared, HoldsOfImages, MovesFiles, SparesErrors, status_code};
+ghost use Rattle.filser.specs.Common.{AreReportsSpared, HoldsOfImages, SparesErrors, acts_of, status_code};
 ghost use Rattle.filser.specs.declared.request.Request.{Request as Asked};
 ghost use Rattle.filser.specs.declared.error.WrongArgument.{WrongArgument as WrongArguments};
 ghost use Rattle.filser.specs.declared.error.RequestError.TheVariants.{BadArgument, NoMemory, Usage};
@@ -46,8 +45,9 @@ use std::io::{self, Read, Write};
 /// date is past the dates of the volume; which lines of the input were refused; why the input can't be a file; the line
 /// in which it broke off; and, if `telling` requires it, the progress of a conversion.
 ///
-/// Of the files that aren't images it reads those that the words name, and fills folders that they name, which the host
-/// must allow; it reads and makes no others.
+/// Of the files that aren't images it reads those that an import names, each once, and makes those that an export or a
+/// salvage has lines for, in folders below the one that it names; it reads and makes no others. All of these calls are
+/// on the record of the permit that it hands back.
 ///
 /// If there are several faults, the first of these is met: the arguments, a new file that exists already, a file that
 /// can't be opened or made or that another process has, its size, the start, the input.
@@ -60,7 +60,6 @@ pub fn work<H: Host, R: Read, W: Write, E: Write>(
     leaves: Leaves,
     streams: &mut Streams<LineReader<R>, OutputWriter<W>, E>,
 ) -> Run
-    requires { AllowsNamed (H.facts host.now).files (drop 1 (map (λ w. w.now) words.now)) }
     ensures few { result.code ≤ 4 }
     ensures mistaken { AreMistaken (fault_of command_line (map (λ w. w.now) words.now))
         → (result.code ≡ 2) ⊎ (result.code ≡ 4) }
@@ -77,9 +76,11 @@ pub fn work<H: Host, R: Read, W: Write, E: Write>(
           making = leaves.new;
           u = assumed_in leaves.image.supposed;
           v = assumed_in leaves.new.supposed;
+          before = acts_of leaves.files;
           image = result.image;
           new = result.new;
           memory = result.memory;
+          after = acts_of result.files;
         }) (fault_of command_line (map (λ w. w.now) words.now))
         (subcommand_of command_line (map (λ w. w.now) words.now)) (drop 1 (map (λ w. w.now) words.now))
         (R.remaining streams.old.reader.reader)
@@ -88,9 +89,6 @@ pub fn work<H: Host, R: Read, W: Write, E: Write>(
     ensures spared { AreReportsSpared (H.facts host.now)
         (subcommand_of command_line (map (λ w. w.now) words.now)) (drop 1 (map (λ w. w.now) words.now))
         (E.contents streams.old.errors) (E.contents streams.new.errors) }
-    // Only a run that moves files between an image and the host reads or makes other files.
-    ensures files { IsSome result.files ⊎ ((request : Asked)
-        × Asks (subcommand_of command_line (map (λ w. w.now) words.now)) request × MovesFiles request) }
 {
     let outcome = answer(host, alloc, words, missing, telling, leaves, streams);
     let flushed = streams.writer.flush();
@@ -178,7 +176,6 @@ fn answer<H: Host, R: Read, W: Write, E: Write>(
     leaves: Leaves,
     streams: &mut Streams<R, W, E>,
 ) -> Outcome
-    requires { AllowsNamed (H.facts host.now).files (drop 1 (map (λ w. w.now) words.now)) }
     ensures mistaken { AreMistaken (fault_of command_line (map (λ w. w.now) words.now))
         → (result.status ≡ BadArguments) ⊎ (result.status ≡ Fault) }
     ensures shown { AskToSee (fault_of command_line (map (λ w. w.now) words.now))
@@ -190,9 +187,11 @@ fn answer<H: Host, R: Read, W: Write, E: Write>(
       making = leaves.new;
       u = assumed_in leaves.image.supposed;
       v = assumed_in leaves.new.supposed;
+      before = acts_of leaves.files;
       image = result.image;
       new = result.new;
       memory = result.memory;
+      after = acts_of result.files;
     }) (fault_of command_line (map (λ w. w.now) words.now))
         (subcommand_of command_line (map (λ w. w.now) words.now)) (drop 1 (map (λ w. w.now) words.now))
         (R.remaining streams.old.reader) (R.remaining streams.new.reader)
@@ -200,8 +199,6 @@ fn answer<H: Host, R: Read, W: Write, E: Write>(
     ensures spared { AreReportsSpared (H.facts host.now)
         (subcommand_of command_line (map (λ w. w.now) words.now)) (drop 1 (map (λ w. w.now) words.now))
         (E.contents streams.old.errors) (E.contents streams.new.errors) }
-    ensures files { IsSome result.files ⊎ ((request : Asked)
-        × Asks (subcommand_of command_line (map (λ w. w.now) words.now)) request × MovesFiles request) }
 {
     match request(alloc, words) {
         Ok(asked) => start(host, alloc, &asked, missing, telling, leaves, streams),
@@ -223,22 +220,22 @@ fn start<H: Host, R: Read, W: Write, E: Write>(
     leaves: Leaves,
     streams: &mut Streams<R, W, E>,
 ) -> Outcome
-    requires range { InRange asked.now }
-    requires allowed { AllowsMoved (H.facts host.now).files asked.now }
+    requires { InRange asked.now }
     ensures serving { result.status ≢ BadArguments }
     ensures ran { IsHandled (H.facts host.now) (⟦<Run as Seen>⟧.views) missing.now (record {
       opening = leaves.image;
       making = leaves.new;
       u = assumed_in leaves.image.supposed;
       v = assumed_in leaves.new.supposed;
+      before = acts_of leaves.files;
       image = result.image;
       new = result.new;
       memory = result.memory;
+      after = acts_of result.files;
     }) asked.now (R.remaining streams.old.reader) (R.remaining streams.new.reader) (W.contents streams.old.writer)
         (W.contents streams.new.writer) result.status }
     ensures spared { (E.contents streams.new.errors ≡ E.contents streams.old.errors)
         ⊎ HoldsOfImages asked.now (SparesErrors (H.facts host.now)) }
-    ensures files { IsSome result.files ⊎ MovesFiles asked.now }
 {
     if let Some(led) = led_image(host, asked) {
         let Streams { writer, errors, .. } = streams;
@@ -266,20 +263,20 @@ fn perform<H: Host, R: Read, W: Write, E: Write>(
     leaves: Leaves,
     streams: &mut Streams<R, W, E>,
 ) -> Outcome
-    requires range { InRange asked.now }
-    requires allowed { AllowsMoved (H.facts host.now).files asked.now }
+    requires { InRange asked.now }
     ensures serving { result.status ≢ BadArguments }
     ensures ran { IsRequestRun (H.facts host.now) (⟦<Run as Seen>⟧.views) (record {
       opening = leaves.image;
       making = leaves.new;
       u = assumed_in leaves.image.supposed;
       v = assumed_in leaves.new.supposed;
+      before = acts_of leaves.files;
       image = result.image;
       new = result.new;
       memory = result.memory;
+      after = acts_of result.files;
     }) asked.now (R.remaining streams.old.reader) (R.remaining streams.new.reader) (W.contents streams.old.writer)
         (W.contents streams.new.writer) result.status }
-    ensures files { IsSome result.files ⊎ MovesFiles asked.now }
 {
     match *asked {
         Request::Fresh => Outcome::of_memory(serve_fresh(alloc, streams), leaves),
@@ -292,7 +289,7 @@ fn perform<H: Host, R: Read, W: Write, E: Write>(
         Request::Work(path, form, task) => {
             let image = NamedImage { path, form };
             let served = serve_image(host, alloc, &image, leaves.image, task, streams);
-            Outcome::of_image(served, leaves.new, Some(leaves.files))
+            Outcome::of_image(served, leaves.new, leaves.files)
         }
         Request::Convert(path, new, form) => {
             let conversion = Conversion::new(path, form, new, telling);
@@ -304,28 +301,52 @@ fn perform<H: Host, R: Read, W: Write, E: Write>(
         Request::Migrate(path, form) => {
             let Streams { writer, errors, .. } = streams;
             let migrated = migrate_image(host, alloc, path, form, leaves.image, writer, errors);
-            Outcome::of_image(migrated, leaves.new, Some(leaves.files))
+            Outcome::of_image(migrated, leaves.new, leaves.files)
         }
         Request::Import(path, form, ref task) => {
             let image = NamedImage { path, form };
             let Streams { writer, errors, .. } = streams;
-            let shelf = Shelf::of(host, leaves.files);
-            let imported = import_image(&shelf, alloc, &image, leaves.image, task, writer, errors);
-            Outcome::of_image(imported, leaves.new, None)
+            let mut shelf = Shelf::of(host, path, leaves.files);
+            let imported = import_image(
+                &mut shelf,
+                alloc,
+                &image,
+                leaves.image,
+                task,
+                writer,
+                errors,
+            );
+            Outcome::of_image(imported, leaves.new, shelf.into_permit())
         }
         Request::Export(path, form, ref task) => {
             let image = NamedImage { path, form };
             let Streams { writer, errors, .. } = streams;
-            let shelf = Shelf::of(host, leaves.files);
-            let exported = export_image(&shelf, alloc, &image, leaves.image, task, writer, errors);
-            Outcome::of_image(exported, leaves.new, None)
+            let mut shelf = Shelf::of(host, path, leaves.files);
+            let exported = export_image(
+                &mut shelf,
+                alloc,
+                &image,
+                leaves.image,
+                task,
+                writer,
+                errors,
+            );
+            Outcome::of_image(exported, leaves.new, shelf.into_permit())
         }
         Request::Salvage(path, form, ref task) => {
             let image = NamedImage { path, form };
             let Streams { writer, errors, .. } = streams;
-            let shelf = Shelf::of(host, leaves.files);
-            let saved = salvage_image(&shelf, alloc, &image, leaves.image, task, writer, errors);
-            Outcome::of_image(saved, leaves.new, None)
+            let mut shelf = Shelf::of(host, path, leaves.files);
+            let saved = salvage_image(
+                &mut shelf,
+                alloc,
+                &image,
+                leaves.image,
+                task,
+                writer,
+                errors,
+            );
+            Outcome::of_image(saved, leaves.new, shelf.into_permit())
         }
     }
 }

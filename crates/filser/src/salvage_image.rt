@@ -3,10 +3,9 @@ ghost use Rattle.std.specs.Prelude.{◌≡◌, ◌≢◌, codes, length};
 ghost use Rattle.blockdisk.specs.Common.{SameDisk};
 ghost use Rattle.imagefile.specs.Common.{assumed_in};
 ghost use Rattle.spec_image.specs.Common.{IsVolumeSize};
-ghost use Rattle.collection.specs.Common.{MayRescue};
 ghost use Rattle.salvage.specs.Common.{copy_findings};
 ghost use Rattle.filser.specs.Common.{IsCopySalvaged, IsLine, IsOnSalvaged, IsPartSalvaged, IsSalvagedFrom};
-ghost use Rattle.filser.specs.Common.{start_error};
+ghost use Rattle.filser.specs.Common.{acts_of, start_error};
 ghost use Rattle.filser.specs.declared.status.Status.TheVariants.{BadArguments};
 
 use crate::fault::report_fault;
@@ -50,7 +49,7 @@ fn start_error(error: SalvageError) -> VolumeError
 /// Writes what is whole of the files that directories name in a copy of a disk to files of the host, and says that the
 /// others weren't searched for.
 fn salvage_named<H: Host, W: Write, E: Write>(
-    shelf: &Shelf<'_, H>,
+    shelf: &mut Shelf<'_, H>,
     alloc: Global,
     copied: &mut Copied,
     task: &SalvageTask<'_>,
@@ -59,9 +58,9 @@ fn salvage_named<H: Host, W: Write, E: Write>(
 ) -> Status
     requires size { IsVolumeSize (length copied.old.disk.blocks) }
     requires findings { copied.old.findings.items ≡ copy_findings copied.old.faults }
-    requires allowed { MayRescue (H.facts shelf.now.host.now).files task.now.export }
     ensures serving { result ≢ BadArguments }
-    ensures ran { IsPartSalvaged (H.facts shelf.now.host.now).files task.now (W.contents writer.old)
+    ensures ran { IsPartSalvaged (acts_of shelf.old.permit) (acts_of shelf.new.permit)
+        task.now (W.contents writer.old)
         (W.contents writer.new) copied.old.disk copied.new.disk copied.old.faults result }
 {
     match survey_disk(alloc, &mut copied.disk, Search::Named) {
@@ -79,7 +78,7 @@ fn salvage_named<H: Host, W: Write, E: Write>(
 
 /// Goes on after memory ran out: without a search for files that no directory names, if there was one.
 fn salvage_part<H: Host, W: Write, E: Write>(
-    shelf: &Shelf<'_, H>,
+    shelf: &mut Shelf<'_, H>,
     alloc: Global,
     copied: &mut Copied,
     task: &SalvageTask<'_>,
@@ -88,9 +87,9 @@ fn salvage_part<H: Host, W: Write, E: Write>(
 ) -> Status
     requires size { IsVolumeSize (length copied.old.disk.blocks) }
     requires findings { copied.old.findings.items ≡ copy_findings copied.old.faults }
-    requires allowed { MayRescue (H.facts shelf.now.host.now).files task.now.export }
     ensures serving { result ≢ BadArguments }
-    ensures ran { IsCopySalvaged (H.facts shelf.now.host.now).files task.now (W.contents writer.old)
+    ensures ran { IsCopySalvaged (acts_of shelf.old.permit) (acts_of shelf.new.permit)
+        task.now (W.contents writer.old)
         (W.contents writer.new) copied.old.disk copied.new.disk copied.old.faults result }
 {
     match task.search {
@@ -102,7 +101,7 @@ fn salvage_part<H: Host, W: Write, E: Write>(
 /// Writes what is whole in a copy of a disk to files of the host, and reports why the run ended. If memory runs out in
 /// the search for files that no directory names, the others are saved.
 fn salvage_copy<H: Host, W: Write, E: Write>(
-    shelf: &Shelf<'_, H>,
+    shelf: &mut Shelf<'_, H>,
     alloc: Global,
     copied: &mut Copied,
     task: &SalvageTask<'_>,
@@ -111,9 +110,9 @@ fn salvage_copy<H: Host, W: Write, E: Write>(
 ) -> Status
     requires size { IsVolumeSize (length copied.old.disk.blocks) }
     requires findings { copied.old.findings.items ≡ copy_findings copied.old.faults }
-    requires allowed { MayRescue (H.facts shelf.now.host.now).files task.now.export }
     ensures serving { result ≢ BadArguments }
-    ensures ran { IsCopySalvaged (H.facts shelf.now.host.now).files task.now (W.contents writer.old)
+    ensures ran { IsCopySalvaged (acts_of shelf.old.permit) (acts_of shelf.new.permit)
+        task.now (W.contents writer.old)
         (W.contents writer.new) copied.old.disk copied.new.disk copied.old.faults result }
 {
     match survey_disk(alloc, &mut copied.disk, task.search) {
@@ -130,7 +129,7 @@ fn salvage_copy<H: Host, W: Write, E: Write>(
 
 /// Writes what is whole on a disk, which `tail` bytes follow, to files of the host.
 fn salvage_from<H: Host, D: Disk, W: Write, E: Write>(
-    shelf: &Shelf<'_, H>,
+    shelf: &mut Shelf<'_, H>,
     alloc: Global,
     disk: &mut D,
     tail: u32,
@@ -138,9 +137,9 @@ fn salvage_from<H: Host, D: Disk, W: Write, E: Write>(
     writer: &mut W,
     errors: &mut E,
 ) -> Status
-    requires { MayRescue (H.facts shelf.now.host.now).files task.now.export }
     ensures serving { result ≢ BadArguments }
-    ensures ran { IsSalvagedFrom (H.facts shelf.now.host.now).files task.now tail
+    ensures ran { IsSalvagedFrom (acts_of shelf.old.permit) (acts_of shelf.new.permit)
+        task.now tail
         (W.contents writer.old) (W.contents writer.new) (D.state disk.old) (D.state disk.new) result }
     ensures same { SameDisk (D.state disk.old) (D.state disk.new) }
 {
@@ -153,7 +152,7 @@ fn salvage_from<H: Host, D: Disk, W: Write, E: Write>(
 /// Writes what is whole on an image to files of the host, if these don't exist, and prints a line for each and for each
 /// fault. The image may be cut in the middle of a block. As for a task, nothing is assumed of the host.
 pub(crate) fn salvage_image<H: Host, W: Write, E: Write>(
-    shelf: &Shelf<'_, H>,
+    shelf: &mut Shelf<'_, H>,
     alloc: Global,
     image: &NamedImage<'_>,
     leave: OpeningLeave,
@@ -161,10 +160,10 @@ pub(crate) fn salvage_image<H: Host, W: Write, E: Write>(
     writer: &mut W,
     errors: &mut E,
 ) -> (Status, ImageDisks)
-    requires { MayRescue (H.facts shelf.now.host.now).files task.now.export }
     ensures serving { result.0 ≢ BadArguments }
-    ensures ran { IsOnSalvaged (H.facts shelf.now.host.now) (⟦<Run as Seen>⟧.views) image.now.path.now
-        image.now.form task.now (assumed_in leave.supposed) (W.contents writer.old) (W.contents writer.new)
+    ensures ran { IsOnSalvaged (H.facts shelf.old.host.now) (⟦<Run as Seen>⟧.views) image.now.path.now
+        image.now.form task.now (assumed_in leave.supposed) (acts_of shelf.old.permit) (acts_of shelf.new.permit)
+        (W.contents writer.old) (W.contents writer.new)
         result.1 result.0 }
 {
     let (path, form) = (image.path, image.form);

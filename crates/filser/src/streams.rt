@@ -6,7 +6,7 @@ ghost use Rattle.filser.specs.declared.fault.HostFault.{HostFault as Faults};
 
 use crate::{FileId, Host, HostFault};
 use std::fs::File;
-use std::io;
+use std::io::{self, ErrorKind};
 use std::os::fd::{AsRawFd, RawFd};
 use std::rt::Files;
 
@@ -22,6 +22,9 @@ const ERRORS: RawFd = 2;
 /// What is opened in the place of a standard stream: it exists on every host, and nothing can be read from it as a file
 /// or written to it.
 const HOLDER: &str = "/";
+
+/// What is opened instead if the user may not read that.
+const OTHER_HOLDER: &str = "/dev/null";
 
 /// What a run reads from and prints to.
 #[derive(Drop)]
@@ -52,9 +55,9 @@ impl MissingStreams {
     /// The system's, if no file can be opened.
     pub fn hold<F: Files<File = File>>(files: &F) -> io::Result<Self> {
         Ok(MissingStreams {
-            first: File::open(files, HOLDER)?,
-            second: File::open(files, HOLDER)?,
-            third: File::open(files, HOLDER)?,
+            first: open_holder(files)?,
+            second: open_holder(files)?,
+            third: open_holder(files)?,
         })
     }
 
@@ -72,6 +75,21 @@ impl MissingStreams {
         self.first.as_raw_fd() == number
             || self.second.as_raw_fd() == number
             || self.third.as_raw_fd() == number
+    }
+}
+
+/// Opens what takes the place of a stream.
+///
+/// # Errors
+///
+/// The system's.
+fn open_holder<F: Files<File = File>>(files: &F) -> io::Result<File> {
+    match File::open(files, HOLDER) {
+        Err(error) if error.kind() == ErrorKind::PermissionDenied => File::open(
+            files,
+            OTHER_HOLDER,
+        ),
+        opened => opened,
     }
 }
 

@@ -3,6 +3,7 @@ use Rattle.commands.specs.Common.{AreAsked, machine_of}
 use Rattle.commands.proofs.ErrandLaws.{none_there, not_asked}
 use Rattle.collection.specs.Common.{AreOwnersDone}
 use Rattle.collection.proofs.Acts.{exports_go, monitors_stand}
+use Rattle.collection.proofs.EachLaws.{beside}
 use Rattle.collection.proofs.MovedParts.{refused_as}
 use Rattle.collection.proofs.exports.export_files.Goals as goal
 
@@ -16,9 +17,11 @@ returns-in-Some-clause-done g c = record {
 
 pub returns-in-Some-clause-goes : goal.returns-in-Some-clause-goes
 returns-in-Some-clause-goes g c = exports_go (λ m. machine_of (g.D.Disk.state m.disk) m.map m.failed m.jobs)
-    (monitors_stand g.D.Disk.state) (g.H.HostFiles.files c.args.host.now) c.args.task.now
-    (g.W.Write.contents c.args.writer.now) (g.W.Write.contents c.export_owners.new.writer) c.args.monitor.now
-    c.export_owners.new.monitor c.export_owners.result (returns-in-Some-clause-done g c)
+    (monitors_stand g.D.Disk.state) c.args.task.now
+    (g.W.Write.contents c.args.writer.now) (g.W.Write.contents c.export_owners.new.writer)
+    (beside (g.H.HostFiles.acts c.args.host.now) c.args.monitor.now)
+    (beside (g.H.HostFiles.acts c.export_owners.new.host) c.export_owners.new.monitor) c.export_owners.result
+    (returns-in-Some-clause-done g c)
 
 pub returns-in-Ok-clause-done : goal.returns-in-Ok-clause-done
 returns-in-Ok-clause-done g c = record {
@@ -26,18 +29,21 @@ returns-in-Ok-clause-done g c = record {
   asked = subst (λ o. AreAsked (machine_of (g.D.Disk.state c.args.monitor.now.disk) c.args.monitor.now.map
       c.args.monitor.now.failed c.args.monitor.now.jobs) o (Ok c.in-Ok.owners.items))
       (sym (none_there c.args.task.now.owner c.in_default.not-Some)) c.in-Ok.ensures.value;
-  done = subst (λ ns. AreOwnersDone (g.H.HostFiles.files c.args.host.now)
-      (λ m. machine_of (g.D.Disk.state m.disk) m.map m.failed m.jobs) c.args.task.now ns
-      (g.W.Write.contents c.args.writer.now) (g.W.Write.contents c.export_owners-in-Ok.new.writer) c.args.monitor.now
-      c.export_owners-in-Ok.new.monitor c.export_owners-in-Ok.result) c.deref.ensures.value
+  done = subst (λ ns. AreOwnersDone (λ m. machine_of (g.D.Disk.state m.disk) m.map m.failed m.jobs) c.args.task.now ns
+      (g.W.Write.contents c.args.writer.now) (g.W.Write.contents c.export_owners-in-Ok.new.writer)
+      (beside (g.H.HostFiles.acts c.args.host.now) c.args.monitor.now)
+      (beside (g.H.HostFiles.acts c.export_owners-in-Ok.new.host) c.export_owners-in-Ok.new.monitor)
+      c.export_owners-in-Ok.result) c.deref.ensures.value
       c.export_owners-in-Ok.ensures;
 }
 
 pub returns-in-Ok-clause-goes : goal.returns-in-Ok-clause-goes
 returns-in-Ok-clause-goes g c = exports_go (λ m. machine_of (g.D.Disk.state m.disk) m.map m.failed m.jobs)
-    (monitors_stand g.D.Disk.state) (g.H.HostFiles.files c.args.host.now) c.args.task.now
-    (g.W.Write.contents c.args.writer.now) (g.W.Write.contents c.export_owners-in-Ok.new.writer) c.args.monitor.now
-    c.export_owners-in-Ok.new.monitor c.export_owners-in-Ok.result (returns-in-Ok-clause-done g c)
+    (monitors_stand g.D.Disk.state) c.args.task.now
+    (g.W.Write.contents c.args.writer.now) (g.W.Write.contents c.export_owners-in-Ok.new.writer)
+    (beside (g.H.HostFiles.acts c.args.host.now) c.args.monitor.now)
+    (beside (g.H.HostFiles.acts c.export_owners-in-Ok.new.host) c.export_owners-in-Ok.new.monitor)
+    c.export_owners-in-Ok.result (returns-in-Ok-clause-done g c)
 
 pub returns-in-Err-clause-done : goal.returns-in-Err-clause-done
 returns-in-Err-clause-done g c = record {
@@ -47,7 +53,7 @@ returns-in-Err-clause-done g c = record {
       (sym (none_there c.args.task.now.owner c.in_default.not-Some))
       (not_asked c.in-Err.reply c.args.monitor.now.failed c.in-Err.ensures.only c.in-Err.ensures.failed.0);
   done = (
-    refl {a = c.args.monitor.now},
+    refl {a = beside (g.H.HostFiles.acts c.args.host.now) c.args.monitor.now},
     refused_as _ _ _ _ _ _ _ _ _ refl c.refusal-text.ensures
         c.is_broken-broke.ensures c.turn_down.ensures,
   );
@@ -55,6 +61,7 @@ returns-in-Err-clause-done g c = record {
 
 pub returns-in-Err-clause-goes : goal.returns-in-Err-clause-goes
 returns-in-Err-clause-goes g c = exports_go (λ m. machine_of (g.D.Disk.state m.disk) m.map m.failed m.jobs)
-    (monitors_stand g.D.Disk.state) (g.H.HostFiles.files c.args.host.now) c.args.task.now
-    (g.W.Write.contents c.args.writer.now) (g.W.Write.contents c.turn_down.new.writer) c.args.monitor.now
-    c.args.monitor.now c.turn_down.result (returns-in-Err-clause-done g c)
+    (monitors_stand g.D.Disk.state) c.args.task.now
+    (g.W.Write.contents c.args.writer.now) (g.W.Write.contents c.turn_down.new.writer)
+    (beside (g.H.HostFiles.acts c.args.host.now) c.args.monitor.now)
+    (beside (g.H.HostFiles.acts c.args.host.now) c.args.monitor.now) c.turn_down.result (returns-in-Err-clause-done g c)

@@ -1,5 +1,6 @@
-use Rattle.std.proofs.Common.{◌≡◌, IfSome, inl, inr, refl, sym, subst}
+use Rattle.std.proofs.Common.{◌≡◌, IfSome, inl, inr, sym, subst}
 use Rattle.collection.specs.Common.{IsNameFor}
+use Rattle.collection.proofs.MovedParts.{unread_at}
 use Rattle.collection.proofs.imports.import_one.Goals as goal
 
 pub returns-in-Ok-read : goal.returns-in-Ok-read
@@ -29,8 +30,7 @@ returns g c =
       c.in-Some.named.name,
       named.1,
       inr (
-        c.in-Err.error,
-        rw (sym c.most_read.ensures) c.in-Err.ensures,
-        (refl {a = c.args.monitor.now}, c.turn_down-in-Err.ensures),
+        unread_at _ _ _ _ _ _ c.most_read.ensures c.in-Err.ensures,
+        c.turn_down-in-Err.ensures,
       ),
     )

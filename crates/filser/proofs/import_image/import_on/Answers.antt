@@ -38,10 +38,13 @@ returns-in-Ok-clause-ran g c =
 pub returns-in-Err-clause-ran : goal.returns-in-Err-clause-ran
 returns-in-Err-clause-ran g c =
     let p = c.in-Err.ensures in
-    inr (record {
-      error = c.in-Err.error;
-      refused = refused_by _ _ c.in-Err.error p.same_refused p.named p.failed p.served_refused p.refused p.kept
-          p.crash_refused;
-      said = c.say.ensures.said;
-      unread = refl;
-    })
+    inr (
+      refl,
+      record {
+        error = c.in-Err.error;
+        refused = refused_by _ _ c.in-Err.error p.same_refused p.named p.failed p.served_refused p.refused p.kept
+            p.crash_refused;
+        said = c.say.ensures.said;
+        unread = refl;
+      },
+    )

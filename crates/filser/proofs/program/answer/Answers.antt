@@ -3,7 +3,6 @@ use Rattle.clap.specs.Words.{fault_of, subcommand_of}
 use Rattle.arguments.specs.CommandLine.{command_line}
 use Rattle.filser.proofs.ExitCodes.{bad_error, prints_only}
 use Rattle.filser.proofs.LedImages.{free_spared}
-use Rattle.filser.proofs.NamedFiles.{allows_moved}
 use Rattle.filser.proofs.NamedStreams.{spares_named}
 use Rattle.filser.proofs.Unasked.{ends_asked, ends_mistaken, ends_shown}
 use Rattle.filser.proofs.program.answer.Goals as goal
@@ -26,10 +25,6 @@ returns-in-Err-clause-asked g c = rw c.without_disks.ensures
     (subcommand_of command_line (map (λ w. w.now) c.args.words.now)) c.in-Err.error c.refuse-status.result
     c.refuse-status.ensures.ends c.in-Err.ensures.usage (λ wrong bad. (c.in-Err.ensures.bad wrong bad).2))
 
-pub start-requires-clause-allowed : goal.start-requires-clause-allowed
-start-requires-clause-allowed g c = allows_moved _ (map (λ w. w.now) c.args.words.now) _ c.in-Ok.asked refl
-    c.in-Ok.ensures.asked c.requires
-
 pub returns-in-Ok-clause-ran : goal.returns-in-Ok-clause-ran
 returns-in-Ok-clause-ran g c = record { is = inl (c.in-Ok.asked, c.in-Ok.ensures.asked, c.start.ensures.ran) }
 
@@ -38,7 +33,7 @@ returns-in-Err-clause-ran g c = rw c.without_disks.ensures (record {
   is = inr (
     c.in-Err.error,
     refl,
-    record { image = refl; new = refl; memory = refl },
+    record { image = refl; new = refl; memory = refl; files = refl },
     c.refuse-status.ensures.ends,
     prints_only (fault_of command_line (map (λ w. w.now) c.args.words.now))
         (subcommand_of command_line (map (λ w. w.now) c.args.words.now)) c.in-Err.error _ _ c.in-Err.ensures.usage

@@ -1,18 +1,17 @@
-use Rattle.std.proofs.Common.{refl, subst}
-use Rattle.filser.specs.Common.{AllowsMoved}
+use Rattle.std.proofs.Common.{refl}
 use Rattle.filser.proofs.program.perform.Goals as goal
 
 pub returns-in-Fresh-clause-ran : goal.returns-in-Fresh-clause-ran
-returns-in-Fresh-clause-ran g c = rw (c.in-Fresh.is, c.of_memory.ensures) (c.serve_fresh.ensures.ran, refl, refl)
+returns-in-Fresh-clause-ran g c = rw (c.in-Fresh.is, c.of_memory.ensures) (c.serve_fresh.ensures.ran, refl, refl, refl)
 
 pub returns-in-Init-clause-ran : goal.returns-in-Init-clause-ran
 returns-in-Init-clause-ran g c =
     rw (c.in-Init.is, c.of_new.ensures)
-    (refl, rw c.new-volume.ensures at c.init_image-made.ensures.ran, refl, refl)
+    (refl, rw c.new-volume.ensures at c.init_image-made.ensures.ran, refl, refl, refl)
 
 pub returns-in-Work-clause-ran : goal.returns-in-Work-clause-ran
 returns-in-Work-clause-ran g c =
-    rw (c.in-Work.is, c.of_image.ensures) (c.serve_image-served.ensures.ran, refl, refl)
+    rw (c.in-Work.is, c.of_image.ensures) (c.serve_image-served.ensures.ran, refl, refl, refl)
 
 pub returns-in-Convert-clause-ran : goal.returns-in-Convert-clause-ran
 returns-in-Convert-clause-ran g c =
@@ -22,35 +21,34 @@ returns-in-Convert-clause-ran g c =
       refl,
       rw c.new-conversion.ensures at c.convert_image-converted.ensures.looked,
       rw c.new-conversion.ensures at c.convert_image-converted.ensures.bits,
+      refl,
     )
 
 pub returns-in-Migrate-clause-ran : goal.returns-in-Migrate-clause-ran
 returns-in-Migrate-clause-ran g c =
-    rw (c.in-Migrate.is, c.of_image-in-Migrate.ensures) (refl, c.migrate_image-migrated.ensures.ran, refl, refl)
-
-pub import_image-imported-requires : goal.import_image-imported-requires
-import_image-imported-requires g c = rw c.of-shelf.ensures (subst (AllowsMoved (g.H.Host.facts c.args.host.now).files)
-    c.in-Import.is c.requires.allowed)
+    rw (c.in-Migrate.is, c.of_image-in-Migrate.ensures) (refl, c.migrate_image-migrated.ensures.ran, refl, refl, refl)
 
 pub returns-in-Import-clause-ran : goal.returns-in-Import-clause-ran
 returns-in-Import-clause-ran g c =
-    rw (c.in-Import.is, c.of_image-in-Import.ensures)
-    (refl, rw c.of-shelf.ensures at c.import_image-imported.ensures.ran, refl, refl)
-
-pub export_image-exported-requires : goal.export_image-exported-requires
-export_image-exported-requires g c = rw c.of-shelf-in-Export.ensures (subst
-    (AllowsMoved (g.H.Host.facts c.args.host.now).files) c.in-Export.is c.requires.allowed)
+    rw (c.in-Import.is, c.of_image-in-Import.ensures, c.into_permit.ensures)
+    (refl, rw (c.of-shelf.ensures.host, c.of-shelf.ensures.permit) at c.import_image-imported.ensures.ran, refl, refl)
 
 pub returns-in-Export-clause-ran : goal.returns-in-Export-clause-ran
 returns-in-Export-clause-ran g c =
-    rw (c.in-Export.is, c.of_image-in-Export.ensures)
-    (refl, rw c.of-shelf-in-Export.ensures at c.export_image-exported.ensures.ran, refl, refl)
-
-pub salvage_image-saved-requires : goal.salvage_image-saved-requires
-salvage_image-saved-requires g c = rw c.of-shelf-in-Salvage.ensures (subst
-    (AllowsMoved (g.H.Host.facts c.args.host.now).files) c.in-Salvage.is c.requires.allowed)
+    rw (c.in-Export.is, c.of_image-in-Export.ensures, c.into_permit-in-Export.ensures) (
+      refl,
+      rw (c.of-shelf-in-Export.ensures.host, c.of-shelf-in-Export.ensures.permit)
+          at c.export_image-exported.ensures.ran,
+      refl,
+      refl,
+    )
 
 pub returns-in-Salvage-clause-ran : goal.returns-in-Salvage-clause-ran
 returns-in-Salvage-clause-ran g c =
-    rw (c.in-Salvage.is, c.of_image-in-Salvage.ensures)
-    (refl, rw c.of-shelf-in-Salvage.ensures at c.salvage_image-saved.ensures.ran, refl, refl)
+    rw (c.in-Salvage.is, c.of_image-in-Salvage.ensures, c.into_permit-in-Salvage.ensures) (
+      refl,
+      rw (c.of-shelf-in-Salvage.ensures.host, c.of-shelf-in-Salvage.ensures.permit)
+          at c.salvage_image-saved.ensures.ran,
+      refl,
+      refl,
+    )

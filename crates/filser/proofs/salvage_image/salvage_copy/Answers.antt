@@ -27,7 +27,7 @@ returns-in-Ok-clause-ran g c =
         read = p.reads tt;
         saved = saved;
         ends = c.ending-status.ensures.ends;
-        accepted = accepted_on (g.H.Host.facts c.args.shelf.now.host.now).files memory_state c.args.task.now.export
+        accepted = accepted_on memory_state c.args.task.now.export
             (copy_findings c.args.copied.now.faults) found.files.items found.doubtful.items found.unnamed.items
             found.findings.items _ _ _ _ c.save_survey-saved.result c.ending-status.result
             ((stored : Files File) × SettledStands (memory_state copy).size (held copy.blocks) stored)
@@ -41,6 +41,6 @@ returns-in-Ok-clause-ran g c =
 pub returns-in-Err-NoMemory-clause-ran : goal.returns-in-Err-NoMemory-clause-ran
 returns-in-Err-NoMemory-clause-ran g c =
     let p = c.in-Err-NoMemory.ensures in
-    copy_salvaged_since (g.H.Host.facts c.args.shelf.now.host.now).files c.args.task.now _ _ c.args.copied.now.disk
+    copy_salvaged_since _ _ c.args.task.now _ _ c.args.copied.now.disk
     c.survey_disk.new.disk c.salvage_part.new.copied.disk c.args.copied.now.faults p.same (p.reads tt)
     c.salvage_part.result (p.served (λ is. cc)) c.salvage_part.ensures.ran

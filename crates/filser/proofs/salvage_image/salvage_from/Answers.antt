@@ -1,4 +1,4 @@
-use Rattle.std.proofs.Common.{Err, inl, inr, subst, sym, ap, ◌∙◌, ◌+◌, ◌*◌, ◌≤◌, ⊎_elim}
+use Rattle.std.proofs.Common.{Err, inl, inr, refl, subst, sym, ap, ◌∙◌, ◌+◌, ◌*◌, ◌≤◌, ⊎_elim}
 use Rattle.blockdisk.specs.Common.{held}
 use Rattle.spec_image.specs.Common.{SettledStands}
 use Rattle.salvage.specs.Common.{failed_by}
@@ -42,14 +42,17 @@ returns-in-Err-clause-ran g c =
     let begun = g.D.Disk.state c.args.disk.now in
     record {
       still = λ h. (p.reads h).still;
-      done = inr (record {
-        error = c.in-Err.error;
-        unread = f.0;
-        cause = uncopied_cause c.in-Err.error begun (g.D.Disk.state c.of.new.disk) f.0
-            (λ is. let range = p.range (ap Err is) in (range.0, range.1, λ h. p.unsaid h (ap Err is)))
-            (λ is. f.4 (ap Err is));
-        few = f.1;
-        failures = f.2;
-        said = rw c.start_error.ensures at c.say.ensures.said;
-      });
+      done = inr (
+        refl,
+        record {
+          error = c.in-Err.error;
+          unread = f.0;
+          cause = uncopied_cause c.in-Err.error begun (g.D.Disk.state c.of.new.disk) f.0
+              (λ is. let range = p.range (ap Err is) in (range.0, range.1, λ h. p.unsaid h (ap Err is)))
+              (λ is. f.4 (ap Err is));
+          few = f.1;
+          failures = f.2;
+          said = rw c.start_error.ensures at c.say.ensures.said;
+        },
+      );
     }

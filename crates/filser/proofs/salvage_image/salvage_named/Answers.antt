@@ -30,7 +30,7 @@ returns-in-Ok-saved-clause-ran g c =
           read = p.reads tt;
           saved = saved;
           ends = c.ending.ensures.ends;
-          accepted = accepted_on (g.H.Host.facts c.args.shelf.now.host.now).files memory_state c.args.task.now.export
+          accepted = accepted_on memory_state c.args.task.now.export
               (copy_findings c.args.copied.now.faults) found.files.items found.doubtful.items found.unnamed.items
               found.findings.items _ _ _ _ c.save_survey-saved.result c.ending.result
               ((stored : Files File) × SettledStands (memory_state copy).size (held copy.blocks) stored)
@@ -69,7 +69,7 @@ returns-in-Ok-clause-ran g c =
           read = p.reads tt;
           saved = saved;
           ends = c.ending.ensures.ends;
-          accepted = accepted_on (g.H.Host.facts c.args.shelf.now.host.now).files memory_state c.args.task.now.export
+          accepted = accepted_on memory_state c.args.task.now.export
               (copy_findings c.args.copied.now.faults) found.files.items found.doubtful.items found.unnamed.items
               found.findings.items _ _ _ _ c.save_survey-saved.result c.ending.result
               ((stored : Files File) × SettledStands (memory_state copy).size (held copy.blocks) stored)
