@@ -17,6 +17,7 @@ cd "$(dirname "$0")"
 ./streams_and_locks.sh "$program"
 ./put_get_list_convert.py "$program"
 ./collections.py "$program"
+./exported_files.py "$program"
 ./salvage.py "$program"
 ./clients.py "$program"
 ./hostile_inputs.py "$program" 2000
