@@ -63,7 +63,7 @@ class Tries:
         self.count = self.failed = self.lines = 0
         self.players = {"python": [sys.executable, os.path.join(HERE, "clients_player.py")]}
 
-    def compile(self):
+    def compile(self, flags=()):
         """Compiles the player in C, and the use that the head comment of filser.h shows."""
         if not shutil.which("cc"):
             print("clients: there is no C compiler, so the client in C isn't tested")
@@ -75,8 +75,9 @@ class Tries:
         with open(use, "w", encoding="ascii") as file:
             file.write("\n".join(line[6:] for line in shown if line.startswith("      ")) + "\n")
         sources = [os.path.join(client, "filser.c"), "-I", client]
-        subprocess.run(["cc", *FLAGS, "-o", player, os.path.join(HERE, "clients_player.c"), *sources], check=True)
-        subprocess.run(["cc", *FLAGS, "-o", os.path.join(self.folder, "use"), use, *sources], check=True)
+        compiler = ["cc", *FLAGS, *flags, "-o"]
+        subprocess.run([*compiler, player, os.path.join(HERE, "clients_player.c"), *sources], check=True)
+        subprocess.run([*compiler, os.path.join(self.folder, "use"), use, *sources], check=True)
         self.players["c"] = [player]
 
     def same(self, what, found, wanted):
@@ -101,9 +102,9 @@ class Tries:
                               timeout=LIMIT, **how)
         return done.stdout, done.returncode
 
-    def play(self, client, image, lines, form=1, program=None):
+    def play(self, client, image, lines, form=1, program=None, timeout=0):
         """Returns what the player of a client answers to lines."""
-        words = [*self.players[client], program or self.program, image, str(form)]
+        words = [*self.players[client], program or self.program, image, str(form), str(timeout)]
         done = subprocess.run(words, input="\n".join([*lines, ""]), capture_output=True, text=True, check=False,
                               timeout=LIMIT)
         return done.stdout.split("\n")[:-1]
@@ -276,7 +277,7 @@ IMPOSTORS = [
     ("order; answer; order; kill -9 $$", ["ERROR ENDED", "ERROR ENDED", "STATUS -9"]),
     ("order; answer; order; printf '\\014'; exit 0", ["ERROR ENDED", "ERROR ENDED", "STATUS 0"]),
     ("order; exec <&-; answer; sleep 1; exit 6", ["ERROR ENDED", "ERROR ENDED", "STATUS 6"]),
-    ("order; answer; order; echo '?This is no answer'", ["ERROR NOT_AN_ANSWER", "ERROR ENDED", "STATUS 0"]),
+    ("order; answer; order; echo '?This is no answer'", ["ERROR PROTOCOL", "ERROR ENDED", "STATUS 0"]),
     ("echo '?No answer'; exit 3", ["ERROR NOT_STARTED 3 ?No answer"]),
 ]
 IMPOSTOR = """#!/bin/sh
@@ -395,9 +396,9 @@ def rows(tries):
 class Recorder(Service):
     """A service that records its orders as lines of a call script, each with its answer."""
 
-    def send(self):
-        orders, self.kept = self._bytes, getattr(self, "kept", [])
-        answers = super().send()
+    def _send_orders(self):
+        orders, self.kept = [data for data, _ in self._orders], getattr(self, "kept", [])
+        sent, answers = super()._send_orders()
         for data, reply in zip(orders, answers):
             kind, code, job, channel, number, detail, count = struct.unpack_from(">BBBBIII", data)
             words = struct.unpack_from(f">{count}Q", data, 16)
@@ -409,7 +410,7 @@ class Recorder(Service):
                 numbers = {"RESET": "", "GETSTS": f"{channel:o}", "RELEAS": f"{channel:o}", "MAKDIR": f"{number:o}"}
                 name = Code(code).name
                 self.kept.append((f"{job:o} {name} {numbers.get(name, f'{channel:o} {number:o}')}".rstrip(), reply))
-        return answers
+        return sent, answers
 
 
 def uuos_by_calls(tries):

@@ -1,7 +1,7 @@
 /* Plays lines by the client in C, as clients_player.py does by the client in Python; the head of that file describes
    the lines.
 
-   usage: clients_player PROGRAM IMAGE FORM */
+   usage: clients_player PROGRAM IMAGE FORM [TIMEOUT] */
 #include "filser.h"
 
 #include <inttypes.h>
@@ -40,7 +40,7 @@ static const struct { const char *name; enum filser_code code; int parts; } CALL
 };
 
 static const char *const ERRORS[] = {"OK", "BAD_ARGUMENT", "BAD_WORD", "NOT_LOGGED_IN", "NOT_SENT", "SHORT_MEMORY",
-                                     "OUT_OF_MEMORY", "NOT_STARTED", "ENDED", "NOT_AN_ANSWER"};
+                                     "OUT_OF_MEMORY", "NOT_STARTED", "ENDED", "PROTOCOL", "TIMED_OUT"};
 
 static void print_answer(enum filser_kind kind, uint64_t value) {
     static const char *const texts[] = {"WRONG", "DONE", "", "", "", "NOCHANNEL", "ADDRESS", "NOJOB", "NOMEMORY",
@@ -241,8 +241,14 @@ static void play(struct line *line) {
 
 int main(int count, char **words) {
     static struct line line;
-    if (count != 4) return 2;
-    enum filser_error error = filser_start(words[1], words[2], atoi(words[3]), &service);
+    struct filser_options options = {.size = sizeof options};
+    if (count != 4 && count != 5) return 2;
+    options.program = words[1];
+    options.image = words[2];
+    options.form = atoi(words[3]);
+    options.timeout = count == 5 ? atoi(words[4]) : 0;
+    setvbuf(stdout, NULL, _IOLBF, BUFSIZ);
+    enum filser_error error = filser_start(&options, &service);
     if (error) {
         char printed[256];
         snprintf(printed, sizeof printed, "%s", filser_printed(service));

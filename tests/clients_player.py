@@ -1,7 +1,7 @@
 #!/usr/bin/env python3
 """Plays lines by the client in Python; clients_player.c plays the same lines by the client in C.
 
-usage: clients_player.py PROGRAM IMAGE FORM
+usage: clients_player.py PROGRAM IMAGE FORM [TIMEOUT]
 
 A line of a call script is answered as `filser calls` answers it. After a call the whole core of the job is examined:
 its words that have changed follow, each as ADDRESS=WORD, and UNTOLD or MISTOLD with an address if the answer to the
@@ -139,7 +139,7 @@ class Player:
 
 def main():
     try:
-        player = Player(Service(sys.argv[1], sys.argv[2], int(sys.argv[3])))
+        player = Player(Service(*sys.argv[1:3], int(sys.argv[3]), timeout=int((sys.argv + ["0"])[4])))
     except ServiceError as error:
         print(f"ERROR {error.error.name} {error.status} {error.text}")
         return

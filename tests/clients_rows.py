@@ -140,6 +140,16 @@ UUO_ROWS = """
     GETSTS 3,1500 | ERROR BAD_WORD
     POKE 1700 0 |
 
+    # What an earlier call named, and wasn't sent, is compared whatever the hint.
+    POKE 1700 6 |
+    HINT 1600 1677 |
+    USETI 3,1 | 1 DONE
+    POKE 1700 0 |
+    HINT 1700 1700 |
+    CALLI 0,1 | 0 WRONG BEHIND 1700
+    HINT 1701 1700 |
+    USETI 3,1 | 1 DONE
+
     # With a hint only what lies there is compared, and what a UUO itself has left.
     POKE 1700 7 |
     HINT 1600 1677 |

@@ -20,6 +20,7 @@ cd "$(dirname "$0")"
 ./exported_files.py "$program"
 ./salvage.py "$program"
 ./clients.py "$program"
+./clients_faults.py "$program"
 ./hostile_inputs.py "$program" 2000
 ./hostile_starts.py "$program"
 ./model_rows.py

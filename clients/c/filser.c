@@ -1,6 +1,6 @@
 /* The client for `filser wire`: see filser.h. The parts of this file are bytes, orders, the exchange, the process, and
    UUOs. */
-#define _POSIX_C_SOURCE 200809L
+#define _GNU_SOURCE /* for pipe2 */
 
 #include "filser.h"
 
@@ -14,6 +14,7 @@
 #include <string.h>
 #include <sys/types.h>
 #include <sys/wait.h>
+#include <time.h>
 #include <unistd.h>
 
 #define RECORD_BYTES 16
@@ -23,6 +24,9 @@
 #define PIECE_BYTES 65536
 #define ACCUMULATORS 16
 #define PAGE_WORDS 512
+#define TOUCH_WORDS 64
+#define LEAST_CORE 01000
+#define MOST_CORE 0400000
 #define START_ADDRESS 0120 /* .JBSA */
 #define FIRST_FREE 0121    /* .JBFF */
 #define CHANNELS 16
@@ -35,31 +39,31 @@ struct bytes {
     size_t length, room;
 };
 
-/* What is left of an order after it is written: what its answer changes in the copy of a core. */
-struct order {
-    unsigned kind, job;
-    uint32_t number;
-    size_t place, count; /* of its words in the bytes that were sent */
-};
-
 /* A copy of the core that the service has for a job. */
 struct core {
-    uint64_t *words;
     size_t size;
-    bool owes; /* at address owed the machine's word isn't in that core yet */
-    uint32_t owed;
+    uint64_t *words;
+    bool *touched; /* for each TOUCH_WORDS words whether the machine may have other ones than the copy */
+};
+
+/* What is left of an order after it is written: what its answer may be, and changes in the copy of a core. */
+struct order {
+    unsigned kind, code, job;
+    uint32_t number, detail;
+    size_t place, count; /* of its words in the bytes that were sent */
+    struct core *core;   /* of a LOGIN: the copy if it is done, for which there has to be memory before it is sent */
 };
 
 struct filser {
     pid_t child;
-    int to, from;
-    bool has_ended;
+    int to, from, timeout;
+    bool has_ended, has_failed; /* the exchange; the disk */
     struct bytes sending, held;
     struct order *orders;
     size_t order_count, order_room;
     struct filser_answer *answers;
     struct filser_change *changes;
-    struct core cores[JOBS];
+    struct core *cores[JOBS];
     char printed[256];
 };
 
@@ -87,9 +91,48 @@ static uint64_t number_at(const unsigned char *data, int count) {
     return number;
 }
 
+/* Copies of cores. */
+
+static void free_core(struct core *core) {
+    if (core == NULL) return;
+    free(core->words);
+    free(core->touched);
+    free(core);
+}
+
+/* Returns the copy of a core as a LOGIN leaves it, with all of the machine's words to be sent; NULL if there is no
+   memory. */
+static struct core *new_core(size_t size) {
+    struct core *core = calloc(1, sizeof *core);
+    if (core == NULL) return NULL;
+    core->size = size;
+    core->words = calloc(size, sizeof *core->words);
+    core->touched = malloc((size / TOUCH_WORDS + 1) * sizeof *core->touched);
+    if (core->words == NULL || core->touched == NULL) {
+        free_core(core);
+        return NULL;
+    }
+    core->words[FIRST_FREE] = 0140;
+    memset(core->touched, true, (size / TOUCH_WORDS + 1) * sizeof *core->touched);
+    return core;
+}
+
+/* Notes that the machine may have other words than the copy from one address to before another. */
+static void touch(struct core *core, size_t first, size_t past) {
+    if (past > core->size) past = core->size;
+    for (size_t piece = first / TOUCH_WORDS; first < past && piece <= (past - 1) / TOUCH_WORDS; piece++)
+        core->touched[piece] = true;
+}
+
+/* Notes that the copy has the machine's words. */
+static void forget_touched(struct core *core) {
+    memset(core->touched, false, (core->size / TOUCH_WORDS + 1) * sizeof *core->touched);
+}
+
 /* Orders. */
 
 static void forget_orders(struct filser *service) {
+    for (size_t place = 0; place < service->order_count; place++) free_core(service->orders[place].core);
     service->sending.length = 0;
     service->order_count = 0;
 }
@@ -115,7 +158,7 @@ static enum filser_error add_order(struct filser *service, const unsigned char p
     append_number(sending, number, 4);
     append_number(sending, detail, 4);
     append_number(sending, count, 4);
-    struct order order = {parts[0], parts[2], number, sending->length, count};
+    struct order order = {parts[0], parts[1], parts[2], number, detail, sending->length, count, NULL};
     service->orders[service->order_count++] = order;
     for (size_t place = 0; place < count; place++) append_number(sending, words[place], 8);
     return FILSER_OK;
@@ -128,7 +171,15 @@ enum filser_error filser_add_login(struct filser *service, unsigned job, uint32_
     if (job >= JOBS || !is_half(project) || !is_half(programmer)) return FILSER_BAD_ARGUMENT;
     const unsigned char parts[4] = {LOGIN, 0, (unsigned char)job, 0};
     const uint64_t owner = (uint64_t)project << 18 | programmer;
-    return add_order(service, parts, words, 0, &owner, 1);
+    bool is_size = words >= LEAST_CORE && words <= MOST_CORE; /* else the service refuses it */
+    struct core *core = is_size ? new_core(words) : NULL;
+    if (is_size && core == NULL) return FILSER_OUT_OF_MEMORY;
+    enum filser_error error = add_order(service, parts, words, 0, &owner, 1);
+    if (error)
+        free_core(core);
+    else
+        service->orders[service->order_count - 1].core = core;
+    return error;
 }
 
 enum filser_error filser_add_deposit(struct filser *service, unsigned job, uint32_t address, const uint64_t *words,
@@ -224,7 +275,7 @@ static enum filser_error read_answers(struct filser *service) {
 static enum filser_error count_answers(const struct bytes *held, size_t *place, size_t *answers, size_t *words) {
     while (held->length - *place >= RECORD_BYTES) {
         const unsigned char *record = held->data + *place;
-        if (record[0] > FILSER_ROOM || record[1] || record[2] || record[3]) return FILSER_NOT_AN_ANSWER;
+        if (record[0] > FILSER_ROOM || record[1] || record[2] || record[3]) return FILSER_PROTOCOL;
         size_t count = (size_t)number_at(record + 12, 4);
         if ((held->length - *place - RECORD_BYTES) / 8 < count) return FILSER_OK;
         *place += RECORD_BYTES + 8 * count;
@@ -234,23 +285,46 @@ static enum filser_error count_answers(const struct bytes *held, size_t *place, 
     return FILSER_OK;
 }
 
+static int64_t milliseconds(void) {
+    struct timespec now = {0, 0};
+    clock_gettime(CLOCK_MONOTONIC, &now);
+    return (int64_t)now.tv_sec * 1000 + now.tv_nsec / 1000000;
+}
+
+/* Returns how long `poll` may wait until the deadline of an exchange: -1 if the service has no timeout. */
+static int time_left(const struct filser *service, int64_t deadline) {
+    int64_t left = deadline - milliseconds();
+    if (service->timeout == 0) return -1;
+    return left > 0 ? (int)left : 0;
+}
+
+/* Reads what comes before any order is written: nothing, unless the program has ended or breaks the rules. */
+static enum filser_error check_silence(struct filser *service) {
+    struct pollfd end = {service->from, POLLIN, 0};
+    service->held.length = 0;
+    if (poll(&end, 1, 0) <= 0) return FILSER_OK;
+    enum filser_error error = read_answers(service);
+    return !error && service->held.length > 0 ? FILSER_PROTOCOL : error;
+}
+
 /* Writes the orders, and meanwhile reads until each is answered. */
 static enum filser_error exchange(struct filser *service, size_t *words) {
+    int64_t deadline = milliseconds() + service->timeout;
     size_t written = write_orders(service, 0), place = 0, answers = 0;
     while (answers < service->order_count) {
         bool writes = written < service->sending.length;
         struct pollfd ends[2] = {{service->from, POLLIN, 0}, {writes ? service->to : -1, POLLOUT, 0}};
-        if (poll(ends, 2, -1) < 0) {
-            if (errno == EINTR) continue;
-            return FILSER_ENDED;
-        }
+        int ready = poll(ends, 2, time_left(service, deadline));
+        if (ready == 0) return FILSER_TIMED_OUT;
+        if (ready < 0 && errno == EINTR) continue;
+        if (ready < 0) return FILSER_ENDED;
         if (ends[1].revents != 0) written = write_orders(service, written);
         if (ends[0].revents == 0) continue;
         enum filser_error error = read_answers(service);
         if (!error) error = count_answers(&service->held, &place, &answers, words);
         if (error) return error;
     }
-    return FILSER_OK;
+    return answers == service->order_count && place == service->held.length ? FILSER_OK : FILSER_PROTOCOL;
 }
 
 /* Allocates memory for answers, of which there is at least one, and returns whether there was any. */
@@ -279,49 +353,117 @@ static void parse_answers(struct filser *service) {
     }
 }
 
-static enum filser_error new_copy(struct core *core, size_t size) {
-    uint64_t *words = calloc(size, sizeof *words);
-    if (words == NULL) return FILSER_OUT_OF_MEMORY;
-    free(core->words);
-    core->words = words;
-    core->size = size;
-    core->owes = false;
-    core->words[FIRST_FREE] = 0140;
-    return FILSER_OK;
+/* Returns whether an order may be answered by this kind. */
+static bool is_kind_for(const struct order *order, enum filser_kind kind) {
+    bool asks_status = order->kind == CALL && order->code == FILSER_GETSTS;
+    switch (kind) {
+    case FILSER_WRONG: return false;
+    case FILSER_DONE: return order->kind != ROOM && !asks_status;
+    case FILSER_VALUE: return asks_status;
+    case FILSER_REFUSED:
+    case FILSER_STOPPED:
+    case FILSER_NO_CHANNEL:
+    case FILSER_DATE_RANGE: return order->kind == CALL;
+    case FILSER_ROOM: return order->kind == ROOM;
+    case FILSER_ADDRESS_CHECK:
+    case FILSER_NO_JOB:
+    case FILSER_NO_MEMORY:
+    case FILSER_DEVICE:
+    case FILSER_FAILED: return order->kind != ROOM;
+    }
+    return false;
 }
 
-/* Repeats in the copy of a core what an order has done. */
-static enum filser_error copy_order(struct filser *service, const struct order *order,
-                                    const struct filser_answer *answer) {
-    struct core *core = &service->cores[order->job];
-    if (order->kind == LOGIN && answer->kind == FILSER_DONE) return new_copy(core, order->number);
+static bool has_value(enum filser_kind kind) {
+    return kind == FILSER_VALUE || kind == FILSER_REFUSED || kind == FILSER_STOPPED || kind == FILSER_ROOM;
+}
+
+/* Returns whether the words of an answer are those of an EXAMINE: all in a row, or up to the end of the core. */
+static bool are_examined(const struct order *order, const struct filser_answer *answer, size_t size) {
+    size_t there = order->number < size ? size - order->number : 0;
+    bool fits = order->detail <= there;
+    if (answer->kind != FILSER_DONE && answer->kind != FILSER_ADDRESS_CHECK) return answer->count == 0;
+    if ((answer->kind == FILSER_DONE) != fits || answer->count != (fits ? order->detail : there)) return false;
+    for (size_t place = 0; place < answer->count; place++)
+        if (answer->changes[place].address != order->number + place) return false;
+    return true;
+}
+
+/* Returns whether an answer may have these words: only an EXAMINE and a call return any, and only of the core. */
+static bool are_changes_for(const struct order *order, const struct filser_answer *answer, size_t size) {
+    if (order->kind == EXAMINE) return are_examined(order, answer, size);
+    if (answer->count > 0 && order->kind != CALL) return false;
+    for (size_t place = 0; place < answer->count; place++)
+        if (answer->changes[place].address >= size) return false;
+    return true;
+}
+
+/* Returns whether this can be the answer to an order, by the rules of docs/EMULATORS.md. What can't be must not reach
+   the copy or the machine. */
+static bool is_answer_to(const struct filser *service, const struct order *order, const struct filser_answer *answer) {
+    const struct core *core = service->cores[order->job];
+    enum filser_kind kind = answer->kind;
+    bool is_empty = (order->kind == DEPOSIT && order->count == 0) || (order->kind == EXAMINE && order->detail == 0);
+    if (!is_kind_for(order, kind) || answer->value >= (has_value(kind) ? WORD_LIMIT : 1)) return false;
+    if (order->kind == LOGIN && kind == FILSER_DONE && order->core == NULL) return false;
+    if (order->kind != LOGIN && kind == FILSER_NO_JOB && core != NULL) return false;
+    if (service->has_failed && order->kind != ROOM && !is_empty && kind != FILSER_FAILED) return false;
+    return are_changes_for(order, answer, core == NULL ? 0 : core->size);
+}
+
+/* Repeats in the copy of a core what an order has done. The machine doesn't have these words yet. */
+static void copy_order(struct filser *service, struct order *order, const struct filser_answer *answer) {
+    struct core *core = service->cores[order->job];
+    if (answer->kind == FILSER_DEVICE || answer->kind == FILSER_FAILED) service->has_failed = true;
+    if (order->kind == LOGIN && answer->kind == FILSER_DONE) {
+        free_core(core);
+        service->cores[order->job] = order->core;
+        order->core = NULL;
+    }
+    if (core == NULL) return;
     if (order->kind == DEPOSIT && (answer->kind == FILSER_DONE || answer->kind == FILSER_ADDRESS_CHECK)) {
         const unsigned char *words = service->sending.data + order->place;
         for (size_t place = 0; place < order->count && order->number + place < core->size; place++)
             core->words[order->number + place] = number_at(words + 8 * place, 8);
+        touch(core, order->number, order->number + order->count);
     }
-    for (size_t place = 0; order->kind == CALL && place < answer->count; place++)
-        if (answer->changes[place].address < core->size)
-            core->words[answer->changes[place].address] = answer->changes[place].word;
+    for (size_t place = 0; order->kind == CALL && place < answer->count; place++) {
+        uint32_t address = answer->changes[place].address;
+        core->words[address] = answer->changes[place].word;
+        touch(core, address, (size_t)address + 1);
+    }
+}
+
+/* Checks the answers, and repeats in the copies what the orders have done. */
+static enum filser_error take_answers(struct filser *service) {
+    for (size_t place = 0; place < service->order_count; place++) {
+        if (!is_answer_to(service, &service->orders[place], &service->answers[place])) return FILSER_PROTOCOL;
+        copy_order(service, &service->orders[place], &service->answers[place]);
+    }
     return FILSER_OK;
 }
 
-enum filser_error filser_send(struct filser *service, const struct filser_answer **answers, size_t *count) {
+/* Sends the orders, which are kept. Any error ends the exchange for good: later answers couldn't be told apart. */
+static enum filser_error send_orders(struct filser *service) {
     size_t words = 0;
-    enum filser_error error = service->has_ended ? FILSER_ENDED : FILSER_OK;
-    *count = service->order_count;
-    if (!error && *count > 0) {
-        service->held.length = 0;
-        error = exchange(service, &words);
-        if (!error && !reserve_answers(service, *count, words)) error = FILSER_OUT_OF_MEMORY;
-        if (!error) parse_answers(service);
-        service->has_ended = error != FILSER_OK;
+    if (service->has_ended) return FILSER_ENDED;
+    if (service->order_count == 0) return FILSER_OK;
+    enum filser_error error = check_silence(service);
+    if (!error) error = exchange(service, &words);
+    if (!error && !reserve_answers(service, service->order_count, words)) error = FILSER_OUT_OF_MEMORY;
+    if (!error) {
+        parse_answers(service);
+        error = take_answers(service);
     }
-    for (size_t place = 0; place < *count && !error; place++)
-        error = copy_order(service, &service->orders[place], &service->answers[place]);
-    forget_orders(service);
+    service->has_ended = error != FILSER_OK;
+    return error;
+}
+
+enum filser_error filser_send(struct filser *service, const struct filser_answer **answers, size_t *count) {
+    enum filser_error error = send_orders(service);
+    *count = error ? 0 : service->order_count;
     *answers = service->answers;
-    if (error) *count = 0;
+    forget_orders(service);
     return error;
 }
 
@@ -377,15 +519,26 @@ enum filser_error filser_room(struct filser *service, uint64_t *blocks) {
 
 /* The process. */
 
-/* Returns the same end of a pipe under a number that isn't a standard stream's and that no program inherits. */
+/* Makes a pipe whose ends no program inherits, not even one that another thread starts meanwhile. */
+static int pipe_for_us(int ends[2]) {
+#ifdef __APPLE__ /* it has no pipe2, so there another thread may start a program between these calls */
+    if (pipe(ends) != 0) return -1;
+    return fcntl(ends[0], F_SETFD, FD_CLOEXEC) == 0 && fcntl(ends[1], F_SETFD, FD_CLOEXEC) == 0 ? 0 : -1;
+#else
+    return pipe2(ends, O_CLOEXEC);
+#endif
+}
+
+/* Returns the same end of a pipe under a number that isn't a standard stream's. */
 static int move_up(int file) {
+    if (file > 2) return file;
     int moved = fcntl(file, F_DUPFD_CLOEXEC, 3);
     close(file);
     return moved;
 }
 
 static bool open_pipe(int ends[2]) {
-    if (pipe(ends) != 0) return false;
+    if (pipe_for_us(ends) != 0) return false;
     ends[0] = move_up(ends[0]);
     ends[1] = move_up(ends[1]);
     return ends[0] >= 0 && ends[1] >= 0;
@@ -401,21 +554,25 @@ static bool set_nonblocking(int file) {
     return flags >= 0 && fcntl(file, F_SETFL, flags | O_NONBLOCK) == 0;
 }
 
+/* Becomes the program, in the child. */
+static void become_program(const struct filser_options *options, int input, int output) {
+    const char *form = options->form == 1 ? "1" : "2";
+    if (!options->shares_group) setsid();
+    if (dup2(input, 0) == 0 && dup2(output, 1) == 1)
+        execlp(options->program, options->program, "wire", options->image, "--form", form, (char *)NULL);
+    _exit(127);
+}
+
 /* Runs the program between two pipes. */
-static bool run_program(struct filser *service, const char *program, const char *image, int form) {
+static bool run_program(struct filser *service, const struct filser_options *options) {
     int to[2] = {-1, -1}, from[2] = {-1, -1};
-    const char *form_text = form == 1 ? "1" : "2";
     if (open_pipe(to) && open_pipe(from) && set_nonblocking(to[1]) && set_nonblocking(from[0]))
         service->child = fork();
+    if (service->child == 0) become_program(options, to[0], from[1]);
     if (service->child < 0) {
         close_pipe(to);
         close_pipe(from);
         return false;
-    }
-    if (service->child == 0) {
-        if (dup2(to[0], 0) == 0 && dup2(from[1], 1) == 1)
-            execlp(program, program, "wire", image, "--form", form_text, (char *)NULL);
-        _exit(127);
     }
     close(to[0]);
     close(from[1]);
@@ -427,44 +584,70 @@ static bool run_program(struct filser *service, const char *program, const char 
 /* Stores the line that the program has printed instead of an answer. */
 static void keep_printed(struct filser *service) {
     struct pollfd end = {service->from, POLLIN, 0};
+    int64_t deadline = milliseconds() + service->timeout;
     close(service->to);
     service->to = -1;
-    while (read_answers(service) == FILSER_OK) poll(&end, 1, -1);
+    while (service->held.length < sizeof service->printed && read_answers(service) == FILSER_OK)
+        if (poll(&end, 1, time_left(service, deadline)) == 0) break;
     size_t length = service->held.length < sizeof service->printed ? service->held.length : sizeof service->printed - 1;
     if (length > 0) memcpy(service->printed, service->held.data, length);
     service->printed[strcspn(service->printed, "\n")] = '\0';
 }
 
-enum filser_error filser_start(const char *program, const char *image, int form, struct filser **service) {
+static bool are_options(const struct filser_options *options) {
+    return options->size == sizeof *options && options->program != NULL && options->image != NULL &&
+           (options->form == 1 || options->form == 2) && options->timeout >= 0;
+}
+
+enum filser_error filser_start(const struct filser_options *options, struct filser **service) {
     uint64_t blocks;
     *service = NULL;
-    if (form != 1 && form != 2) return FILSER_BAD_ARGUMENT;
+    if (!are_options(options)) return FILSER_BAD_ARGUMENT;
     struct filser *started = calloc(1, sizeof *started);
     if (started == NULL) return FILSER_OUT_OF_MEMORY;
     *service = started;
     started->child = started->to = started->from = -1;
-    started->has_ended = !run_program(started, program, image, form);
+    started->timeout = options->timeout;
+    started->has_ended = !run_program(started, options);
     enum filser_error error = filser_room(started, &blocks);
-    if (!error || error == FILSER_OUT_OF_MEMORY) return error;
+    if (error != FILSER_ENDED && error != FILSER_PROTOCOL) return error;
     if (started->child > 0) keep_printed(started);
     return FILSER_NOT_STARTED;
 }
 
+/* Waits until the program has ended or the timeout is over; then the program is killed. */
+static void wait_or_kill(pid_t child, int timeout) {
+    const struct timespec pause = {0, 2000000};
+    int64_t deadline = milliseconds() + timeout;
+    siginfo_t ended;
+    ended.si_pid = 0;
+    while (waitid(P_PID, (id_t)child, &ended, WEXITED | WNOHANG | WNOWAIT) == 0 && ended.si_pid == 0) {
+        if (milliseconds() >= deadline) {
+            kill(child, SIGKILL);
+            return;
+        }
+        nanosleep(&pause, NULL);
+    }
+}
+
 /* Waits for the program, and returns its exit status. */
-static int wait_for(pid_t child) {
+static int wait_for(pid_t child, int timeout) {
     int status;
     if (child < 0) return 127;
+    if (timeout > 0) wait_or_kill(child, timeout);
     while (waitpid(child, &status, 0) < 0)
         if (errno != EINTR) return 127;
     return WIFEXITED(status) ? WEXITSTATUS(status) : -WTERMSIG(status);
 }
 
+/* A program that has answers to write waits until they are read, so both pipes are closed before it is waited for. */
 int filser_stop(struct filser *service) {
     if (service == NULL) return 0;
     if (service->to >= 0) close(service->to);
-    int status = wait_for(service->child);
     if (service->from >= 0) close(service->from);
-    for (int job = 0; job < JOBS; job++) free(service->cores[job].words);
+    int status = wait_for(service->child, service->timeout);
+    forget_orders(service);
+    for (int job = 0; job < JOBS; job++) free_core(service->cores[job]);
     free(service->sending.data);
     free(service->held.data);
     free(service->orders);
@@ -486,8 +669,9 @@ const char *filser_error_text(enum filser_error error) {
     case FILSER_SHORT_MEMORY: return "the machine's memory is smaller than the job's core, and nothing was sent";
     case FILSER_OUT_OF_MEMORY: return "this process has no memory";
     case FILSER_NOT_STARTED: return "the program ended before its first answer";
-    case FILSER_ENDED: return "the program ended, or its streams failed";
-    case FILSER_NOT_AN_ANSWER: return "the program wrote something that is no answer";
+    case FILSER_ENDED: return "the program ended, its streams failed, or an earlier exchange did";
+    case FILSER_PROTOCOL: return "the program wrote something that can't be the answer";
+    case FILSER_TIMED_OUT: return "the answers didn't come in time";
     }
     return "no such error";
 }
@@ -561,7 +745,7 @@ static uint64_t *word_at(const struct filser_machine *machine, uint32_t address)
 /* Collects deposits of the runs of words that differ from the copy. */
 static enum filser_error add_runs(struct filser *service, unsigned job, const uint64_t *found, uint32_t first,
                                   size_t count) {
-    const uint64_t *copy = service->cores[job].words + first;
+    const uint64_t *copy = service->cores[job]->words + first;
     enum filser_error error = FILSER_OK;
     if (memcmp(found, copy, count * sizeof *found) == 0) return FILSER_OK;
     for (size_t start = 0, end; start < count && !error; start = end) {
@@ -573,16 +757,14 @@ static enum filser_error add_runs(struct filser *service, unsigned job, const ui
     return error;
 }
 
-/* Collects deposits of the words from one address to before another that differ from the copy, page by page. */
-static enum filser_error add_differences(struct filser *service, const struct filser_machine *machine, uint32_t first,
-                                         uint32_t past) {
-    enum filser_error error = FILSER_OK;
-    for (uint32_t start = first, end; start < past && !error; start = end) {
-        end = (start / PAGE_WORDS + 1) * PAGE_WORDS;
-        if (end > past) end = past;
-        error = add_runs(service, machine->job, word_at(machine, start), start, end - start);
+/* Returns where the words end that lie in a row in the machine's memory, and were touched, or weren't, as the first. */
+static uint32_t end_of_touched(const struct core *core, uint32_t first) {
+    uint32_t end = first;
+    while (end < core->size && core->touched[end / TOUCH_WORDS] == core->touched[first / TOUCH_WORDS]) {
+        end = (end / TOUCH_WORDS + 1) * TOUCH_WORDS;
+        if (end % PAGE_WORDS == 0) break;
     }
-    return error;
+    return end < core->size ? end : (uint32_t)core->size;
 }
 
 static enum filser_error check_machine(const struct filser *service, const struct filser_machine *machine,
@@ -603,26 +785,31 @@ static bool is_large_enough(const struct filser_machine *machine, size_t size) {
     return true;
 }
 
+/* Notes what the machine may have changed since the last call for its job, whatever becomes of this one. */
+static void touch_hint(struct filser *service, const struct filser_machine *machine) {
+    struct core *core = machine->job < JOBS ? service->cores[machine->job] : NULL;
+    if (core == NULL) return;
+    if (machine->last_changed == 0)
+        touch(core, 0, core->size);
+    else
+        touch(core, machine->first_changed, (size_t)machine->last_changed + 1);
+}
+
 /* Collects deposits of the words of the machine that differ from the service's core.
 
    This is right whatever a call reads, and doesn't depend on it: the copy has what the core of the service has, since
    only deposits and the words that answers return change that core, so after these deposits it is the machine's memory.
    An unchanged page costs one comparison. */
 static enum filser_error add_changes(struct filser *service, const struct filser_machine *machine) {
-    struct core *core = &service->cores[machine->job];
-    uint32_t first = ACCUMULATORS, past = (uint32_t)core->size;
-    if (core->words == NULL) return FILSER_NOT_LOGGED_IN;
+    const struct core *core = service->cores[machine->job];
+    if (core == NULL) return FILSER_NOT_LOGGED_IN;
     if (!is_large_enough(machine, core->size)) return FILSER_SHORT_MEMORY;
-    if (machine->last_changed != 0) {
-        if (machine->first_changed > first) first = machine->first_changed;
-        if (machine->last_changed < past) past = machine->last_changed + 1;
-    }
     enum filser_error error = add_runs(service, machine->job, machine->accumulators, 0, ACCUMULATORS);
-    if (!error) error = add_differences(service, machine, first, past);
-    bool owes = core->owes && core->owed >= ACCUMULATORS && core->owed < core->size;
-    if (!error && owes && (core->owed < first || core->owed >= past))
-        error = add_differences(service, machine, core->owed, core->owed + 1);
-    if (!error) core->owes = false;
+    for (uint32_t start = ACCUMULATORS, end; start < core->size && !error; start = end) {
+        end = end_of_touched(core, start);
+        if (core->touched[start / TOUCH_WORDS])
+            error = add_runs(service, machine->job, word_at(machine, start), start, end - start);
+    }
     return error;
 }
 
@@ -643,45 +830,43 @@ static enum filser_error add_calls(struct filser *service, const struct filser_m
     return error;
 }
 
-/* Puts the words of the answers into the machine's memory, and returns the answer to the UUO: that of its first call
-   that isn't done, or of its last. A channel that isn't open counts as closed. */
-static struct filser_answer take_answers(const struct filser_machine *machine, const struct filser_answer *answers,
-                                         const struct call *calls, size_t count) {
+/* Puts the words of the answers into the machine's memory, which then is as the copy, and returns the answer to the
+   UUO: that of its first call that isn't done, or of its last. A channel that isn't open counts as closed. */
+static struct filser_answer put_answers(struct filser *service, const struct filser_machine *machine,
+                                        const struct call *calls, size_t count) {
     struct filser_answer result = {FILSER_DONE, 0, 0, NULL};
     for (size_t place = 0; place < count; place++) {
-        struct filser_answer answer = answers[calls[place].place];
+        struct filser_answer answer = service->answers[calls[place].place];
         bool closes = calls[place].code == FILSER_CLOSE || calls[place].code == FILSER_RELEAS;
         for (size_t change = 0; change < answer.count; change++)
             *word_at(machine, answer.changes[change].address) = answer.changes[change].word;
         if (closes && answer.kind == FILSER_NO_CHANNEL) answer.kind = FILSER_DONE;
         if (result.kind == FILSER_DONE) result = answer;
     }
+    forget_touched(service->cores[machine->job]);
     return result;
 }
 
-static void owe(struct core *core, uint32_t address) {
-    core->owes = true;
-    core->owed = address;
+/* Puts a word into the machine's memory that the copy doesn't have. */
+static void put_word(struct core *core, const struct filser_machine *machine, uint32_t address, uint64_t word) {
+    *word_at(machine, address) = word;
+    touch(core, address, (size_t)address + 1);
 }
 
 /* Puts what a monitor puts into the machine's memory besides what a call does. A GETSTS into a word that doesn't exist
-   is an address check. */
+   is an address check. After an INIT the copy doesn't have its instruction. */
 static void settle(struct core *core, const struct filser_machine *machine, const struct uuo *uuo,
                    struct filser_answer *answer) {
-    if (uuo->operation == INIT) owe(core, uuo->pc);
+    if (uuo->operation == INIT) touch(core, uuo->pc, (size_t)uuo->pc + 1);
     if (uuo->operation == FILSER_GETSTS && uuo->address >= core->size) {
         answer->kind = FILSER_ADDRESS_CHECK;
         answer->value = 0;
     } else if (uuo->operation == FILSER_GETSTS && answer->kind == FILSER_VALUE) {
-        *word_at(machine, uuo->address) = answer->value;
-        owe(core, uuo->address);
+        put_word(core, machine, uuo->address, answer->value);
     }
     uint64_t start = *word_at(machine, START_ADDRESS) >> 18;
-    if (uuo->operation == CALLI && uuo->address == CALLI_RESET && answer->kind == FILSER_DONE && start != 0) {
-        uint64_t *first_free = word_at(machine, FIRST_FREE);
-        *first_free = *first_free >> 18 << 18 | start;
-        owe(core, FIRST_FREE);
-    }
+    if (uuo->operation == CALLI && uuo->address == CALLI_RESET && answer->kind == FILSER_DONE && start != 0)
+        put_word(core, machine, FIRST_FREE, *word_at(machine, FIRST_FREE) >> 18 << 18 | start);
 }
 
 /* Returns how far the machine continues after a UUO with this answer. */
@@ -701,12 +886,29 @@ static int advance_of(const struct uuo *uuo, const struct filser_answer *answer)
     }
 }
 
+/* Returns whether all deposits were done, or nothing was since the disk had failed: a call that ran without them has
+   done something else than the machine wanted. */
+static bool are_deposits_done(const struct filser *service) {
+    for (size_t place = 0; place < service->order_count; place++)
+        if (service->orders[place].kind == DEPOSIT && service->answers[place].kind != FILSER_DONE &&
+            service->answers[place].kind != FILSER_FAILED)
+            return false;
+    return true;
+}
+
+/* Sends the orders of a UUO. */
+static enum filser_error send_uuo(struct filser *service) {
+    enum filser_error error = send_orders(service);
+    if (error || are_deposits_done(service)) return error;
+    service->has_ended = true;
+    return FILSER_PROTOCOL;
+}
+
 enum filser_error filser_uuo(struct filser *service, const struct filser_machine *machine, uint64_t instruction,
                              uint32_t address, struct filser_outcome *outcome) {
-    const struct filser_answer *answers;
     struct call calls[CHANNELS];
-    size_t sent;
     *outcome = (struct filser_outcome){0, FILSER_WRONG, 0};
+    touch_hint(service, machine);
     enum filser_error error = check_machine(service, machine, instruction, address);
     if (error) return error;
     struct uuo uuo = {(unsigned)(instruction >> 27), (unsigned)(instruction >> 23 & 017), address, machine->pc};
@@ -714,14 +916,12 @@ enum filser_error filser_uuo(struct filser *service, const struct filser_machine
     if (count == 0) return FILSER_OK;
     error = add_changes(service, machine);
     if (!error) error = add_calls(service, machine, &uuo, calls, count);
-    if (error) {
-        forget_orders(service);
-        return error;
+    if (!error) error = send_uuo(service);
+    if (!error) {
+        struct filser_answer answer = put_answers(service, machine, calls, count);
+        settle(service->cores[machine->job], machine, &uuo, &answer);
+        *outcome = (struct filser_outcome){advance_of(&uuo, &answer), answer.kind, answer.value};
     }
-    error = filser_send(service, &answers, &sent);
-    if (error) return error;
-    struct filser_answer answer = take_answers(machine, answers, calls, count);
-    settle(&service->cores[machine->job], machine, &uuo, &answer);
-    *outcome = (struct filser_outcome){advance_of(&uuo, &answer), answer.kind, answer.value};
-    return FILSER_OK;
+    forget_orders(service);
+    return error;
 }

@@ -15,15 +15,18 @@
 
       int main(int count, char **words) {
           struct filser *service = NULL;
+          struct filser_options options = {.size = sizeof options, .form = 1};
           struct filser_machine machine = {.job = 1, .accumulators = accumulators, .words = core, .size = 4096};
           struct filser_outcome outcome = {0, FILSER_WRONG, 0};
           if (count != 3) return 2;
+          options.program = words[1];
+          options.image = words[2];
           core[0121] = 0140;          // .JBFF, as a loader leaves it
           core[0210] = 017;           // dump mode
           core[0211] = 0446353000000; // SIXBIT /DSK/
           core[0212] = 0;             // no buffers
 
-          enum filser_error error = filser_start(words[1], words[2], 1, &service);
+          enum filser_error error = filser_start(&options, &service);
           if (!error) error = filser_login(service, 1, 010, 020, 4096, NULL);
           if (!error) error = filser_uuo(service, &machine, 0050040000210, 0210, &outcome);
           if (error)
@@ -44,6 +47,10 @@
 #include <stddef.h>
 #include <stdint.h>
 
+#ifdef __cplusplus
+extern "C" {
+#endif
+
 /* Why there was no answer. A refusal of the service isn't an error of the client, but an answer. */
 enum filser_error {
     FILSER_OK = 0,
@@ -55,8 +62,9 @@ enum filser_error {
     FILSER_OUT_OF_MEMORY, /* this process has no memory. If it was collecting or comparing, nothing was sent; else an
                              order may have been done whose answer is lost: stop the service */
     FILSER_NOT_STARTED,   /* the program ended before its first answer: see filser_printed and filser_stop */
-    FILSER_ENDED,         /* the program ended, or its streams failed: stop the service */
-    FILSER_NOT_AN_ANSWER  /* the program wrote something that isn't an answer: stop the service */
+    FILSER_ENDED,         /* the program ended, its streams failed, or an earlier exchange did: stop the service */
+    FILSER_PROTOCOL,      /* the program wrote something that can't be the answer to the order: stop the service */
+    FILSER_TIMED_OUT      /* the answers didn't come in time: stop the service */
 };
 
 /* The kinds of answers. */
@@ -121,8 +129,10 @@ struct filser_machine {
     uint32_t pc;            /* the address of the UUO, which matters to INIT */
     unsigned date, minute;  /* the moment of the call */
 
-    /* If last_changed isn't 0, only the words from first_changed to last_changed and the accumulators are compared with
-       what the service has: the machine has changed no other words since the job's last UUO. */
+    /* If last_changed isn't 0, the machine has changed no other words than those from first_changed to last_changed and
+       the accumulators since filser_uuo was last called for this job, whatever that call returned. Then only these are
+       compared with what the service has, and those that earlier calls named and that weren't sent. After a LOGIN all
+       words are compared once. */
     uint32_t first_changed, last_changed;
 };
 
@@ -135,14 +145,26 @@ struct filser_outcome {
     uint64_t value;
 };
 
+/* How a service is started. The first member is the size of this structure; what an initializer doesn't name is 0. */
+struct filser_options {
+    size_t size;
+    const char *program; /* found as a shell finds it */
+    const char *image;
+    int form;            /* 1 or 2 */
+    int timeout;         /* how long an exchange may take, in milliseconds; 0 is as long as it takes */
+    int shares_group;    /* 0: the program runs in a session of its own, so that what the terminal sends to this
+                            process, such as an interrupt, doesn't end it; 1: it stays in this process's group */
+};
+
 struct filser;
 
-/* Starts the program, found as a shell finds it, and waits until it serves the image in this form, 1 or 2. Even after
-   an error there is a service for filser_printed and filser_stop; it is NULL only if there is no memory. */
-enum filser_error filser_start(const char *program, const char *image, int form, struct filser **service);
+/* Starts the program, and waits until it serves the image. Even after an error there is a service for filser_printed
+   and filser_stop; it is NULL only if there is no memory, or if the options are wrong. */
+enum filser_error filser_start(const struct filser_options *options, struct filser **service);
 
 /* Ends the exchange, waits for the program, frees the service, and returns the exit status: 127 if the program couldn't
-   be run, or minus the signal that ended it. NULL has status 0. */
+   be run, or minus the signal that ended it. A program that hasn't ended after the options' timeout is killed, which
+   loses nothing that was answered DONE. If answers are unread, the program ends with status 4. NULL has status 0. */
 int filser_stop(struct filser *service);
 
 /* Returns the line that a program printed that didn't start, such as "?Not a volume"; otherwise an empty text. */
@@ -180,5 +202,9 @@ enum filser_error filser_room(struct filser *service, uint64_t *blocks);
    is sent if a word that the service hasn't got yet has more than 36 bits. */
 enum filser_error filser_uuo(struct filser *service, const struct filser_machine *machine, uint64_t instruction,
                              uint32_t address, struct filser_outcome *outcome);
+
+#ifdef __cplusplus
+}
+#endif
 
 #endif

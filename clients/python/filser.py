@@ -15,16 +15,19 @@ write:
     service.add_call(1, Code.LOOKUP, 1, 0o300)
     answers = service.send()
 
-What can't be sent, and an exchange that fails, raises `ServiceError`; what the service refuses is an `Answer`. Needs
-POSIX, Python 3.8 or later, and no other package. docs/EMULATORS.md describes the wire. The client in C, in clients/c,
-has the same functions.
+What can't be sent, and an exchange that fails, raises `ServiceError`; what the service refuses is an `Answer`. An
+exception of any kind that interrupts an exchange ends it for good: each later call raises `Error.ENDED`. Needs POSIX,
+Python 3.8 or later, and no other package. docs/EMULATORS.md describes the wire. The client in C, in clients/c, has the
+same functions.
 """
 
 import enum
+import operator
 import os
 import select
 import struct
 import subprocess
+import time
 from array import array
 from collections import namedtuple
 
@@ -32,9 +35,12 @@ RECORD = struct.Struct(">BBBBIII")
 WORD_LIMIT = 1 << 36
 CORE_LIMIT = 1 << 18
 RIGHT_HALF = CORE_LIMIT - 1
+LEAST_CORE, MOST_CORE = 0o1000, 0o400000
 ACCUMULATORS = 0o20
 START_ADDRESS, FIRST_FREE = 0o120, 0o121  # .JBSA and .JBFF
 CHUNK = 512
+TOUCH_WORDS = 64
+MOST_PRINTED = 256
 
 
 class Kind(enum.IntEnum):
@@ -81,13 +87,14 @@ class Error(enum.Enum):
     """Why there was no answer."""
 
     BAD_ARGUMENT = "an argument is outside its range, and nothing was sent"
-    BAD_WORD = "a word has more than 36 bits, and nothing was sent"
+    BAD_WORD = "a word isn't a whole number below 2^36, and nothing was sent"
     NOT_LOGGED_IN = "the job isn't logged in, and nothing was sent"
     NOT_SENT = "orders were collected and are not sent yet"
     SHORT_MEMORY = "the machine's memory is smaller than the job's core, and nothing was sent"
     NOT_STARTED = "the program ended before its first answer"
-    ENDED = "the program ended, or its streams failed"
-    NOT_AN_ANSWER = "the program wrote something that is no answer"
+    ENDED = "the program ended, its streams failed, or an earlier exchange did"
+    PROTOCOL = "the program wrote something that can't be the answer"
+    TIMED_OUT = "the answers didn't come in time"
 
 
 class ServiceError(Exception):
@@ -116,8 +123,13 @@ Outcome.__doc__ = """What a UUO did: the machine goes on `advance` words after t
 an INIT; 0 if this is no UUO that the service does, and nothing was sent), and the kind and value of the answer. It was
 done if `kind` is `Kind.DONE` or `Kind.VALUE`."""
 
-# What is left of an order after it is written: what its answer changes in the copy of a core.
-Sent = namedtuple("Sent", "kind job number words")
+# What is left of an order after it is written: what its answer may be, and changes in the copy of a core.
+Sent = namedtuple("Sent", "kind code job number detail words")
+
+LOGIN, DEPOSIT, EXAMINE, CALL, ROOM = range(1, 6)
+HAVE_VALUE = {Kind.VALUE, Kind.REFUSED, Kind.STOPPED, Kind.ROOM}
+OF_CALLS = {Kind.REFUSED, Kind.STOPPED, Kind.NO_CHANNEL, Kind.DATE_RANGE}
+OF_ALL = {Kind.DONE, Kind.ADDRESS_CHECK, Kind.NO_JOB, Kind.NO_MEMORY, Kind.DEVICE, Kind.FAILED}
 
 WITHOUT_NUMBER = {Code.RESET, Code.GETSTS, Code.RELEAS}
 WITHOUT_CHANNEL = {Code.RESET, Code.MAKDIR, Code.REMDIR, Code.QUOTA}
@@ -190,7 +202,7 @@ def split_answer(held):
         return None
     kind, code, job, channel, high, low, count = RECORD.unpack_from(held)
     if kind > Kind.ROOM or code or job or channel:
-        raise ServiceError(Error.NOT_AN_ANSWER)
+        raise ServiceError(Error.PROTOCOL)
     size = RECORD.size + 8 * count
     if len(held) < size:
         return None
@@ -250,36 +262,109 @@ def answer_of(calls, answers):
     return answer
 
 
+def kinds_of(sent):
+    """Returns the kinds of answers that an order may have."""
+    if sent.kind == ROOM:
+        return {Kind.ROOM}
+    if sent.kind == CALL:
+        return OF_ALL - {Kind.DONE} | OF_CALLS | {Kind.VALUE} if sent.code == Code.GETSTS else OF_ALL | OF_CALLS
+    return OF_ALL
+
+
+def are_changes_for(sent, answer, size):
+    """Returns whether an answer may have these words of a core of this size: an EXAMINE returns all in a row, or those
+    up to the end of the core; a call returns any; other orders return none."""
+    if sent.kind == EXAMINE:
+        there = min(sent.detail, max(0, size - sent.number))
+        if answer.kind not in (Kind.DONE, Kind.ADDRESS_CHECK):
+            return not answer.changes
+        addresses = [address for address, _ in answer.changes]
+        wanted = Kind.DONE if there == sent.detail else Kind.ADDRESS_CHECK
+        return answer.kind == wanted and addresses == list(range(sent.number, sent.number + there))
+    if sent.kind == CALL:
+        return all(address < size for address, _ in answer.changes)
+    return not answer.changes
+
+
+class _Copy:
+    """A copy of the core that the service has for a job, and the pieces of it in which the machine may have other
+    words. After a LOGIN these are all."""
+
+    def __init__(self, size):
+        self.words = array("Q", bytes(8 * size))
+        self.words[FIRST_FREE] = 0o140
+        self.touched = set(range((size - 1) // TOUCH_WORDS + 1))
+
+    def touch(self, first, past):
+        """Notes that the machine may have other words from one address to before another."""
+        past = min(past, len(self.words))
+        if first < past:
+            self.touched.update(range(max(first, 0) // TOUCH_WORDS, (past - 1) // TOUCH_WORDS + 1))
+
+    def put(self, first, words):
+        """Puts words that the machine doesn't have yet, up to the end of the core."""
+        words = words[: max(0, len(self.words) - first)]
+        self.words[first : first + len(words)] = array("Q", words)
+        self.touch(first, first + len(words))
+
+    def touched_areas(self):
+        """Returns the first address and the one after the last of what was touched, in areas of at most a chunk."""
+        areas = []
+        for piece in sorted(self.touched):
+            first, past = max(piece * TOUCH_WORDS, ACCUMULATORS), min((piece + 1) * TOUCH_WORDS, len(self.words))
+            if areas and areas[-1][1] == first and first % CHUNK:
+                areas[-1] = areas[-1][0], past
+            else:
+                areas.append((first, past))
+        return areas
+
+
 class Service:
     """A process of `filser wire` that has an image to itself until it is stopped."""
 
-    def __init__(self, program, image, form=1, stderr=None):
-        """Starts the program, and waits until it serves the image. Its standard error goes to `stderr`, as of
-        `subprocess.Popen`, or where this process's own goes."""
-        self._has_ended = False
+    def __init__(self, program, image, form=1, stderr=None, timeout=0, shares_group=False):
+        """Starts the program, and waits until it serves the image.
+
+        Its standard error goes to `stderr`, as of `subprocess.Popen`, or where this process's own goes. `timeout` is
+        how long an exchange may take, in milliseconds; 0 is as long as it takes. The program runs in a session of its
+        own, so that what the terminal sends to this process, such as an interrupt, doesn't end it; with `shares_group`
+        it stays in this process's group."""
+        self._has_ended = self._has_failed = False
         self._held = bytearray()
-        self._bytes, self._sent = [], []
-        self._cores = {}  # by job: a copy of the core that the service has
-        self._owed = {}  # by job: an address where the machine's word isn't in that core yet
+        self._orders = []  # each the bytes of an order, and what is left of it after it is written
+        self._cores = {}  # by job
+        self._timeout = timeout
+        _check_ranges((timeout, 1 << 31), (form - 1, 2))
         words = [os.fspath(program), "wire", os.fspath(image), "--form", str(form)]
         try:
             self._process = subprocess.Popen(words, bufsize=0, stdin=subprocess.PIPE, stdout=subprocess.PIPE,
-                                             stderr=stderr)
+                                             stderr=stderr, start_new_session=not shares_group)
         except OSError as error:
             raise ServiceError(Error.NOT_STARTED, text=str(error)) from error
-        os.set_blocking(self._process.stdin.fileno(), False)
-        os.set_blocking(self._process.stdout.fileno(), False)
         try:
+            os.set_blocking(self._process.stdin.fileno(), False)
+            os.set_blocking(self._process.stdout.fileno(), False)
             self.room()
         except ServiceError as error:
+            if error.error not in (Error.ENDED, Error.PROTOCOL):
+                raise ServiceError(error.error, self.stop()) from error
             raise self._not_started() from error
+        except BaseException:
+            self.stop()
+            raise
 
     def _not_started(self):
         """Returns the error of a program that has printed a line instead of an answer."""
         self._process.stdin.close()
-        os.set_blocking(self._process.stdout.fileno(), True)
-        text = bytes(self._held) + self._process.stdout.read()
-        return ServiceError(Error.NOT_STARTED, self.stop(), text.decode("latin-1").rstrip("\n"))
+        deadline = self._deadline()
+        try:
+            while len(self._held) < MOST_PRINTED:
+                self._wait(self._reader(), deadline)
+                self._read()
+        except ServiceError:
+            pass  # it has printed all
+        text = self._held[:MOST_PRINTED].decode("latin-1").split("\n")[0]
+        return ServiceError(Error.NOT_STARTED, self.stop(), text)
 
     def __enter__(self):
         return self
@@ -288,31 +373,35 @@ class Service:
         self.stop()
 
     def stop(self):
-        """Ends the exchange, waits for the program, and returns its exit status."""
+        """Ends the exchange, waits for the program, and returns its exit status. A program that hasn't ended after the
+        timeout is killed, which loses nothing that was answered DONE. If answers are unread, the status is 4."""
         self._has_ended = True
         self._process.stdin.close()
-        status = self._process.wait()
-        self._process.stdout.close()
-        return status
+        self._process.stdout.close()  # a program that has answers to write waits until they are read
+        try:
+            return self._process.wait(self._timeout / 1000 if self._timeout else None)
+        except subprocess.TimeoutExpired:
+            self._process.kill()
+            return self._process.wait()
 
     # Orders that are collected until `send`.
 
     def add_login(self, job, project, programmer, words):
         """Collects a LOGIN: the job's core has this number of words."""
         _check_ranges((job, 256), (words, 1 << 32), (project - 1, RIGHT_HALF), (programmer - 1, RIGHT_HALF))
-        self._add(order(1, job=job, number=words, words=[halves(project, programmer)]), Sent(1, job, words, ()))
+        owner = [halves(project, programmer)]
+        self._add(order(LOGIN, job=job, number=words, words=owner), Sent(LOGIN, 0, job, words, 0, owner))
 
     def add_deposit(self, job, address, words):
         """Collects a DEPOSIT of words at an address and those after it."""
-        words = list(words)
+        words = _checked(words)
         _check_ranges((job, 256), (address, CORE_LIMIT + 1), (address + len(words), CORE_LIMIT + 1))
-        _check_words(words)
-        self._add(order(2, job=job, number=address, words=words), Sent(2, job, address, words))
+        self._add(order(DEPOSIT, job=job, number=address, words=words), Sent(DEPOSIT, 0, job, address, 0, words))
 
     def add_examine(self, job, address, count):
         """Collects an EXAMINE of words at an address and those after it."""
         _check_ranges((job, 256), (address, CORE_LIMIT + 1), (count, CORE_LIMIT + 1), (address + count, CORE_LIMIT + 1))
-        self._add(order(3, job=job, number=address, detail=count), Sent(3, job, address, ()))
+        self._add(order(EXAMINE, job=job, number=address, detail=count), Sent(EXAMINE, 0, job, address, count, ()))
 
     def add_call(self, job, code, channel=0, number=0, date=0, minute=0):
         """Collects a CALL, which is made at this date and minute."""
@@ -320,65 +409,72 @@ class Service:
         if code not in CODES or code in WITHOUT_NUMBER and number != 0:
             raise ServiceError(Error.BAD_ARGUMENT)
         _check_ranges((channel, 1 if code in WITHOUT_CHANNEL else 256))
-        self._add(order(4, code, job, channel, number, date << 16 | minute), Sent(4, job, number, ()))
+        detail = date << 16 | minute
+        self._add(order(CALL, code, job, channel, number, detail), Sent(CALL, code, job, number, detail, ()))
 
     def add_room(self):
         """Collects a ROOM."""
-        self._add(order(5), Sent(5, 0, 0, ()))
+        self._add(order(ROOM), Sent(ROOM, 0, 0, 0, 0, ()))
 
     def _check_sent(self):
-        if self._sent:
+        if self._orders:
             raise ServiceError(Error.NOT_SENT)
 
     def _add(self, data, sent):
-        self._bytes.append(data)
-        self._sent.append(sent)
+        self._orders.append((data, sent))
 
     def send(self):
         """Sends what was collected, and returns the answers in the same order. They are read while the orders are
         written, so there may be as many as memory has room for."""
-        data, sent = b"".join(self._bytes), self._sent
-        self._bytes, self._sent = [], []
-        try:
-            answers = self._exchange(data, len(sent))
-        except ServiceError:
-            self._has_ended = True
-            raise
-        for order_sent, answer in zip(sent, answers):
-            self._copy(order_sent, answer)
+        answers = self._send_orders()[1]
+        self._has_ended = False
         return answers
+
+    def _send_orders(self):
+        """Sends what was collected, and returns the orders and their answers. The exchange has ended until its caller
+        has what the answers say: whatever interrupts this leaves it so, since later answers couldn't be told apart."""
+        orders, self._orders = self._orders, []
+        if self._has_ended:
+            raise ServiceError(Error.ENDED)
+        self._has_ended = True
+        data, sent = b"".join(data for data, _ in orders), [sent for _, sent in orders]
+        answers = self._exchange(data, len(sent))
+        for order_sent, answer in zip(sent, answers):
+            self._check_answer(order_sent, answer)
+            self._copy(order_sent, answer)
+        return sent, answers
 
     # The same as single orders, each sent at once. They are refused while collected orders wait for `send`.
 
     def login(self, job, project, programmer, words):
         """Logs a job in: DONE, or ADDRESS_CHECK for a core that is too small or too large."""
-        self._check_sent()
-        self.add_login(job, project, programmer, words)
-        return self.send()[0]
+        return self._send_one(self.add_login, job, project, programmer, words)
 
     def deposit(self, job, address, words):
         """Puts words into a job's core, up to the first that isn't in it."""
-        self._check_sent()
-        self.add_deposit(job, address, words)
-        return self.send()[0]
+        return self._send_one(self.add_deposit, job, address, words)
 
     def examine(self, job, address, count):
         """Reads words of a job's core, up to the first that isn't in it: see `Answer.words`."""
-        self._check_sent()
-        self.add_examine(job, address, count)
-        return self.send()[0]
+        return self._send_one(self.add_examine, job, address, count)
 
     def call(self, job, code, channel=0, number=0, date=0, minute=0):
         """Makes a call. The answer has each word of the job's core that it may have changed."""
-        self._check_sent()
-        self.add_call(job, code, channel, number, date, minute)
-        return self.send()[0]
+        return self._send_one(self.add_call, job, code, channel, number, date, minute)
 
     def room(self):
         """Returns the number of blocks that are left."""
+        return self._send_one(self.add_room).value
+
+    def _send_one(self, add, *arguments):
+        """Sends one order, and returns its answer. If it isn't sent, it isn't collected either."""
         self._check_sent()
-        self.add_room()
-        return self.send()[0].value
+        try:
+            add(*arguments)
+            return self.send()[0]
+        except BaseException:
+            self._orders = []
+            raise
 
     # UUOs of a running machine.
 
@@ -387,23 +483,46 @@ class Service:
 
         `instruction` is its word, `address` its effective address and `pc` its own address, which matters to INIT.
         `accumulators` has 16 words, and `memory` at least as many as the job's core; its first 16 aren't used. Both are
-        lists, arrays of type "Q" or the like. `changed` may be the first and the last address of what the machine has
-        changed since the job's last UUO; then only that and the accumulators are compared."""
+        lists, arrays of type "Q" or the like. `changed` may be a first and a last address: the machine has changed no
+        other words and accumulators since `uuo` was last called for this job, whatever came of that call. Then only
+        these are compared with what the service has, and those that earlier calls named and that weren't sent. After a
+        LOGIN all words are compared once. If another exception than `ServiceError` leaves this function, the caller has
+        to name the words again."""
+        self._touch_hint(job, changed)
         self._check_sent()
-        _check_words([instruction])
+        _checked([instruction])
         _check_ranges((job, 256), (address, CORE_LIMIT), (pc, CORE_LIMIT), (date, 1 << 15), (minute, 1440))
         calls = calls_of(instruction >> 27, instruction >> 23 & 0o17, address, pc)
         if not calls:
             return Outcome(0, Kind.WRONG, 0)
-        self._add_changes(job, accumulators, memory, changed)
-        self._add_calls(job, calls, address if instruction >> 27 == INIT else None, pc, date << 16 | minute)
-        sent = self._sent
-        made = [answer for order_sent, answer in zip(sent, self.send()) if order_sent.kind == 4]
+        try:
+            self._add_changes(job, accumulators, memory)
+            self._add_calls(job, calls, address if instruction >> 27 == INIT else None, pc, date << 16 | minute)
+        except BaseException:
+            self._orders = []
+            raise
+        made = self._made(*self._send_orders())
         for answer in made:
             for place, word in answer.changes:
                 _put(accumulators, memory, place, word)
+        self._cores[job].touched.clear()
         answer = self._settle(job, instruction, address, pc, answer_of(calls, made), accumulators, memory)
+        self._has_ended = False
         return Outcome(advance_of(instruction >> 27, address, answer), answer.kind, answer.value)
+
+    def _touch_hint(self, job, changed):
+        """Notes what the machine may have changed since the last call for its job, whatever becomes of this one."""
+        if job in self._cores:
+            first, last = (0, CORE_LIMIT) if changed is None else changed
+            self._cores[job].touch(first, last + 1)
+
+    def _made(self, sent, answers):
+        """Returns the answers to the calls of a UUO. All deposits were done, or nothing was since the disk had failed:
+        a call that ran without them has done something else than the machine wanted."""
+        if any(order_sent.kind == DEPOSIT and answer.kind not in (Kind.DONE, Kind.FAILED)
+               for order_sent, answer in zip(sent, answers)):
+            raise ServiceError(Error.PROTOCOL)
+        return [answer for order_sent, answer in zip(sent, answers) if order_sent.kind == CALL]
 
     def _add_calls(self, job, calls, status, pc, moment):
         """Collects the calls of a UUO. OPEN reads three words; the first one of an INIT is its effective address, so
@@ -416,20 +535,20 @@ class Service:
     def _settle(self, job, instruction, address, pc, answer, accumulators, memory):
         """Puts what a monitor puts into the machine's memory besides what a call does, and returns the answer to the
         UUO. A GETSTS into a word that doesn't exist is an address check."""
-        operation = instruction >> 27
+        operation, copy = instruction >> 27, self._cores[job]
         if operation == INIT:
-            self._owed[job] = pc
-        elif operation == Code.GETSTS and address >= len(self._cores[job]):
+            copy.touch(pc, pc + 1)  # the copy doesn't have the instruction
+        elif operation == Code.GETSTS and address >= len(copy.words):
             return Answer(Kind.ADDRESS_CHECK, 0, [])
         elif operation == Code.GETSTS and answer.kind == Kind.VALUE:
             _put(accumulators, memory, address, answer.value)
-            self._owed[job] = address
+            copy.touch(address, address + 1)
         elif operation == CALLI and address == CALLI_RESET and answer.kind == Kind.DONE and memory[START_ADDRESS] >> 18:
             memory[FIRST_FREE] = memory[FIRST_FREE] & ~RIGHT_HALF | memory[START_ADDRESS] >> 18
-            self._owed[job] = FIRST_FREE
+            copy.touch(FIRST_FREE, FIRST_FREE + 1)
         return answer
 
-    def _add_changes(self, job, accumulators, memory, changed):
+    def _add_changes(self, job, accumulators, memory):
         """Collects deposits of the words that differ from the service's core.
 
         This is right whatever a call reads, and doesn't depend on it: the copy has what the core of the service has,
@@ -438,46 +557,73 @@ class Service:
         copy = self._cores.get(job)
         if copy is None:
             raise ServiceError(Error.NOT_LOGGED_IN)
-        if len(memory) < len(copy) or len(accumulators) < ACCUMULATORS:
+        if len(memory) < len(copy.words) or len(accumulators) < ACCUMULATORS:
             raise ServiceError(Error.SHORT_MEMORY)
-        first, last = (ACCUMULATORS, len(copy) - 1) if changed is None else changed
-        runs = _differences(accumulators, copy, 0, ACCUMULATORS)
-        runs += _differences(memory, copy, max(first, ACCUMULATORS), min(last + 1, len(copy)))
-        owed = self._owed.get(job)
-        if owed is not None and changed is not None and not first <= owed <= last and ACCUMULATORS <= owed < len(copy):
-            runs += _differences(memory, copy, owed, owed + 1)
-        for _, words in runs:
-            _check_words(words)
+        runs = _differences(accumulators, copy.words, 0, ACCUMULATORS)
+        for first, past in copy.touched_areas():
+            runs += _differences(memory, copy.words, first, past)
         for place, words in runs:
             self.add_deposit(job, place, words)
-        self._owed.pop(job, None)
 
     # The exchange.
 
-    def _copy(self, sent, answer):
-        """Repeats in the copy of a core what an order has done."""
+    def _check_answer(self, sent, answer):
+        """Refuses what can't be the answer to an order, by the rules of docs/EMULATORS.md: it must not reach the copy
+        or the machine."""
         copy = self._cores.get(sent.job)
-        if sent.kind == 1 and answer.kind == Kind.DONE:
-            self._cores[sent.job] = array("Q", bytes(8 * sent.number))
-            self._cores[sent.job][FIRST_FREE] = 0o140
-        elif sent.kind == 2 and answer.kind in (Kind.DONE, Kind.ADDRESS_CHECK) and copy is not None:
-            words = sent.words[: max(0, len(copy) - sent.number)]
-            copy[sent.number : sent.number + len(words)] = array("Q", words)
-        elif sent.kind == 4 and copy is not None:
-            for address, word in answer.changes:
-                copy[address] = word
+        is_empty = sent.kind == DEPOSIT and not sent.words or sent.kind == EXAMINE and sent.detail == 0
+        is_good = answer.kind in kinds_of(sent)
+        is_good &= answer.value < (WORD_LIMIT if answer.kind in HAVE_VALUE else 1)
+        if sent.kind == LOGIN and answer.kind == Kind.DONE:
+            is_good &= LEAST_CORE <= sent.number <= MOST_CORE
+        if sent.kind != LOGIN and answer.kind == Kind.NO_JOB:
+            is_good &= copy is None
+        if self._has_failed and sent.kind != ROOM and not is_empty:
+            is_good &= answer.kind == Kind.FAILED
+        if not is_good or not are_changes_for(sent, answer, 0 if copy is None else len(copy.words)):
+            raise ServiceError(Error.PROTOCOL)
 
-    def _exchange(self, data, count):
-        """Writes orders, and meanwhile reads this number of answers."""
-        if self._has_ended:
-            raise ServiceError(Error.ENDED)
-        rest, answers = self._write(memoryview(data)), []
+    def _copy(self, sent, answer):
+        """Repeats in the copy of a core what an order has done. The machine doesn't have these words yet."""
+        copy = self._cores.get(sent.job)
+        self._has_failed |= answer.kind in (Kind.DEVICE, Kind.FAILED)
+        if sent.kind == LOGIN and answer.kind == Kind.DONE:
+            self._cores[sent.job] = _Copy(sent.number)
+        elif sent.kind == DEPOSIT and answer.kind in (Kind.DONE, Kind.ADDRESS_CHECK) and copy is not None:
+            copy.put(sent.number, sent.words)
+        elif sent.kind == CALL and copy is not None:
+            for address, word in answer.changes:
+                copy.words[address] = word
+                copy.touch(address, address + 1)
+
+    def _deadline(self):
+        """Returns when an exchange that begins now must be complete, or None."""
+        return time.monotonic() + self._timeout / 1000 if self._timeout else None
+
+    def _reader(self):
+        """Returns what waits for answers."""
         poll = select.poll()
         poll.register(self._process.stdout, select.POLLIN)
+        return poll
+
+    def _wait(self, poll, deadline):
+        """Returns the streams that are ready, and waits for them until the deadline."""
+        ready = poll.poll(None if deadline is None else max(0, deadline - time.monotonic()) * 1000)
+        if not ready:
+            raise ServiceError(Error.TIMED_OUT)
+        return ready
+
+    def _exchange(self, data, count):
+        """Writes orders, and meanwhile reads this number of answers: none before the orders, and no others."""
+        poll, deadline, answers = self._reader(), self._deadline(), []
+        if count and poll.poll(0):
+            self._read()
+            raise ServiceError(Error.PROTOCOL)
+        rest = self._write(memoryview(data))
         if rest:
             poll.register(self._process.stdin, select.POLLOUT)
         while len(answers) < count:
-            for stream, _ in poll.poll():
+            for stream, _ in self._wait(poll, deadline):
                 if stream == self._process.stdout.fileno():
                     self._read()
                     self._split(answers)
@@ -485,6 +631,8 @@ class Service:
                     rest = self._write(rest)
                     if not rest:
                         poll.unregister(self._process.stdin)
+        if len(answers) > count or self._held:
+            raise ServiceError(Error.PROTOCOL)
         return answers
 
     def _write(self, data):
@@ -525,9 +673,15 @@ def _check_ranges(*pairs):
         raise ServiceError(Error.BAD_ARGUMENT)
 
 
-def _check_words(words):
+def _checked(words):
+    """Returns words as a list, and refuses what isn't a whole number below 2^36."""
+    try:
+        words = [operator.index(word) for word in words]
+    except TypeError as error:
+        raise ServiceError(Error.BAD_WORD) from error
     if not all(0 <= word < WORD_LIMIT for word in words):
         raise ServiceError(Error.BAD_WORD)
+    return words
 
 
 def _put(accumulators, memory, address, word):

@@ -1,0 +1,409 @@
+/* Tests the client in C where something goes wrong around it: memory, signals, other threads, the terminal.
+
+   usage: clients_faults memory|signals|descriptors|threads|stop PROGRAM IMAGE
+          clients_faults group PROGRAM IMAGE SHARES
+
+   This file includes the client, so that each allocation and each system call of it can be made to fail. Prints a line
+   for each check that failed, and at the end how many were made and how many of them failed. */
+#define _GNU_SOURCE
+#include <errno.h>
+#include <fcntl.h>
+#include <poll.h>
+#include <pthread.h>
+#include <signal.h>
+#include <stdbool.h>
+#include <stdio.h>
+#include <stdlib.h>
+#include <string.h>
+#include <sys/types.h>
+#include <sys/wait.h>
+#include <time.h>
+#include <unistd.h>
+
+#define NEVER (-1)
+#define DESCRIPTORS 256
+
+static pthread_mutex_t counting = PTHREAD_MUTEX_INITIALIZER;
+static int checks, failures;
+static long until_refused = NEVER, until_interrupted = NEVER, piece = NEVER;
+static bool watches_descriptors, was_open[DESCRIPTORS];
+
+static void check(bool is_good, const char *what, long number) {
+    pthread_mutex_lock(&counting);
+    checks++;
+    if (!is_good) {
+        failures++;
+        printf("%s (%ld)\n", what, number);
+    }
+    pthread_mutex_unlock(&counting);
+}
+
+/* Returns whether this allocation is the one that finds no memory. */
+static bool is_refused(void) { return until_refused != NEVER && until_refused-- == 0; }
+
+static void *test_malloc(size_t size) { return is_refused() ? NULL : malloc(size); }
+static void *test_calloc(size_t count, size_t size) { return is_refused() ? NULL : calloc(count, size); }
+static void *test_realloc(void *data, size_t size) { return is_refused() ? NULL : realloc(data, size); }
+
+/* Returns whether a signal interrupts this system call. */
+static bool is_interrupted(void) {
+    if (until_interrupted == NEVER || until_interrupted-- != 0) return false;
+    raise(SIGUSR1);
+    errno = EINTR;
+    return true;
+}
+
+static size_t piece_of(size_t size) { return piece != NEVER && size > (size_t)piece ? (size_t)piece : size; }
+
+static ssize_t test_write(int file, const void *data, size_t size) {
+    return is_interrupted() ? -1 : write(file, data, piece_of(size));
+}
+
+static ssize_t test_read(int file, void *data, size_t size) {
+    return is_interrupted() ? -1 : read(file, data, piece_of(size));
+}
+
+static int test_poll(struct pollfd *ends, nfds_t count, int timeout) {
+    return is_interrupted() ? -1 : poll(ends, count, timeout);
+}
+
+static pid_t test_waitpid(pid_t child, int *status, int how) {
+    return is_interrupted() ? -1 : waitpid(child, status, how);
+}
+
+/* Checks that a program which another thread starts now inherits no descriptor that the client has opened. */
+static void check_descriptors(const char *call) {
+    for (int file = 3; file < DESCRIPTORS && watches_descriptors; file++) {
+        int flags = fcntl(file, F_GETFD);
+        if (flags >= 0 && !was_open[file]) check((flags & FD_CLOEXEC) != 0, call, file);
+    }
+}
+
+static int test_pipe2(int ends[2], int flags) {
+    int result = pipe2(ends, flags);
+    check_descriptors("after pipe2");
+    return result;
+}
+
+static pid_t test_fork(void) {
+    check_descriptors("before fork");
+    return fork();
+}
+
+#define malloc test_malloc
+#define calloc test_calloc
+#define realloc test_realloc
+#define write test_write
+#define read test_read
+#define poll(ends, count, timeout) test_poll(ends, count, timeout)
+#define waitpid test_waitpid
+#define pipe2 test_pipe2
+#define fork test_fork
+#include "filser.c"
+#undef malloc
+#undef calloc
+#undef realloc
+#undef write
+#undef read
+#undef poll
+#undef waitpid
+#undef pipe2
+#undef fork
+
+enum { CORE_WORDS = 02000, BLOCK = 0210, LIST = 0400, WORDS = 01000 };
+
+/* A machine with a service, and what every test does with them. */
+struct bench {
+    const char *program, *image;
+    struct filser *service;
+    uint64_t accumulators[16], memory[CORE_WORDS];
+    struct filser_machine machine;
+};
+
+static void prepare(struct bench *bench, const char *program, const char *image) {
+    memset(bench, 0, sizeof *bench);
+    bench->program = program;
+    bench->image = image;
+    bench->machine.job = 1;
+    bench->machine.accumulators = bench->accumulators;
+    bench->machine.words = bench->memory;
+    bench->machine.size = CORE_WORDS;
+    bench->memory[0121] = 0140;
+    bench->memory[BLOCK] = 017;
+    bench->memory[BLOCK + 1] = 0446353000000; /* SIXBIT /DSK/ */
+    bench->memory[LIST] = 0777775000777;      /* three words from 1000 */
+    for (uint64_t place = 0; place < 3; place++) bench->memory[WORDS + place] = 0123456 + place;
+}
+
+static enum filser_error start(struct bench *bench, int shares_group) {
+    struct filser_options options = {.size = sizeof options, .form = 1, .shares_group = shares_group};
+    options.program = bench->program;
+    options.image = bench->image;
+    return filser_start(&options, &bench->service);
+}
+
+static enum filser_error login(struct bench *bench, uint32_t words) {
+    return filser_login(bench->service, 1, 010, 020, words, NULL);
+}
+
+static enum filser_error uuo(struct bench *bench, uint64_t operation, uint32_t address,
+                             struct filser_outcome *outcome) {
+    return filser_uuo(bench->service, &bench->machine, operation << 27 | 1 << 23 | address, address, outcome);
+}
+
+/* Returns whether the service's core has the machine's words. */
+static bool is_same_core(struct bench *bench, size_t size) {
+    struct filser_answer answer;
+    if (filser_examine(bench->service, 1, 0, (uint32_t)size, &answer) != FILSER_OK) return false;
+    for (size_t place = 0; place < size; place++) {
+        uint64_t word = place < 16 ? bench->accumulators[place] : bench->memory[place];
+        if (answer.changes[place].word != word) return false;
+    }
+    return true;
+}
+
+/* Collects orders with many words of answers, and sends them. */
+static enum filser_error send_batch(struct bench *bench, int orders) {
+    const struct filser_answer *answers;
+    size_t count;
+    for (int order = 0; order < orders; order++) {
+        enum filser_error error = filser_add_examine(bench->service, 1, 0, 01000);
+        if (error) return error;
+    }
+    return filser_send(bench->service, &answers, &count);
+}
+
+/* Memory. */
+
+/* Returns whether a step found no memory, and then checks what is promised: either nothing was sent, or every later
+   call finds that the exchange has ended. */
+static bool is_out_of_memory(struct bench *bench, enum filser_error error, long number, bool *ended) {
+    uint64_t blocks;
+    const struct filser_answer *answers;
+    size_t count;
+    if (error == FILSER_OK) return false;
+    check(error == FILSER_OUT_OF_MEMORY, "another error than that there is no memory", number);
+    if (bench->service->order_count > 0 && !bench->service->has_ended)
+        check(filser_send(bench->service, &answers, &count) == FILSER_OK, "what was collected isn't sent", number);
+    *ended = filser_room(bench->service, &blocks) == FILSER_ENDED;
+    if (!*ended) check(filser_room(bench->service, &blocks) == FILSER_OK, "after a lack of memory", number);
+    return true;
+}
+
+/* Does a UUO of a machine that has changed a word, again if there was no memory, and returns whether it was done. */
+static bool do_uuo(struct bench *bench, long number) {
+    struct filser_outcome outcome;
+    bool ended = false;
+    bench->memory[WORDS]++;
+    if (is_out_of_memory(bench, uuo(bench, FILSER_OPEN, BLOCK, &outcome), number, &ended) && !ended)
+        check(uuo(bench, FILSER_OPEN, BLOCK, &outcome) == FILSER_OK, "a second try", number);
+    if (!ended) check(outcome.kind == FILSER_DONE && outcome.advance == 2, "the outcome", number);
+    return !ended;
+}
+
+/* Logs in a second time with another core. Without memory the first login is as it was. */
+static bool log_in_again(struct bench *bench, long number) {
+    bool ended = false;
+    if (!is_out_of_memory(bench, login(bench, CORE_WORDS), number, &ended)) return true;
+    if (ended) return false;
+    check(is_same_core(bench, 01000), "the core after a login without memory", number);
+    check(login(bench, CORE_WORDS) == FILSER_OK, "a login again", number);
+    return true;
+}
+
+/* Plays with one allocation refused, and returns whether it came to that. */
+static bool play_without(const char *program, const char *image, long number) {
+    struct bench bench;
+    bool ended = false, was_reached = true;
+    prepare(&bench, program, image);
+    until_refused = number;
+    enum filser_error error = start(&bench, 0);
+    if (error) {
+        check(error == FILSER_OUT_OF_MEMORY, "a start without memory", number);
+    } else {
+        if (is_out_of_memory(&bench, login(&bench, 01000), number, &ended) && !ended)
+            check(login(&bench, 01000) == FILSER_OK, "a first login again", number);
+        bool goes_on = !ended && do_uuo(&bench, number) && log_in_again(&bench, number) && do_uuo(&bench, number);
+        if (goes_on && is_out_of_memory(&bench, send_batch(&bench, 200), number, &ended)) goes_on = !ended;
+        was_reached = until_refused == NEVER;
+        until_refused = NEVER;
+        if (goes_on) check(is_same_core(&bench, CORE_WORDS), "the core at the end", number);
+    }
+    until_refused = NEVER;
+    filser_stop(bench.service);
+    return was_reached;
+}
+
+static void test_memory(const char *program, const char *image) {
+    long number = 0;
+    while (play_without(program, image, number)) number++;
+    check(number > 10, "there are allocations to refuse", number);
+}
+
+/* Signals. */
+
+static volatile sig_atomic_t signals;
+
+static void count_signal(int number) {
+    (void)number;
+    signals++;
+}
+
+/* Plays with one system call interrupted, and returns whether it came to that. */
+static bool play_interrupted(const char *program, const char *image, long number, int orders) {
+    struct bench bench;
+    struct filser_outcome outcome;
+    prepare(&bench, program, image);
+    check(start(&bench, 0) == FILSER_OK, "a start", number);
+    until_interrupted = number;
+    check(login(&bench, CORE_WORDS) == FILSER_OK, "a login", number);
+    check(uuo(&bench, FILSER_OPEN, BLOCK, &outcome) == FILSER_OK && outcome.advance == 2, "a UUO", number);
+    check(send_batch(&bench, orders) == FILSER_OK, "a batch", number);
+    check(is_same_core(&bench, CORE_WORDS), "the core", number);
+    check(filser_stop(bench.service) == 0, "a stop", number);
+    bool was_reached = until_interrupted == NEVER;
+    until_interrupted = NEVER;
+    return was_reached;
+}
+
+static void test_signals(const char *program, const char *image) {
+    struct sigaction action;
+    long number = 0;
+    memset(&action, 0, sizeof action);
+    action.sa_handler = count_signal;
+    sigaction(SIGUSR1, &action, NULL);
+    while (play_interrupted(program, image, number, 200)) number++;
+    check(number > 15 && signals == number, "there are system calls to interrupt", number);
+    for (piece = 1; piece < 8; piece += 6) play_interrupted(program, image, NEVER, 2);
+    piece = NEVER;
+}
+
+/* Descriptors and threads. */
+
+static void test_descriptors(const char *program, const char *image) {
+    struct bench bench;
+    prepare(&bench, program, image);
+    for (int file = 0; file < DESCRIPTORS; file++) was_open[file] = fcntl(file, F_GETFD) >= 0;
+    watches_descriptors = true;
+    check(start(&bench, 0) == FILSER_OK, "a start", 0);
+    check_descriptors("after a start");
+    watches_descriptors = false;
+    check(filser_stop(bench.service) == 0, "a stop", 0);
+    for (int file = 0; file < DESCRIPTORS; file++)
+        if (!was_open[file]) check(fcntl(file, F_GETFD) < 0, "a descriptor is left", file);
+}
+
+struct thread {
+    const char *program;
+    char image[4096];
+    unsigned seed;
+    pthread_t id;
+};
+
+/* Starts a service some times, and each time plays UUOs and deposits on it. */
+static void *serve(void *data) {
+    struct thread *thread = data;
+    struct filser_outcome outcome;
+    struct bench bench;
+    for (int turn = 0; turn < 10; turn++) {
+        prepare(&bench, thread->program, thread->image);
+        check(start(&bench, 0) == FILSER_OK && login(&bench, CORE_WORDS) == FILSER_OK, "a start", turn);
+        for (int step = 0; step < 30; step++) {
+            thread->seed = thread->seed * 1103515245 + 12345;
+            bench.memory[WORDS + thread->seed / 65536 % 01000] = thread->seed;
+            bool is_done = uuo(&bench, FILSER_OPEN, BLOCK, &outcome) == FILSER_OK && outcome.advance == 2;
+            check(is_done && is_same_core(&bench, CORE_WORDS), "a UUO", step);
+        }
+        check(filser_stop(bench.service) == 0, "a stop", turn);
+    }
+    return NULL;
+}
+
+/* Starts programs that live on: one that inherited a pipe's end would keep a service from its end. */
+static void *start_others(void *data) {
+    pid_t *children = data;
+    for (int place = 0; place < 40; place++) {
+        children[place] = fork();
+        if (children[place] == 0) {
+            execlp("sleep", "sleep", "1000", (char *)NULL);
+            _exit(127);
+        }
+        const struct timespec pause = {0, 3000000};
+        nanosleep(&pause, NULL);
+    }
+    return NULL;
+}
+
+static void test_threads(const char *program, const char *image) {
+    static struct thread threads[2];
+    static pid_t children[40];
+    pthread_t forking;
+    for (unsigned place = 0; place < 2; place++) {
+        threads[place].program = program;
+        threads[place].seed = place;
+        snprintf(threads[place].image, sizeof threads[place].image, "%s.%u", image, place);
+        pthread_create(&threads[place].id, NULL, serve, &threads[place]);
+    }
+    pthread_create(&forking, NULL, start_others, children);
+    for (int place = 0; place < 2; place++) pthread_join(threads[place].id, NULL);
+    pthread_join(forking, NULL);
+    for (int place = 0; place < 40; place++) {
+        if (children[place] <= 0) continue;
+        kill(children[place], SIGKILL);
+        waitpid(children[place], NULL, 0);
+    }
+}
+
+/* The terminal, and a stop. */
+
+static void test_group(const char *program, const char *image, int shares_group) {
+    struct bench bench;
+    struct sigaction action;
+    uint64_t blocks;
+    memset(&action, 0, sizeof action);
+    action.sa_handler = count_signal;
+    sigaction(SIGINT, &action, NULL);
+    setpgid(0, 0);
+    prepare(&bench, program, image);
+    check(start(&bench, shares_group) == FILSER_OK, "a start", shares_group);
+    kill(0, SIGINT);
+    if (shares_group) {
+        siginfo_t ended;
+        waitid(P_PID, (id_t)bench.service->child, &ended, WEXITED | WNOWAIT);
+    }
+    enum filser_error wanted = shares_group ? FILSER_ENDED : FILSER_OK;
+    check(filser_room(bench.service, &blocks) == wanted, "after SIGINT", shares_group);
+    check(filser_stop(bench.service) == (shares_group ? -SIGINT : 0), "the status", shares_group);
+}
+
+/* Stops a service that has more answers to write than a pipe takes, and one that doesn't answer in time. */
+static void test_stop(const char *program, const char *image) {
+    struct bench bench;
+    uint64_t blocks;
+    prepare(&bench, program, image);
+    check(start(&bench, 0) == FILSER_OK && login(&bench, CORE_WORDS) == FILSER_OK, "a start", 0);
+    for (int order = 0; order < 200; order++) filser_add_examine(bench.service, 1, 0, CORE_WORDS);
+    const struct bytes *orders = &bench.service->sending;
+    check(write(bench.service->to, orders->data, orders->length) == (ssize_t)orders->length, "orders", 0);
+    check(filser_stop(bench.service) == 4, "the status of a service with unread answers", 0);
+
+    prepare(&bench, program, image);
+    check(start(&bench, 0) == FILSER_OK, "a start", 1);
+    kill(bench.service->child, SIGSTOP);
+    bench.service->timeout = 50;
+    check(filser_room(bench.service, &blocks) == FILSER_TIMED_OUT, "a service that was stopped", 0);
+    check(filser_room(bench.service, &blocks) == FILSER_ENDED, "after a timeout", 0);
+    check(filser_stop(bench.service) == -SIGKILL, "it is killed", 0);
+}
+
+int main(int count, char **words) {
+    if (count < 4) return 2;
+    if (strcmp(words[1], "memory") == 0) test_memory(words[2], words[3]);
+    if (strcmp(words[1], "signals") == 0) test_signals(words[2], words[3]);
+    if (strcmp(words[1], "descriptors") == 0) test_descriptors(words[2], words[3]);
+    if (strcmp(words[1], "threads") == 0) test_threads(words[2], words[3]);
+    if (strcmp(words[1], "stop") == 0) test_stop(words[2], words[3]);
+    if (strcmp(words[1], "group") == 0 && count == 5) test_group(words[2], words[3], atoi(words[4]));
+    printf("%d %d\n", checks, failures);
+    return 0;
+}
