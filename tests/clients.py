@@ -102,11 +102,11 @@ class Tries:
                               timeout=LIMIT, **how)
         return done.stdout, done.returncode
 
-    def play(self, client, image, lines, form=1, program=None, timeout=0):
+    def play(self, client, image, lines, form=1, program=None, timeout=0, folder=None):
         """Returns what the player of a client answers to lines."""
         words = [*self.players[client], program or self.program, image, str(form), str(timeout)]
         done = subprocess.run(words, input="\n".join([*lines, ""]), capture_output=True, text=True, check=False,
-                              timeout=LIMIT)
+                              timeout=LIMIT, cwd=folder)
         return done.stdout.split("\n")[:-1]
 
     def play_rows(self, name, rows, layout=1):
@@ -218,13 +218,17 @@ def statuses(tries):
     found = tries.wire(image, made + LOGIN, preexec_fn=without_writes)
     # After DEVICE there is no longer a core to send.
     tries.same("a disk that can't be written", found, (DONE + DONE + answer(9) + answer(10), 4))
-    missing = os.path.join(tries.folder, "MISSING.IMG")
+    missing, hyphen = os.path.join(tries.folder, "MISSING.IMG"), tries.image("-x.img")
     for client in tries.players:
-        tries.same(f"another form, {client}", tries.play(client, image, [], 2), ["ERROR NOT_STARTED 3 ?Not a volume"])
-        tries.same(f"no image, {client}", tries.play(client, missing, []), ["ERROR NOT_STARTED 4 ?Device fault"])
+        tries.same(f"another form, {client}", tries.play(client, image, [], 2), ["ERROR IMAGE_REFUSED 3 ?Not a volume"])
+        tries.same(f"no image, {client}", tries.play(client, missing, []), ["ERROR IMAGE_REFUSED 4 ?Device fault"])
+        found = tries.play(client, image, [], program=os.path.join(tries.folder, "missing"))
+        tries.same(f"no program, {client}", found[0].split()[:2], ["ERROR", "NOT_FOUND"])
+        found = tries.play(client, "-x.img", ["ROOM"], folder=os.path.dirname(hyphen))
+        tries.same(f"an image with a hyphen, {client}", found, ["ROOM 48"])
         with Service(tries.program, image):
             found = tries.play(client, image, [])
-        tries.same(f"an image that is served, {client}", found, ["ERROR NOT_STARTED 4 ?Device fault"])
+        tries.same(f"an image that is served, {client}", found, ["ERROR IN_USE 4 ?Device fault"])
         found = tries.play(client, image, ["ROOM", "STOP", "ROOM", "1 LOGIN 10,20 1000"])
         tries.same(f"stop, {client}", found, ["ROOM 48", "STATUS 0", "ERROR ENDED", "ERROR ENDED"])
 
@@ -278,7 +282,9 @@ IMPOSTORS = [
     ("order; answer; order; printf '\\014'; exit 0", ["ERROR ENDED", "ERROR ENDED", "STATUS 0"]),
     ("order; exec <&-; answer; sleep 1; exit 6", ["ERROR ENDED", "ERROR ENDED", "STATUS 6"]),
     ("order; answer; order; echo '?This is no answer'", ["ERROR PROTOCOL", "ERROR ENDED", "STATUS 0"]),
-    ("echo '?No answer'; exit 3", ["ERROR NOT_STARTED 3 ?No answer"]),
+    ("echo '?No answer'; exit 3", ["ERROR IMAGE_REFUSED 3 ?No answer"]),
+    ("echo 'No answer'; exit 3", ["ERROR NOT_STARTED 3 No answer"]),
+    ("exit 7", ["ERROR NOT_STARTED 7 "]),
 ]
 IMPOSTOR = """#!/bin/sh
 order() { dd bs=16 count=1 of=/dev/null 2>/dev/null; }

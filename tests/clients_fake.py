@@ -1,7 +1,7 @@
 #!/usr/bin/env python3
 """A service that speaks the wire and breaks one rule of it, for tests of the clients.
 
-usage: clients_fake.py wire RULE ..
+usage: clients_fake.py wire .. RULE
 
 RULE, in the place of the image, says which one: see RULES. Except for that the service has one job, whose core takes
 deposits and is examined; each call is DONE, and there are 48 blocks.
@@ -121,4 +121,4 @@ def main(rule):
 
 
 if __name__ == "__main__":
-    main(sys.argv[2])
+    main(sys.argv[-1])

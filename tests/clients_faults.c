@@ -154,7 +154,7 @@ static enum filser_error uuo(struct bench *bench, uint64_t operation, uint32_t a
 /* Returns whether the service's core has the machine's words. */
 static bool is_same_core(struct bench *bench, size_t size) {
     struct filser_answer answer;
-    if (filser_examine(bench->service, 1, 0, (uint32_t)size, &answer) != FILSER_OK) return false;
+    if (filser_examine(bench->service, 1, 0, (uint32_t)size, &answer) != FILSER_ERROR_NONE) return false;
     for (size_t place = 0; place < size; place++) {
         uint64_t word = place < 16 ? bench->accumulators[place] : bench->memory[place];
         if (answer.changes[place].word != word) return false;
@@ -181,12 +181,14 @@ static bool is_out_of_memory(struct bench *bench, enum filser_error error, long 
     uint64_t blocks;
     const struct filser_answer *answers;
     size_t count;
-    if (error == FILSER_OK) return false;
-    check(error == FILSER_OUT_OF_MEMORY, "another error than that there is no memory", number);
+    if (error == FILSER_ERROR_NONE) return false;
+    bool is_lost = error == FILSER_ERROR_LOST;
+    check(is_lost || error == FILSER_ERROR_NO_MEMORY, "another error than that there is no memory", number);
     if (bench->service->order_count > 0 && !bench->service->has_ended)
-        check(filser_send(bench->service, &answers, &count) == FILSER_OK, "what was collected isn't sent", number);
-    *ended = filser_room(bench->service, &blocks) == FILSER_ENDED;
-    if (!*ended) check(filser_room(bench->service, &blocks) == FILSER_OK, "after a lack of memory", number);
+        check(filser_send(bench->service, &answers, &count) == FILSER_ERROR_NONE, "what was collected", number);
+    *ended = filser_room(bench->service, &blocks) == FILSER_ERROR_ENDED;
+    check(*ended == is_lost, "whether the service has ended", number);
+    if (!*ended) check(filser_room(bench->service, &blocks) == FILSER_ERROR_NONE, "after a lack of memory", number);
     return true;
 }
 
@@ -195,9 +197,9 @@ static bool do_uuo(struct bench *bench, long number) {
     struct filser_outcome outcome;
     bool ended = false;
     bench->memory[WORDS]++;
-    if (is_out_of_memory(bench, uuo(bench, FILSER_OPEN, BLOCK, &outcome), number, &ended) && !ended)
-        check(uuo(bench, FILSER_OPEN, BLOCK, &outcome) == FILSER_OK, "a second try", number);
-    if (!ended) check(outcome.kind == FILSER_DONE && outcome.advance == 2, "the outcome", number);
+    if (is_out_of_memory(bench, uuo(bench, FILSER_CALL_OPEN, BLOCK, &outcome), number, &ended) && !ended)
+        check(uuo(bench, FILSER_CALL_OPEN, BLOCK, &outcome) == FILSER_ERROR_NONE, "a second try", number);
+    if (!ended) check(outcome.kind == FILSER_ANSWER_DONE && outcome.advance == 2, "the outcome", number);
     return !ended;
 }
 
@@ -207,7 +209,7 @@ static bool log_in_again(struct bench *bench, long number) {
     if (!is_out_of_memory(bench, login(bench, CORE_WORDS), number, &ended)) return true;
     if (ended) return false;
     check(is_same_core(bench, 01000), "the core after a login without memory", number);
-    check(login(bench, CORE_WORDS) == FILSER_OK, "a login again", number);
+    check(login(bench, CORE_WORDS) == FILSER_ERROR_NONE, "a login again", number);
     return true;
 }
 
@@ -219,10 +221,10 @@ static bool play_without(const char *program, const char *image, long number) {
     until_refused = number;
     enum filser_error error = start(&bench, 0);
     if (error) {
-        check(error == FILSER_OUT_OF_MEMORY, "a start without memory", number);
+        check(error == FILSER_ERROR_NO_MEMORY || error == FILSER_ERROR_LOST, "a start without memory", number);
     } else {
         if (is_out_of_memory(&bench, login(&bench, 01000), number, &ended) && !ended)
-            check(login(&bench, 01000) == FILSER_OK, "a first login again", number);
+            check(login(&bench, 01000) == FILSER_ERROR_NONE, "a first login again", number);
         bool goes_on = !ended && do_uuo(&bench, number) && log_in_again(&bench, number) && do_uuo(&bench, number);
         if (goes_on && is_out_of_memory(&bench, send_batch(&bench, 200), number, &ended)) goes_on = !ended;
         was_reached = until_refused == NEVER;
@@ -254,11 +256,11 @@ static bool play_interrupted(const char *program, const char *image, long number
     struct bench bench;
     struct filser_outcome outcome;
     prepare(&bench, program, image);
-    check(start(&bench, 0) == FILSER_OK, "a start", number);
+    check(start(&bench, 0) == FILSER_ERROR_NONE, "a start", number);
     until_interrupted = number;
-    check(login(&bench, CORE_WORDS) == FILSER_OK, "a login", number);
-    check(uuo(&bench, FILSER_OPEN, BLOCK, &outcome) == FILSER_OK && outcome.advance == 2, "a UUO", number);
-    check(send_batch(&bench, orders) == FILSER_OK, "a batch", number);
+    check(login(&bench, CORE_WORDS) == FILSER_ERROR_NONE, "a login", number);
+    check(uuo(&bench, FILSER_CALL_OPEN, BLOCK, &outcome) == FILSER_ERROR_NONE && outcome.advance == 2, "a UUO", number);
+    check(send_batch(&bench, orders) == FILSER_ERROR_NONE, "a batch", number);
     check(is_same_core(&bench, CORE_WORDS), "the core", number);
     check(filser_stop(bench.service) == 0, "a stop", number);
     bool was_reached = until_interrupted == NEVER;
@@ -285,7 +287,7 @@ static void test_descriptors(const char *program, const char *image) {
     prepare(&bench, program, image);
     for (int file = 0; file < DESCRIPTORS; file++) was_open[file] = fcntl(file, F_GETFD) >= 0;
     watches_descriptors = true;
-    check(start(&bench, 0) == FILSER_OK, "a start", 0);
+    check(start(&bench, 0) == FILSER_ERROR_NONE, "a start", 0);
     check_descriptors("after a start");
     watches_descriptors = false;
     check(filser_stop(bench.service) == 0, "a stop", 0);
@@ -307,11 +309,11 @@ static void *serve(void *data) {
     struct bench bench;
     for (int turn = 0; turn < 10; turn++) {
         prepare(&bench, thread->program, thread->image);
-        check(start(&bench, 0) == FILSER_OK && login(&bench, CORE_WORDS) == FILSER_OK, "a start", turn);
+        check(start(&bench, 0) == FILSER_ERROR_NONE && login(&bench, CORE_WORDS) == FILSER_ERROR_NONE, "a start", turn);
         for (int step = 0; step < 30; step++) {
             thread->seed = thread->seed * 1103515245 + 12345;
             bench.memory[WORDS + thread->seed / 65536 % 01000] = thread->seed;
-            bool is_done = uuo(&bench, FILSER_OPEN, BLOCK, &outcome) == FILSER_OK && outcome.advance == 2;
+            bool is_done = uuo(&bench, FILSER_CALL_OPEN, BLOCK, &outcome) == FILSER_ERROR_NONE && outcome.advance == 2;
             check(is_done && is_same_core(&bench, CORE_WORDS), "a UUO", step);
         }
         check(filser_stop(bench.service) == 0, "a stop", turn);
@@ -365,13 +367,13 @@ static void test_group(const char *program, const char *image, int shares_group)
     sigaction(SIGINT, &action, NULL);
     setpgid(0, 0);
     prepare(&bench, program, image);
-    check(start(&bench, shares_group) == FILSER_OK, "a start", shares_group);
+    check(start(&bench, shares_group) == FILSER_ERROR_NONE, "a start", shares_group);
     kill(0, SIGINT);
     if (shares_group) {
         siginfo_t ended;
         waitid(P_PID, (id_t)bench.service->child, &ended, WEXITED | WNOWAIT);
     }
-    enum filser_error wanted = shares_group ? FILSER_ENDED : FILSER_OK;
+    enum filser_error wanted = shares_group ? FILSER_ERROR_ENDED : FILSER_ERROR_NONE;
     check(filser_room(bench.service, &blocks) == wanted, "after SIGINT", shares_group);
     check(filser_stop(bench.service) == (shares_group ? -SIGINT : 0), "the status", shares_group);
 }
@@ -381,18 +383,18 @@ static void test_stop(const char *program, const char *image) {
     struct bench bench;
     uint64_t blocks;
     prepare(&bench, program, image);
-    check(start(&bench, 0) == FILSER_OK && login(&bench, CORE_WORDS) == FILSER_OK, "a start", 0);
+    check(start(&bench, 0) == FILSER_ERROR_NONE && login(&bench, CORE_WORDS) == FILSER_ERROR_NONE, "a start", 0);
     for (int order = 0; order < 200; order++) filser_add_examine(bench.service, 1, 0, CORE_WORDS);
     const struct bytes *orders = &bench.service->sending;
     check(write(bench.service->to, orders->data, orders->length) == (ssize_t)orders->length, "orders", 0);
     check(filser_stop(bench.service) == 4, "the status of a service with unread answers", 0);
 
     prepare(&bench, program, image);
-    check(start(&bench, 0) == FILSER_OK, "a start", 1);
+    check(start(&bench, 0) == FILSER_ERROR_NONE, "a start", 1);
     kill(bench.service->child, SIGSTOP);
     bench.service->timeout = 50;
-    check(filser_room(bench.service, &blocks) == FILSER_TIMED_OUT, "a service that was stopped", 0);
-    check(filser_room(bench.service, &blocks) == FILSER_ENDED, "after a timeout", 0);
+    check(filser_room(bench.service, &blocks) == FILSER_ERROR_TIMED_OUT, "a service that was stopped", 0);
+    check(filser_room(bench.service, &blocks) == FILSER_ERROR_ENDED, "after a timeout", 0);
     check(filser_stop(bench.service) == -SIGKILL, "it is killed", 0);
 }
 

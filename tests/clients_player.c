@@ -5,6 +5,7 @@
 #include "filser.h"
 
 #include <inttypes.h>
+#include <stdbool.h>
 #include <stdio.h>
 #include <stdlib.h>
 #include <string.h>
@@ -30,26 +31,27 @@ static uint64_t accumulators[16], memory[MOST_WORDS], was[MOST_WORDS], *pages[MO
 static struct filser_machine machine = {.accumulators = accumulators, .words = memory};
 static struct line batch[MOST_LINES];
 
-static const struct { const char *name; enum filser_code code; int parts; } CALLS[] = {
-    {"MAKDIR", FILSER_MAKDIR, 1}, {"REMDIR", FILSER_REMDIR, 1}, {"QUOTA", FILSER_QUOTA, 1},
-    {"RESET", FILSER_RESET, 0},   {"OPEN", FILSER_OPEN, 2},     {"RENAME", FILSER_RENAME, 2},
-    {"IN", FILSER_IN, 2},         {"OUT", FILSER_OUT, 2},       {"GETSTS", FILSER_GETSTS, 2},
-    {"INBUF", FILSER_INBUF, 2},   {"OUTBUF", FILSER_OUTBUF, 2}, {"CLOSE", FILSER_CLOSE, 2},
-    {"RELEAS", FILSER_RELEAS, 2}, {"USETI", FILSER_USETI, 2},   {"USETO", FILSER_USETO, 2},
-    {"LOOKUP", FILSER_LOOKUP, 2}, {"ENTER", FILSER_ENTER, 2},
+static const struct { const char *name; enum filser_call_code code; int parts; } CALLS[] = {
+    {"MAKDIR", FILSER_CALL_MAKDIR, 1}, {"REMDIR", FILSER_CALL_REMDIR, 1}, {"QUOTA", FILSER_CALL_QUOTA, 1},
+    {"RESET", FILSER_CALL_RESET, 0},   {"OPEN", FILSER_CALL_OPEN, 2},     {"RENAME", FILSER_CALL_RENAME, 2},
+    {"IN", FILSER_CALL_IN, 2},         {"OUT", FILSER_CALL_OUT, 2},       {"GETSTS", FILSER_CALL_GETSTS, 2},
+    {"INBUF", FILSER_CALL_INBUF, 2},   {"OUTBUF", FILSER_CALL_OUTBUF, 2}, {"CLOSE", FILSER_CALL_CLOSE, 2},
+    {"RELEAS", FILSER_CALL_RELEAS, 2}, {"USETI", FILSER_CALL_USETI, 2},   {"USETO", FILSER_CALL_USETO, 2},
+    {"LOOKUP", FILSER_CALL_LOOKUP, 2}, {"ENTER", FILSER_CALL_ENTER, 2},
 };
 
-static const char *const ERRORS[] = {"OK", "BAD_ARGUMENT", "BAD_WORD", "NOT_LOGGED_IN", "NOT_SENT", "SHORT_MEMORY",
-                                     "OUT_OF_MEMORY", "NOT_STARTED", "ENDED", "PROTOCOL", "TIMED_OUT"};
+static const char *const ERRORS[] = {"NONE", "BAD_ARGUMENT", "BAD_WORD", "NOT_LOGGED_IN", "NOT_SENT", "SHORT_MEMORY",
+                                     "NO_MEMORY", "LOST", "NOT_FOUND", "IN_USE", "IMAGE_REFUSED", "NOT_STARTED",
+                                     "ENDED", "PROTOCOL", "TIMED_OUT"};
 
-static void print_answer(enum filser_kind kind, uint64_t value) {
+static void print_answer(enum filser_answer_kind kind, uint64_t value) {
     static const char *const texts[] = {"WRONG", "DONE", "", "", "", "NOCHANNEL", "ADDRESS", "NOJOB", "NOMEMORY",
                                         "DEVICE", "FAILED", "DATE", ""};
     switch (kind) {
-    case FILSER_VALUE: printf("VALUE %012" PRIo64, value); break;
-    case FILSER_REFUSED: printf("REFUSED %" PRIo64, value); break;
-    case FILSER_STOPPED: printf("STOPPED %06" PRIo64, value); break;
-    case FILSER_ROOM: printf("ROOM %" PRIu64, value); break;
+    case FILSER_ANSWER_VALUE: printf("VALUE %012" PRIo64, value); break;
+    case FILSER_ANSWER_REFUSED: printf("REFUSED %" PRIo64, value); break;
+    case FILSER_ANSWER_STOPPED: printf("STOPPED %06" PRIo64, value); break;
+    case FILSER_ANSWER_ROOM: printf("ROOM %" PRIu64, value); break;
     default: printf("%s", texts[kind]);
     }
 }
@@ -92,13 +94,13 @@ static enum filser_error add(const struct line *line) {
             return filser_add_call(service, line->job, CALLS[place].code, channel,
                                    (uint32_t)numbers[CALLS[place].parts < 2 ? 0 : 1], machine.date, machine.minute);
         }
-    return FILSER_BAD_ARGUMENT;
+    return FILSER_ERROR_BAD_ARGUMENT;
 }
 
 /* Prints the answer to the order of a line, and repeats its changes in the copy of a core. */
 static void print_reply(const struct line *line, const struct filser_answer *answer) {
     struct core *core = &cores[line->job];
-    if (answer->kind == FILSER_DONE && strcmp(line->name, "LOGIN") == 0) {
+    if (answer->kind == FILSER_ANSWER_DONE && strcmp(line->name, "LOGIN") == 0) {
         machine.size = core->size = line->numbers[2];
         memset(memory, 0, sizeof memory);
         free(core->words);
@@ -106,9 +108,10 @@ static void print_reply(const struct line *line, const struct filser_answer *ans
         if (core->words == NULL) exit(4);
         core->words[0121] = 0140;
     }
-    if (answer->kind == FILSER_DONE && strcmp(line->name, "DEP") == 0) core->words[line->numbers[0]] = line->numbers[1];
-    if (answer->kind == FILSER_DONE && strcmp(line->name, "EXA") == 0)
-        print_answer(FILSER_VALUE, answer->changes[0].word);
+    bool is_done = answer->kind == FILSER_ANSWER_DONE;
+    if (is_done && strcmp(line->name, "DEP") == 0) core->words[line->numbers[0]] = line->numbers[1];
+    if (is_done && strcmp(line->name, "EXA") == 0)
+        print_answer(FILSER_ANSWER_VALUE, answer->changes[0].word);
     else
         print_answer(answer->kind, answer->value);
 }
@@ -160,7 +163,7 @@ static void play_order(const struct line *line) {
 static void play_batch(size_t lines) {
     const struct filser_answer *answers;
     size_t count;
-    enum filser_error error = FILSER_OK;
+    enum filser_error error = FILSER_ERROR_NONE;
     for (size_t place = 0; place < lines; place++) {
         if (fgets(batch[place].text, sizeof batch[place].text, stdin) == NULL) exit(4);
         parse(&batch[place]);
@@ -209,7 +212,7 @@ static void play_uuo(const struct line *line) {
 static void play_room(void) {
     uint64_t blocks;
     if (print_error(filser_room(service, &blocks))) return;
-    print_answer(FILSER_ROOM, blocks);
+    print_answer(FILSER_ANSWER_ROOM, blocks);
     printf("\n");
 }
 
@@ -227,7 +230,7 @@ static void play(struct line *line) {
         printf("STATUS %d\n", filser_stop(service));
         service = NULL;
     } else if (service == NULL) {
-        print_error(FILSER_ENDED);
+        print_error(FILSER_ERROR_ENDED);
     } else if (sscanf(line->text, "BATCH %lu", &count) == 1 && count <= MOST_LINES) {
         play_batch(count);
     } else if (strcmp(line->name, "ROOM") == 0) {

@@ -12,6 +12,7 @@
 #include <stdio.h>
 #include <stdlib.h>
 #include <string.h>
+#include <sys/file.h>
 #include <sys/types.h>
 #include <sys/wait.h>
 #include <time.h>
@@ -152,8 +153,8 @@ static enum filser_error add_order(struct filser *service, const unsigned char p
                                    uint32_t detail, const uint64_t *words, size_t count) {
     struct bytes *sending = &service->sending;
     for (size_t place = 0; place < count; place++)
-        if (words[place] >= WORD_LIMIT) return FILSER_BAD_WORD;
-    if (!reserve(sending, RECORD_BYTES + 8 * count) || !reserve_order(service)) return FILSER_OUT_OF_MEMORY;
+        if (words[place] >= WORD_LIMIT) return FILSER_ERROR_BAD_WORD;
+    if (!reserve(sending, RECORD_BYTES + 8 * count) || !reserve_order(service)) return FILSER_ERROR_NO_MEMORY;
     for (int place = 0; place < 4; place++) append_number(sending, parts[place], 1);
     append_number(sending, number, 4);
     append_number(sending, detail, 4);
@@ -161,19 +162,19 @@ static enum filser_error add_order(struct filser *service, const unsigned char p
     struct order order = {parts[0], parts[1], parts[2], number, detail, sending->length, count, NULL};
     service->orders[service->order_count++] = order;
     for (size_t place = 0; place < count; place++) append_number(sending, words[place], 8);
-    return FILSER_OK;
+    return FILSER_ERROR_NONE;
 }
 
 static bool is_half(uint32_t number) { return number >= 1 && number < CORE_LIMIT; }
 
 enum filser_error filser_add_login(struct filser *service, unsigned job, uint32_t project, uint32_t programmer,
                                    uint32_t words) {
-    if (job >= JOBS || !is_half(project) || !is_half(programmer)) return FILSER_BAD_ARGUMENT;
+    if (job >= JOBS || !is_half(project) || !is_half(programmer)) return FILSER_ERROR_BAD_ARGUMENT;
     const unsigned char parts[4] = {LOGIN, 0, (unsigned char)job, 0};
     const uint64_t owner = (uint64_t)project << 18 | programmer;
     bool is_size = words >= LEAST_CORE && words <= MOST_CORE; /* else the service refuses it */
     struct core *core = is_size ? new_core(words) : NULL;
-    if (is_size && core == NULL) return FILSER_OUT_OF_MEMORY;
+    if (is_size && core == NULL) return FILSER_ERROR_NO_MEMORY;
     enum filser_error error = add_order(service, parts, words, 0, &owner, 1);
     if (error)
         free_core(core);
@@ -184,44 +185,45 @@ enum filser_error filser_add_login(struct filser *service, unsigned job, uint32_
 
 enum filser_error filser_add_deposit(struct filser *service, unsigned job, uint32_t address, const uint64_t *words,
                                      size_t count) {
-    if (job >= JOBS || address > CORE_LIMIT || count > CORE_LIMIT - address) return FILSER_BAD_ARGUMENT;
+    if (job >= JOBS || address > CORE_LIMIT || count > CORE_LIMIT - address) return FILSER_ERROR_BAD_ARGUMENT;
     const unsigned char parts[4] = {DEPOSIT, 0, (unsigned char)job, 0};
     return add_order(service, parts, address, 0, words, count);
 }
 
 enum filser_error filser_add_examine(struct filser *service, unsigned job, uint32_t address, uint32_t count) {
-    if (job >= JOBS || address > CORE_LIMIT || count > CORE_LIMIT - address) return FILSER_BAD_ARGUMENT;
+    if (job >= JOBS || address > CORE_LIMIT || count > CORE_LIMIT - address) return FILSER_ERROR_BAD_ARGUMENT;
     const unsigned char parts[4] = {EXAMINE, 0, (unsigned char)job, 0};
     return add_order(service, parts, address, count, NULL, 0);
 }
 
 /* Returns whether a call has these parts: one that it doesn't use is 0. */
-static bool is_call(enum filser_code code, unsigned channel, uint32_t number) {
+static bool is_call(enum filser_call_code code, unsigned channel, uint32_t number) {
     switch (code) {
-    case FILSER_MAKDIR:
-    case FILSER_REMDIR:
-    case FILSER_QUOTA: return channel == 0;
-    case FILSER_RESET: return channel == 0 && number == 0;
-    case FILSER_GETSTS:
-    case FILSER_RELEAS: return channel < 256 && number == 0;
-    case FILSER_OPEN:
-    case FILSER_RENAME:
-    case FILSER_IN:
-    case FILSER_OUT:
-    case FILSER_INBUF:
-    case FILSER_OUTBUF:
-    case FILSER_CLOSE:
-    case FILSER_USETI:
-    case FILSER_USETO:
-    case FILSER_LOOKUP:
-    case FILSER_ENTER: return channel < 256;
+    case FILSER_CALL_MAKDIR:
+    case FILSER_CALL_REMDIR:
+    case FILSER_CALL_QUOTA: return channel == 0;
+    case FILSER_CALL_RESET: return channel == 0 && number == 0;
+    case FILSER_CALL_GETSTS:
+    case FILSER_CALL_RELEAS: return channel < 256 && number == 0;
+    case FILSER_CALL_OPEN:
+    case FILSER_CALL_RENAME:
+    case FILSER_CALL_IN:
+    case FILSER_CALL_OUT:
+    case FILSER_CALL_INBUF:
+    case FILSER_CALL_OUTBUF:
+    case FILSER_CALL_CLOSE:
+    case FILSER_CALL_USETI:
+    case FILSER_CALL_USETO:
+    case FILSER_CALL_LOOKUP:
+    case FILSER_CALL_ENTER: return channel < 256;
     }
     return false;
 }
 
-enum filser_error filser_add_call(struct filser *service, unsigned job, enum filser_code code, unsigned channel,
+enum filser_error filser_add_call(struct filser *service, unsigned job, enum filser_call_code code, unsigned channel,
                                   uint32_t number, unsigned date, unsigned minute) {
-    if (job >= JOBS || !is_call(code, channel, number) || date >= 32768 || minute >= 1440) return FILSER_BAD_ARGUMENT;
+    if (job >= JOBS || !is_call(code, channel, number)) return FILSER_ERROR_BAD_ARGUMENT;
+    if (date >= 32768 || minute >= 1440) return FILSER_ERROR_BAD_ARGUMENT;
     const unsigned char parts[4] = {CALL, (unsigned char)code, (unsigned char)job, (unsigned char)channel};
     return add_order(service, parts, number, (uint32_t)date << 16 | minute, NULL, 0);
 }
@@ -262,27 +264,28 @@ static size_t write_orders(struct filser *service, size_t written) {
 }
 
 static enum filser_error read_answers(struct filser *service) {
-    if (!reserve(&service->held, PIECE_BYTES)) return FILSER_OUT_OF_MEMORY;
+    if (!reserve(&service->held, PIECE_BYTES)) return FILSER_ERROR_LOST;
     ssize_t count = read(service->from, service->held.data + service->held.length, PIECE_BYTES);
     if (count > 0) {
         service->held.length += (size_t)count;
-        return FILSER_OK;
+        return FILSER_ERROR_NONE;
     }
-    return count < 0 && (errno == EAGAIN || errno == EWOULDBLOCK || errno == EINTR) ? FILSER_OK : FILSER_ENDED;
+    bool comes_later = count < 0 && (errno == EAGAIN || errno == EWOULDBLOCK || errno == EINTR);
+    return comes_later ? FILSER_ERROR_NONE : FILSER_ERROR_ENDED;
 }
 
 /* Steps over the complete answers that were read after `*place`, and counts them and the words that they return. */
 static enum filser_error count_answers(const struct bytes *held, size_t *place, size_t *answers, size_t *words) {
     while (held->length - *place >= RECORD_BYTES) {
         const unsigned char *record = held->data + *place;
-        if (record[0] > FILSER_ROOM || record[1] || record[2] || record[3]) return FILSER_PROTOCOL;
+        if (record[0] > FILSER_ANSWER_ROOM || record[1] || record[2] || record[3]) return FILSER_ERROR_PROTOCOL;
         size_t count = (size_t)number_at(record + 12, 4);
-        if ((held->length - *place - RECORD_BYTES) / 8 < count) return FILSER_OK;
+        if ((held->length - *place - RECORD_BYTES) / 8 < count) return FILSER_ERROR_NONE;
         *place += RECORD_BYTES + 8 * count;
         *answers += 1;
         *words += count;
     }
-    return FILSER_OK;
+    return FILSER_ERROR_NONE;
 }
 
 static int64_t milliseconds(void) {
@@ -302,9 +305,9 @@ static int time_left(const struct filser *service, int64_t deadline) {
 static enum filser_error check_silence(struct filser *service) {
     struct pollfd end = {service->from, POLLIN, 0};
     service->held.length = 0;
-    if (poll(&end, 1, 0) <= 0) return FILSER_OK;
+    if (poll(&end, 1, 0) <= 0) return FILSER_ERROR_NONE;
     enum filser_error error = read_answers(service);
-    return !error && service->held.length > 0 ? FILSER_PROTOCOL : error;
+    return !error && service->held.length > 0 ? FILSER_ERROR_PROTOCOL : error;
 }
 
 /* Writes the orders, and meanwhile reads until each is answered. */
@@ -315,16 +318,16 @@ static enum filser_error exchange(struct filser *service, size_t *words) {
         bool writes = written < service->sending.length;
         struct pollfd ends[2] = {{service->from, POLLIN, 0}, {writes ? service->to : -1, POLLOUT, 0}};
         int ready = poll(ends, 2, time_left(service, deadline));
-        if (ready == 0) return FILSER_TIMED_OUT;
+        if (ready == 0) return FILSER_ERROR_TIMED_OUT;
         if (ready < 0 && errno == EINTR) continue;
-        if (ready < 0) return FILSER_ENDED;
+        if (ready < 0) return FILSER_ERROR_ENDED;
         if (ends[1].revents != 0) written = write_orders(service, written);
         if (ends[0].revents == 0) continue;
         enum filser_error error = read_answers(service);
         if (!error) error = count_answers(&service->held, &place, &answers, words);
         if (error) return error;
     }
-    return answers == service->order_count && place == service->held.length ? FILSER_OK : FILSER_PROTOCOL;
+    return answers == service->order_count && place == service->held.length ? FILSER_ERROR_NONE : FILSER_ERROR_PROTOCOL;
 }
 
 /* Allocates memory for answers, of which there is at least one, and returns whether there was any. */
@@ -341,7 +344,7 @@ static void parse_answers(struct filser *service) {
     const unsigned char *data = service->held.data;
     struct filser_change *change = service->changes;
     for (size_t place = 0; place < service->order_count; place++) {
-        struct filser_answer answer = {(enum filser_kind)data[0], number_at(data + 4, 8), 0, change};
+        struct filser_answer answer = {(enum filser_answer_kind)data[0], number_at(data + 4, 8), 0, change};
         answer.count = (size_t)number_at(data + 12, 4);
         data += RECORD_BYTES;
         for (size_t word = 0; word < answer.count; word++, data += 8, change++) {
@@ -354,36 +357,37 @@ static void parse_answers(struct filser *service) {
 }
 
 /* Returns whether an order may be answered by this kind. */
-static bool is_kind_for(const struct order *order, enum filser_kind kind) {
-    bool asks_status = order->kind == CALL && order->code == FILSER_GETSTS;
+static bool is_kind_for(const struct order *order, enum filser_answer_kind kind) {
+    bool asks_status = order->kind == CALL && order->code == FILSER_CALL_GETSTS;
     switch (kind) {
-    case FILSER_WRONG: return false;
-    case FILSER_DONE: return order->kind != ROOM && !asks_status;
-    case FILSER_VALUE: return asks_status;
-    case FILSER_REFUSED:
-    case FILSER_STOPPED:
-    case FILSER_NO_CHANNEL:
-    case FILSER_DATE_RANGE: return order->kind == CALL;
-    case FILSER_ROOM: return order->kind == ROOM;
-    case FILSER_ADDRESS_CHECK:
-    case FILSER_NO_JOB:
-    case FILSER_NO_MEMORY:
-    case FILSER_DEVICE:
-    case FILSER_FAILED: return order->kind != ROOM;
+    case FILSER_ANSWER_WRONG: return false;
+    case FILSER_ANSWER_DONE: return order->kind != ROOM && !asks_status;
+    case FILSER_ANSWER_VALUE: return asks_status;
+    case FILSER_ANSWER_REFUSED:
+    case FILSER_ANSWER_STOPPED:
+    case FILSER_ANSWER_NO_CHANNEL:
+    case FILSER_ANSWER_DATE_RANGE: return order->kind == CALL;
+    case FILSER_ANSWER_ROOM: return order->kind == ROOM;
+    case FILSER_ANSWER_ADDRESS_CHECK:
+    case FILSER_ANSWER_NO_JOB:
+    case FILSER_ANSWER_NO_MEMORY:
+    case FILSER_ANSWER_DEVICE:
+    case FILSER_ANSWER_FAILED: return order->kind != ROOM;
     }
     return false;
 }
 
-static bool has_value(enum filser_kind kind) {
-    return kind == FILSER_VALUE || kind == FILSER_REFUSED || kind == FILSER_STOPPED || kind == FILSER_ROOM;
+static bool has_value(enum filser_answer_kind kind) {
+    return kind == FILSER_ANSWER_VALUE || kind == FILSER_ANSWER_REFUSED || kind == FILSER_ANSWER_STOPPED ||
+           kind == FILSER_ANSWER_ROOM;
 }
 
 /* Returns whether the words of an answer are those of an EXAMINE: all in a row, or up to the end of the core. */
 static bool are_examined(const struct order *order, const struct filser_answer *answer, size_t size) {
     size_t there = order->number < size ? size - order->number : 0;
     bool fits = order->detail <= there;
-    if (answer->kind != FILSER_DONE && answer->kind != FILSER_ADDRESS_CHECK) return answer->count == 0;
-    if ((answer->kind == FILSER_DONE) != fits || answer->count != (fits ? order->detail : there)) return false;
+    if (answer->kind != FILSER_ANSWER_DONE && answer->kind != FILSER_ANSWER_ADDRESS_CHECK) return answer->count == 0;
+    if ((answer->kind == FILSER_ANSWER_DONE) != fits || answer->count != (fits ? order->detail : there)) return false;
     for (size_t place = 0; place < answer->count; place++)
         if (answer->changes[place].address != order->number + place) return false;
     return true;
@@ -402,26 +406,26 @@ static bool are_changes_for(const struct order *order, const struct filser_answe
    the copy or the machine. */
 static bool is_answer_to(const struct filser *service, const struct order *order, const struct filser_answer *answer) {
     const struct core *core = service->cores[order->job];
-    enum filser_kind kind = answer->kind;
+    enum filser_answer_kind kind = answer->kind;
     bool is_empty = (order->kind == DEPOSIT && order->count == 0) || (order->kind == EXAMINE && order->detail == 0);
     if (!is_kind_for(order, kind) || answer->value >= (has_value(kind) ? WORD_LIMIT : 1)) return false;
-    if (order->kind == LOGIN && kind == FILSER_DONE && order->core == NULL) return false;
-    if (order->kind != LOGIN && kind == FILSER_NO_JOB && core != NULL) return false;
-    if (service->has_failed && order->kind != ROOM && !is_empty && kind != FILSER_FAILED) return false;
+    if (order->kind == LOGIN && kind == FILSER_ANSWER_DONE && order->core == NULL) return false;
+    if (order->kind != LOGIN && kind == FILSER_ANSWER_NO_JOB && core != NULL) return false;
+    if (service->has_failed && order->kind != ROOM && !is_empty && kind != FILSER_ANSWER_FAILED) return false;
     return are_changes_for(order, answer, core == NULL ? 0 : core->size);
 }
 
 /* Repeats in the copy of a core what an order has done. The machine doesn't have these words yet. */
 static void copy_order(struct filser *service, struct order *order, const struct filser_answer *answer) {
     struct core *core = service->cores[order->job];
-    if (answer->kind == FILSER_DEVICE || answer->kind == FILSER_FAILED) service->has_failed = true;
-    if (order->kind == LOGIN && answer->kind == FILSER_DONE) {
+    if (answer->kind == FILSER_ANSWER_DEVICE || answer->kind == FILSER_ANSWER_FAILED) service->has_failed = true;
+    if (order->kind == LOGIN && answer->kind == FILSER_ANSWER_DONE) {
         free_core(core);
         service->cores[order->job] = order->core;
         order->core = NULL;
     }
     if (core == NULL) return;
-    if (order->kind == DEPOSIT && (answer->kind == FILSER_DONE || answer->kind == FILSER_ADDRESS_CHECK)) {
+    if (order->kind == DEPOSIT && (answer->kind == FILSER_ANSWER_DONE || answer->kind == FILSER_ANSWER_ADDRESS_CHECK)) {
         const unsigned char *words = service->sending.data + order->place;
         for (size_t place = 0; place < order->count && order->number + place < core->size; place++)
             core->words[order->number + place] = number_at(words + 8 * place, 8);
@@ -437,25 +441,25 @@ static void copy_order(struct filser *service, struct order *order, const struct
 /* Checks the answers, and repeats in the copies what the orders have done. */
 static enum filser_error take_answers(struct filser *service) {
     for (size_t place = 0; place < service->order_count; place++) {
-        if (!is_answer_to(service, &service->orders[place], &service->answers[place])) return FILSER_PROTOCOL;
+        if (!is_answer_to(service, &service->orders[place], &service->answers[place])) return FILSER_ERROR_PROTOCOL;
         copy_order(service, &service->orders[place], &service->answers[place]);
     }
-    return FILSER_OK;
+    return FILSER_ERROR_NONE;
 }
 
 /* Sends the orders, which are kept. Any error ends the exchange for good: later answers couldn't be told apart. */
 static enum filser_error send_orders(struct filser *service) {
     size_t words = 0;
-    if (service->has_ended) return FILSER_ENDED;
-    if (service->order_count == 0) return FILSER_OK;
+    if (service->has_ended) return FILSER_ERROR_ENDED;
+    if (service->order_count == 0) return FILSER_ERROR_NONE;
     enum filser_error error = check_silence(service);
     if (!error) error = exchange(service, &words);
-    if (!error && !reserve_answers(service, service->order_count, words)) error = FILSER_OUT_OF_MEMORY;
+    if (!error && !reserve_answers(service, service->order_count, words)) error = FILSER_ERROR_LOST;
     if (!error) {
         parse_answers(service);
         error = take_answers(service);
     }
-    service->has_ended = error != FILSER_OK;
+    service->has_ended = error != FILSER_ERROR_NONE;
     return error;
 }
 
@@ -477,7 +481,7 @@ static enum filser_error send_one(struct filser *service, enum filser_error erro
 }
 
 static enum filser_error check_sent(const struct filser *service) {
-    return service->order_count > 0 ? FILSER_NOT_SENT : FILSER_OK;
+    return service->order_count > 0 ? FILSER_ERROR_NOT_SENT : FILSER_ERROR_NONE;
 }
 
 enum filser_error filser_login(struct filser *service, unsigned job, uint32_t project, uint32_t programmer,
@@ -501,7 +505,7 @@ enum filser_error filser_examine(struct filser *service, unsigned job, uint32_t 
     return send_one(service, error, answer);
 }
 
-enum filser_error filser_call(struct filser *service, unsigned job, enum filser_code code, unsigned channel,
+enum filser_error filser_call(struct filser *service, unsigned job, enum filser_call_code code, unsigned channel,
                               uint32_t number, unsigned date, unsigned minute, struct filser_answer *answer) {
     enum filser_error error = check_sent(service);
     if (!error) error = filser_add_call(service, job, code, channel, number, date, minute);
@@ -509,7 +513,7 @@ enum filser_error filser_call(struct filser *service, unsigned job, enum filser_
 }
 
 enum filser_error filser_room(struct filser *service, uint64_t *blocks) {
-    struct filser_answer answer = {FILSER_WRONG, 0, 0, NULL};
+    struct filser_answer answer = {FILSER_ANSWER_WRONG, 0, 0, NULL};
     enum filser_error error = check_sent(service);
     if (!error) error = filser_add_room(service);
     error = send_one(service, error, &answer);
@@ -554,31 +558,52 @@ static bool set_nonblocking(int file) {
     return flags >= 0 && fcntl(file, F_SETFL, flags | O_NONBLOCK) == 0;
 }
 
-/* Becomes the program, in the child. */
-static void become_program(const struct filser_options *options, int input, int output) {
-    const char *form = options->form == 1 ? "1" : "2";
+/* The pipes of a program: to it, from it, and one whose writing end closes when the program runs. */
+struct pipes {
+    int to[2], from[2], failure[2];
+};
+
+/* Becomes the program, in the child; writes the error if that fails. */
+static void become_program(const struct filser_options *options, const struct pipes *pipes) {
+    const char *form = options->form == 2 ? "2" : "1";
     if (!options->shares_group) setsid();
-    if (dup2(input, 0) == 0 && dup2(output, 1) == 1)
-        execlp(options->program, options->program, "wire", options->image, "--form", form, (char *)NULL);
+    if (dup2(pipes->to[0], 0) == 0 && dup2(pipes->from[1], 1) == 1 &&
+        (options->error_output == 0 || dup2(options->error_output, 2) == 2))
+        execlp(options->program, options->program, "wire", "--form", form, "--", options->image, (char *)NULL);
+    int error = errno;
+    while (write(pipes->failure[1], &error, sizeof error) < 0 && errno == EINTR) continue;
     _exit(127);
 }
 
-/* Runs the program between two pipes. */
-static bool run_program(struct filser *service, const struct filser_options *options) {
-    int to[2] = {-1, -1}, from[2] = {-1, -1};
-    if (open_pipe(to) && open_pipe(from) && set_nonblocking(to[1]) && set_nonblocking(from[0]))
+/* Runs the program between two pipes, and returns where to read the error if it can't be run; -1 if there is no
+   process. */
+static int run_program(struct filser *service, const struct filser_options *options) {
+    struct pipes pipes = {{-1, -1}, {-1, -1}, {-1, -1}};
+    if (open_pipe(pipes.to) && open_pipe(pipes.from) && open_pipe(pipes.failure) && set_nonblocking(pipes.to[1]) &&
+        set_nonblocking(pipes.from[0]) && set_nonblocking(pipes.failure[0]))
         service->child = fork();
-    if (service->child == 0) become_program(options, to[0], from[1]);
+    if (service->child == 0) become_program(options, &pipes);
     if (service->child < 0) {
-        close_pipe(to);
-        close_pipe(from);
-        return false;
+        close_pipe(pipes.to);
+        close_pipe(pipes.from);
+        close_pipe(pipes.failure);
+        return -1;
     }
-    close(to[0]);
-    close(from[1]);
-    service->to = to[1];
-    service->from = from[0];
-    return true;
+    close(pipes.to[0]);
+    close(pipes.from[1]);
+    close(pipes.failure[1]);
+    service->to = pipes.to[1];
+    service->from = pipes.from[0];
+    return pipes.failure[0];
+}
+
+/* Returns whether another process has locked the image, as a service does. */
+static bool is_in_use(const char *image) {
+    int file = open(image, O_RDONLY | O_CLOEXEC | O_NONBLOCK);
+    if (file < 0) return false;
+    bool is_locked = flock(file, LOCK_SH | LOCK_NB) != 0 && errno == EWOULDBLOCK;
+    close(file);
+    return is_locked;
 }
 
 /* Stores the line that the program has printed instead of an answer. */
@@ -587,32 +612,52 @@ static void keep_printed(struct filser *service) {
     int64_t deadline = milliseconds() + service->timeout;
     close(service->to);
     service->to = -1;
-    while (service->held.length < sizeof service->printed && read_answers(service) == FILSER_OK)
+    while (service->held.length < sizeof service->printed && read_answers(service) == FILSER_ERROR_NONE)
         if (poll(&end, 1, time_left(service, deadline)) == 0) break;
     size_t length = service->held.length < sizeof service->printed ? service->held.length : sizeof service->printed - 1;
     if (length > 0) memcpy(service->printed, service->held.data, length);
     service->printed[strcspn(service->printed, "\n")] = '\0';
 }
 
-static bool are_options(const struct filser_options *options) {
-    return options->size == sizeof *options && options->program != NULL && options->image != NULL &&
-           (options->form == 1 || options->form == 2) && options->timeout >= 0;
+/* Copies the options, of which an earlier version may have had fewer, and returns whether they are good. */
+static bool take_options(const struct filser_options *given, struct filser_options *options) {
+    memset(options, 0, sizeof *options);
+    if (given->size < sizeof given->size || given->size > sizeof *options) return false;
+    memcpy(options, given, given->size);
+    return options->program != NULL && options->image != NULL && options->form >= 0 && options->form <= 2 &&
+           options->timeout >= 0 && options->error_output >= 0;
 }
 
-enum filser_error filser_start(const struct filser_options *options, struct filser **service) {
+/* Returns why the program hasn't answered. `failure` has the error if it couldn't be run. */
+static enum filser_error why_not_started(struct filser *service, const char *image, int failure) {
+    int error;
+    if (service->child < 0) return FILSER_ERROR_NOT_STARTED;
+    keep_printed(service);
+    if (read(failure, &error, sizeof error) == sizeof error) {
+        snprintf(service->printed, sizeof service->printed, "%s", strerror(error));
+        return FILSER_ERROR_NOT_FOUND;
+    }
+    if (service->printed[0] != '?') return FILSER_ERROR_NOT_STARTED;
+    return is_in_use(image) ? FILSER_ERROR_IN_USE : FILSER_ERROR_IMAGE_REFUSED;
+}
+
+enum filser_error filser_start(const struct filser_options *given, struct filser **service) {
+    struct filser_options options;
     uint64_t blocks;
     *service = NULL;
-    if (!are_options(options)) return FILSER_BAD_ARGUMENT;
+    if (!take_options(given, &options)) return FILSER_ERROR_BAD_ARGUMENT;
     struct filser *started = calloc(1, sizeof *started);
-    if (started == NULL) return FILSER_OUT_OF_MEMORY;
+    if (started == NULL) return FILSER_ERROR_NO_MEMORY;
     *service = started;
     started->child = started->to = started->from = -1;
-    started->timeout = options->timeout;
-    started->has_ended = !run_program(started, options);
+    started->timeout = options.timeout;
+    int failure = run_program(started, &options);
+    started->has_ended = failure < 0;
     enum filser_error error = filser_room(started, &blocks);
-    if (error != FILSER_ENDED && error != FILSER_PROTOCOL) return error;
-    if (started->child > 0) keep_printed(started);
-    return FILSER_NOT_STARTED;
+    if (error == FILSER_ERROR_ENDED || error == FILSER_ERROR_PROTOCOL)
+        error = why_not_started(started, options.image, failure);
+    if (failure >= 0) close(failure);
+    return error;
 }
 
 /* Waits until the program has ended or the timeout is over; then the program is killed. */
@@ -659,21 +704,47 @@ int filser_stop(struct filser *service) {
 
 const char *filser_printed(const struct filser *service) { return service == NULL ? "" : service->printed; }
 
+const char *filser_version(void) { return FILSER_VERSION; }
+
 const char *filser_error_text(enum filser_error error) {
     switch (error) {
-    case FILSER_OK: return "no error";
-    case FILSER_BAD_ARGUMENT: return "an argument is outside its range, and nothing was sent";
-    case FILSER_BAD_WORD: return "a word has more than 36 bits, and nothing was sent";
-    case FILSER_NOT_LOGGED_IN: return "the job isn't logged in, and nothing was sent";
-    case FILSER_NOT_SENT: return "orders were collected and are not sent yet";
-    case FILSER_SHORT_MEMORY: return "the machine's memory is smaller than the job's core, and nothing was sent";
-    case FILSER_OUT_OF_MEMORY: return "this process has no memory";
-    case FILSER_NOT_STARTED: return "the program ended before its first answer";
-    case FILSER_ENDED: return "the program ended, its streams failed, or an earlier exchange did";
-    case FILSER_PROTOCOL: return "the program wrote something that can't be the answer";
-    case FILSER_TIMED_OUT: return "the answers didn't come in time";
+    case FILSER_ERROR_NONE: return "no error";
+    case FILSER_ERROR_BAD_ARGUMENT: return "an argument is outside its range, and nothing was sent";
+    case FILSER_ERROR_BAD_WORD: return "a word has more than 36 bits, and nothing was sent";
+    case FILSER_ERROR_NOT_LOGGED_IN: return "the job isn't logged in, and nothing was sent";
+    case FILSER_ERROR_NOT_SENT: return "orders were collected and are not sent yet";
+    case FILSER_ERROR_SHORT_MEMORY: return "the machine's memory is smaller than the job's core, and nothing was sent";
+    case FILSER_ERROR_NO_MEMORY: return "this process has no memory, and nothing was sent";
+    case FILSER_ERROR_LOST: return "this process has no memory for the answers";
+    case FILSER_ERROR_NOT_FOUND: return "there is no such program, or it can't be run";
+    case FILSER_ERROR_IN_USE: return "another process has the image";
+    case FILSER_ERROR_IMAGE_REFUSED: return "the program refused the image";
+    case FILSER_ERROR_NOT_STARTED: return "the program ended before its first answer";
+    case FILSER_ERROR_ENDED: return "the program ended, its streams failed, or an earlier exchange did";
+    case FILSER_ERROR_PROTOCOL: return "the program wrote something that can't be the answer";
+    case FILSER_ERROR_TIMED_OUT: return "the answers didn't come in time";
     }
     return "no such error";
+}
+
+const char *filser_answer_text(enum filser_answer_kind kind) {
+    static const char *const texts[] = {"WRONG", "DONE", "VALUE", "REFUSED", "STOPPED", "NO CHANNEL", "ADDRESS CHECK",
+                                        "NO JOB", "NO MEMORY", "DEVICE", "FAILED", "DATE RANGE", "ROOM"};
+    return (unsigned)kind < sizeof texts / sizeof *texts ? texts[kind] : "no such answer";
+}
+
+const char *filser_call_text(enum filser_call_code code) {
+    static const struct { enum filser_call_code code; const char *text; } texts[] = {
+        {FILSER_CALL_MAKDIR, "MAKDIR"}, {FILSER_CALL_REMDIR, "REMDIR"}, {FILSER_CALL_QUOTA, "QUOTA"},
+        {FILSER_CALL_RESET, "RESET"},   {FILSER_CALL_OPEN, "OPEN"},     {FILSER_CALL_RENAME, "RENAME"},
+        {FILSER_CALL_IN, "IN"},         {FILSER_CALL_OUT, "OUT"},       {FILSER_CALL_GETSTS, "GETSTS"},
+        {FILSER_CALL_INBUF, "INBUF"},   {FILSER_CALL_OUTBUF, "OUTBUF"}, {FILSER_CALL_CLOSE, "CLOSE"},
+        {FILSER_CALL_RELEAS, "RELEAS"}, {FILSER_CALL_USETI, "USETI"},   {FILSER_CALL_USETO, "USETO"},
+        {FILSER_CALL_LOOKUP, "LOOKUP"}, {FILSER_CALL_ENTER, "ENTER"},
+    };
+    for (size_t place = 0; place < sizeof texts / sizeof *texts; place++)
+        if (texts[place].code == code) return texts[place].text;
+    return "no such call";
 }
 
 /* UUOs. */
@@ -689,7 +760,7 @@ struct uuo {
 };
 
 struct call {
-    enum filser_code code;
+    enum filser_call_code code;
     unsigned channel;
     uint32_t number;
     size_t place; /* of its order, and so of its answer */
@@ -702,35 +773,35 @@ static size_t list_calls(struct call *calls, const struct call *wanted, size_t c
 
 /* Lists the calls of a CALLI, and returns how many there are. */
 static size_t calli_calls(const struct uuo *uuo, struct call calls[CHANNELS]) {
-    if (uuo->address == CALLI_RESET) return list_calls(calls, &(struct call){FILSER_RESET, 0, 0, 0}, 1);
+    if (uuo->address == CALLI_RESET) return list_calls(calls, &(struct call){FILSER_CALL_RESET, 0, 0, 0}, 1);
     if (uuo->address != CALLI_EXIT || uuo->channel != 0) return 0;
     for (unsigned channel = 0; channel < CHANNELS; channel++)
-        calls[channel] = (struct call){FILSER_RELEAS, channel, 0, 0};
+        calls[channel] = (struct call){FILSER_CALL_RELEAS, channel, 0, 0};
     return CHANNELS;
 }
 
 /* Lists the calls that do a UUO, and returns how many there are: none if the service doesn't do it. */
 static size_t uuo_calls(const struct uuo *uuo, struct call calls[CHANNELS]) {
-    struct call one = {(enum filser_code)uuo->operation, uuo->channel, uuo->address, 0};
+    struct call one = {(enum filser_call_code)uuo->operation, uuo->channel, uuo->address, 0};
     switch (uuo->operation) {
     case CALLI: return calli_calls(uuo, calls);
     case INIT:
-    case FILSER_OPEN: /* a monitor releases an open channel first */
-        calls[0] = (struct call){FILSER_RELEAS, uuo->channel, 0, 0};
-        one.code = FILSER_OPEN;
+    case FILSER_CALL_OPEN: /* a monitor releases an open channel first */
+        calls[0] = (struct call){FILSER_CALL_RELEAS, uuo->channel, 0, 0};
+        one.code = FILSER_CALL_OPEN;
         one.number = uuo->operation == INIT ? uuo->pc : uuo->address;
         return 1 + list_calls(calls + 1, &one, 1);
-    case INPUT: one.code = FILSER_IN; break;
-    case OUTPUT: one.code = FILSER_OUT; break;
+    case INPUT: one.code = FILSER_CALL_IN; break;
+    case OUTPUT: one.code = FILSER_CALL_OUT; break;
     case STATO:
     case STATZ:
-    case FILSER_GETSTS:
-        one.code = FILSER_GETSTS;
+    case FILSER_CALL_GETSTS:
+        one.code = FILSER_CALL_GETSTS;
         one.number = 0;
         break;
-    case FILSER_RELEAS: one.number = 0; break;
+    case FILSER_CALL_RELEAS: one.number = 0; break;
     default:
-        if (uuo->operation < FILSER_OPEN || !is_call(one.code, one.channel, one.number)) return 0;
+        if (uuo->operation < FILSER_CALL_OPEN || !is_call(one.code, one.channel, one.number)) return 0;
     }
     return list_calls(calls, &one, 1);
 }
@@ -746,8 +817,8 @@ static uint64_t *word_at(const struct filser_machine *machine, uint32_t address)
 static enum filser_error add_runs(struct filser *service, unsigned job, const uint64_t *found, uint32_t first,
                                   size_t count) {
     const uint64_t *copy = service->cores[job]->words + first;
-    enum filser_error error = FILSER_OK;
-    if (memcmp(found, copy, count * sizeof *found) == 0) return FILSER_OK;
+    enum filser_error error = FILSER_ERROR_NONE;
+    if (memcmp(found, copy, count * sizeof *found) == 0) return FILSER_ERROR_NONE;
     for (size_t start = 0, end; start < count && !error; start = end) {
         end = start;
         while (end < count && found[end] != copy[end]) end++;
@@ -769,11 +840,11 @@ static uint32_t end_of_touched(const struct core *core, uint32_t first) {
 
 static enum filser_error check_machine(const struct filser *service, const struct filser_machine *machine,
                                        uint64_t instruction, uint32_t address) {
-    if (service->order_count > 0) return FILSER_NOT_SENT;
-    if (instruction >= WORD_LIMIT) return FILSER_BAD_WORD;
-    if (machine->job >= JOBS || address >= CORE_LIMIT || machine->pc >= CORE_LIMIT) return FILSER_BAD_ARGUMENT;
-    if (machine->date >= 32768 || machine->minute >= 1440) return FILSER_BAD_ARGUMENT;
-    return FILSER_OK;
+    if (service->order_count > 0) return FILSER_ERROR_NOT_SENT;
+    if (instruction >= WORD_LIMIT) return FILSER_ERROR_BAD_WORD;
+    if (machine->job >= JOBS || address >= CORE_LIMIT || machine->pc >= CORE_LIMIT) return FILSER_ERROR_BAD_ARGUMENT;
+    if (machine->date >= 32768 || machine->minute >= 1440) return FILSER_ERROR_BAD_ARGUMENT;
+    return FILSER_ERROR_NONE;
 }
 
 /* Returns whether the machine has a memory as large as the job's core. */
@@ -802,8 +873,8 @@ static void touch_hint(struct filser *service, const struct filser_machine *mach
    An unchanged page costs one comparison. */
 static enum filser_error add_changes(struct filser *service, const struct filser_machine *machine) {
     const struct core *core = service->cores[machine->job];
-    if (core == NULL) return FILSER_NOT_LOGGED_IN;
-    if (!is_large_enough(machine, core->size)) return FILSER_SHORT_MEMORY;
+    if (core == NULL) return FILSER_ERROR_NOT_LOGGED_IN;
+    if (!is_large_enough(machine, core->size)) return FILSER_ERROR_SHORT_MEMORY;
     enum filser_error error = add_runs(service, machine->job, machine->accumulators, 0, ACCUMULATORS);
     for (uint32_t start = ACCUMULATORS, end; start < core->size && !error; start = end) {
         end = end_of_touched(core, start);
@@ -817,10 +888,10 @@ static enum filser_error add_changes(struct filser *service, const struct filser
    the place of the instruction in the service's copy, and is corrected before the next UUO. */
 static enum filser_error add_calls(struct filser *service, const struct filser_machine *machine, const struct uuo *uuo,
                                    struct call *calls, size_t count) {
-    enum filser_error error = FILSER_OK;
+    enum filser_error error = FILSER_ERROR_NONE;
     for (size_t place = 0; place < count && !error; place++) {
         const uint64_t status = uuo->address;
-        if (uuo->operation == INIT && calls[place].code == FILSER_OPEN)
+        if (uuo->operation == INIT && calls[place].code == FILSER_CALL_OPEN)
             error = filser_add_deposit(service, machine->job, uuo->pc, &status, 1);
         calls[place].place = service->order_count;
         if (!error)
@@ -834,14 +905,14 @@ static enum filser_error add_calls(struct filser *service, const struct filser_m
    UUO: that of its first call that isn't done, or of its last. A channel that isn't open counts as closed. */
 static struct filser_answer put_answers(struct filser *service, const struct filser_machine *machine,
                                         const struct call *calls, size_t count) {
-    struct filser_answer result = {FILSER_DONE, 0, 0, NULL};
+    struct filser_answer result = {FILSER_ANSWER_DONE, 0, 0, NULL};
     for (size_t place = 0; place < count; place++) {
         struct filser_answer answer = service->answers[calls[place].place];
-        bool closes = calls[place].code == FILSER_CLOSE || calls[place].code == FILSER_RELEAS;
+        bool closes = calls[place].code == FILSER_CALL_CLOSE || calls[place].code == FILSER_CALL_RELEAS;
         for (size_t change = 0; change < answer.count; change++)
             *word_at(machine, answer.changes[change].address) = answer.changes[change].word;
-        if (closes && answer.kind == FILSER_NO_CHANNEL) answer.kind = FILSER_DONE;
-        if (result.kind == FILSER_DONE) result = answer;
+        if (closes && answer.kind == FILSER_ANSWER_NO_CHANNEL) answer.kind = FILSER_ANSWER_DONE;
+        if (result.kind == FILSER_ANSWER_DONE) result = answer;
     }
     forget_touched(service->cores[machine->job]);
     return result;
@@ -858,28 +929,28 @@ static void put_word(struct core *core, const struct filser_machine *machine, ui
 static void settle(struct core *core, const struct filser_machine *machine, const struct uuo *uuo,
                    struct filser_answer *answer) {
     if (uuo->operation == INIT) touch(core, uuo->pc, (size_t)uuo->pc + 1);
-    if (uuo->operation == FILSER_GETSTS && uuo->address >= core->size) {
-        answer->kind = FILSER_ADDRESS_CHECK;
+    if (uuo->operation == FILSER_CALL_GETSTS && uuo->address >= core->size) {
+        answer->kind = FILSER_ANSWER_ADDRESS_CHECK;
         answer->value = 0;
-    } else if (uuo->operation == FILSER_GETSTS && answer->kind == FILSER_VALUE) {
+    } else if (uuo->operation == FILSER_CALL_GETSTS && answer->kind == FILSER_ANSWER_VALUE) {
         put_word(core, machine, uuo->address, answer->value);
     }
     uint64_t start = *word_at(machine, START_ADDRESS) >> 18;
-    if (uuo->operation == CALLI && uuo->address == CALLI_RESET && answer->kind == FILSER_DONE && start != 0)
+    if (uuo->operation == CALLI && uuo->address == CALLI_RESET && answer->kind == FILSER_ANSWER_DONE && start != 0)
         put_word(core, machine, FIRST_FREE, *word_at(machine, FIRST_FREE) >> 18 << 18 | start);
 }
 
 /* Returns how far the machine continues after a UUO with this answer. */
 static int advance_of(const struct uuo *uuo, const struct filser_answer *answer) {
-    bool done = answer->kind == FILSER_DONE, has_status = answer->kind == FILSER_VALUE;
+    bool done = answer->kind == FILSER_ANSWER_DONE, has_status = answer->kind == FILSER_ANSWER_VALUE;
     switch (uuo->operation) {
     case INIT: return done ? 4 : 3;
-    case FILSER_OPEN:
-    case FILSER_LOOKUP:
-    case FILSER_ENTER:
-    case FILSER_RENAME: return done ? 2 : 1;
-    case FILSER_IN:
-    case FILSER_OUT: return done ? 1 : 2;
+    case FILSER_CALL_OPEN:
+    case FILSER_CALL_LOOKUP:
+    case FILSER_CALL_ENTER:
+    case FILSER_CALL_RENAME: return done ? 2 : 1;
+    case FILSER_CALL_IN:
+    case FILSER_CALL_OUT: return done ? 1 : 2;
     case STATZ: return has_status && (answer->value & uuo->address) == 0 ? 2 : 1;
     case STATO: return has_status && (answer->value & uuo->address) != 0 ? 2 : 1;
     default: return 1;
@@ -890,8 +961,8 @@ static int advance_of(const struct uuo *uuo, const struct filser_answer *answer)
    done something else than the machine wanted. */
 static bool are_deposits_done(const struct filser *service) {
     for (size_t place = 0; place < service->order_count; place++)
-        if (service->orders[place].kind == DEPOSIT && service->answers[place].kind != FILSER_DONE &&
-            service->answers[place].kind != FILSER_FAILED)
+        if (service->orders[place].kind == DEPOSIT && service->answers[place].kind != FILSER_ANSWER_DONE &&
+            service->answers[place].kind != FILSER_ANSWER_FAILED)
             return false;
     return true;
 }
@@ -901,19 +972,19 @@ static enum filser_error send_uuo(struct filser *service) {
     enum filser_error error = send_orders(service);
     if (error || are_deposits_done(service)) return error;
     service->has_ended = true;
-    return FILSER_PROTOCOL;
+    return FILSER_ERROR_PROTOCOL;
 }
 
 enum filser_error filser_uuo(struct filser *service, const struct filser_machine *machine, uint64_t instruction,
                              uint32_t address, struct filser_outcome *outcome) {
     struct call calls[CHANNELS];
-    *outcome = (struct filser_outcome){0, FILSER_WRONG, 0};
+    *outcome = (struct filser_outcome){0, FILSER_ANSWER_WRONG, 0};
     touch_hint(service, machine);
     enum filser_error error = check_machine(service, machine, instruction, address);
     if (error) return error;
     struct uuo uuo = {(unsigned)(instruction >> 27), (unsigned)(instruction >> 23 & 017), address, machine->pc};
     size_t count = uuo_calls(&uuo, calls);
-    if (count == 0) return FILSER_OK;
+    if (count == 0) return FILSER_ERROR_NONE;
     error = add_changes(service, machine);
     if (!error) error = add_calls(service, machine, &uuo, calls, count);
     if (!error) error = send_uuo(service);

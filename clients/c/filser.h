@@ -17,7 +17,7 @@
           struct filser *service = NULL;
           struct filser_options options = {.size = sizeof options, .form = 1};
           struct filser_machine machine = {.job = 1, .accumulators = accumulators, .words = core, .size = 4096};
-          struct filser_outcome outcome = {0, FILSER_WRONG, 0};
+          struct filser_outcome outcome = {0, FILSER_ANSWER_WRONG, 0};
           if (count != 3) return 2;
           options.program = words[1];
           options.image = words[2];
@@ -33,7 +33,7 @@
               fprintf(stderr, "%s: %s\n", filser_error_text(error), filser_printed(service));
           else if (outcome.advance == 0)
               printf("no UUO of the service\n");
-          else if (outcome.kind == FILSER_DONE)
+          else if (outcome.kind == FILSER_ANSWER_DONE)
               printf("done, go on %d words\n", outcome.advance);
           else
               printf("not done, go on %d words\n", outcome.advance);
@@ -47,62 +47,70 @@
 #include <stddef.h>
 #include <stdint.h>
 
+/* The version of this client, and of the wire that it speaks. A program doesn't tell which wire it speaks, so
+   filser_start can compare nothing; it finds a program that doesn't answer a ROOM. */
+#define FILSER_VERSION "0.1.0"
+#define FILSER_WIRE_VERSION 1
+
 #ifdef __cplusplus
 extern "C" {
 #endif
 
 /* Why there was no answer. A refusal of the service isn't an error of the client, but an answer. */
 enum filser_error {
-    FILSER_OK = 0,
-    FILSER_BAD_ARGUMENT,  /* an argument is outside its range, and nothing was sent */
-    FILSER_BAD_WORD,      /* a word has more than 36 bits, and nothing was sent */
-    FILSER_NOT_LOGGED_IN, /* the job isn't logged in, and nothing was sent */
-    FILSER_NOT_SENT,      /* orders were collected and haven't been sent yet */
-    FILSER_SHORT_MEMORY,  /* the machine's memory is smaller than the job's core, or lacks a page; nothing was sent */
-    FILSER_OUT_OF_MEMORY, /* this process has no memory. If it was collecting or comparing, nothing was sent; else an
-                             order may have been done whose answer is lost: stop the service */
-    FILSER_NOT_STARTED,   /* the program ended before its first answer: see filser_printed and filser_stop */
-    FILSER_ENDED,         /* the program ended, its streams failed, or an earlier exchange did: stop the service */
-    FILSER_PROTOCOL,      /* the program wrote something that can't be the answer to the order: stop the service */
-    FILSER_TIMED_OUT      /* the answers didn't come in time: stop the service */
+    FILSER_ERROR_NONE = 0,
+    FILSER_ERROR_BAD_ARGUMENT,  /* an argument is outside its range, and nothing was sent */
+    FILSER_ERROR_BAD_WORD,      /* a word has more than 36 bits, and nothing was sent */
+    FILSER_ERROR_NOT_LOGGED_IN, /* the job isn't logged in, and nothing was sent */
+    FILSER_ERROR_NOT_SENT,      /* orders were collected and haven't been sent yet */
+    FILSER_ERROR_SHORT_MEMORY,  /* the machine's memory is smaller than the job's core; nothing was sent */
+    FILSER_ERROR_NO_MEMORY,     /* this process has no memory, and nothing was sent: the call may be repeated */
+    FILSER_ERROR_LOST,          /* there was no memory for the answers to what was sent: stop the service */
+    FILSER_ERROR_NOT_FOUND,     /* there is no such program, or it can't be run; filser_printed has the reason */
+    FILSER_ERROR_IN_USE,        /* another process has the image */
+    FILSER_ERROR_IMAGE_REFUSED, /* the program refused the image; filser_printed has its line */
+    FILSER_ERROR_NOT_STARTED,   /* the program ended before its first answer for another reason; see filser_stop */
+    FILSER_ERROR_ENDED,         /* the program or an earlier exchange ended, or a stream failed: stop the service */
+    FILSER_ERROR_PROTOCOL,      /* the program wrote something that can't be the answer: stop the service */
+    FILSER_ERROR_TIMED_OUT      /* the answers didn't come in time: stop the service */
 };
 
 /* The kinds of answers. */
-enum filser_kind {
-    FILSER_WRONG = 0, /* the record wasn't an order, and nothing was done: the functions below send no such record */
-    FILSER_DONE = 1,
-    FILSER_VALUE = 2,   /* the value is a status */
-    FILSER_REFUSED = 3, /* the value is the error code */
-    FILSER_STOPPED = 4, /* the value is the status: end of file, or no room */
-    FILSER_NO_CHANNEL = 5,
-    FILSER_ADDRESS_CHECK = 6,
-    FILSER_NO_JOB = 7,
-    FILSER_NO_MEMORY = 8, /* of the service; nothing was done, and the call may be repeated */
-    FILSER_DEVICE = 9,    /* the disk failed: start again */
-    FILSER_FAILED = 10,   /* it had failed before */
-    FILSER_DATE_RANGE = 11,
-    FILSER_ROOM = 12 /* the value is the number of blocks that are left */
+enum filser_answer_kind {
+    FILSER_ANSWER_WRONG = 0, /* the record wasn't an order: no such answer is returned */
+    FILSER_ANSWER_DONE = 1,
+    FILSER_ANSWER_VALUE = 2,   /* the value is a status */
+    FILSER_ANSWER_REFUSED = 3, /* the value is the error code */
+    FILSER_ANSWER_STOPPED = 4, /* the value is the status: end of file, or no room */
+    FILSER_ANSWER_NO_CHANNEL = 5,
+    FILSER_ANSWER_ADDRESS_CHECK = 6,
+    FILSER_ANSWER_NO_JOB = 7,
+    FILSER_ANSWER_NO_MEMORY = 8, /* of the service; nothing was done, and the call may be repeated */
+    FILSER_ANSWER_DEVICE = 9,    /* the disk failed: start again */
+    FILSER_ANSWER_FAILED = 10,   /* it had failed before */
+    FILSER_ANSWER_DATE_RANGE = 11,
+    FILSER_ANSWER_ROOM = 12 /* the value is the number of blocks that are left */
 };
 
 /* The calls: the operation codes of their UUOs, and the service's own for directories. */
-enum filser_code {
-    FILSER_MAKDIR = 1,
-    FILSER_REMDIR = 2,
-    FILSER_QUOTA = 3,
-    FILSER_RESET = 047,
-    FILSER_OPEN = 050,
-    FILSER_RENAME = 055,
-    FILSER_IN = 056,
-    FILSER_OUT = 057,
-    FILSER_GETSTS = 062,
-    FILSER_INBUF = 064,
-    FILSER_OUTBUF = 065,
-    FILSER_CLOSE = 070,
-    FILSER_RELEAS = 071,
-    FILSER_USETI = 074,
-    FILSER_USETO = 075,
-    FILSER_LOOKUP = 076,
-    FILSER_ENTER = 077
+enum filser_call_code {
+    FILSER_CALL_MAKDIR = 1,
+    FILSER_CALL_REMDIR = 2,
+    FILSER_CALL_QUOTA = 3,
+    FILSER_CALL_RESET = 047,
+    FILSER_CALL_OPEN = 050,
+    FILSER_CALL_RENAME = 055,
+    FILSER_CALL_IN = 056,
+    FILSER_CALL_OUT = 057,
+    FILSER_CALL_GETSTS = 062,
+    FILSER_CALL_INBUF = 064,
+    FILSER_CALL_OUTBUF = 065,
+    FILSER_CALL_CLOSE = 070,
+    FILSER_CALL_RELEAS = 071,
+    FILSER_CALL_USETI = 074,
+    FILSER_CALL_USETO = 075,
+    FILSER_CALL_LOOKUP = 076,
+    FILSER_CALL_ENTER = 077
 };
 
 /* A word of a job's core at its address. */
@@ -113,7 +121,7 @@ struct filser_change {
 
 /* An answer. Its changes belong to the service, and are valid until the next orders are collected or sent. */
 struct filser_answer {
-    enum filser_kind kind;
+    enum filser_answer_kind kind;
     uint64_t value;
     size_t count;
     const struct filser_change *changes;
@@ -138,22 +146,24 @@ struct filser_machine {
 
 /* What a UUO did: the machine continues `advance` words after the UUO (1, 2 if it skips, 3 or 4 after an INIT; 0 if
    this isn't a UUO that the service does, and nothing was sent), and the kind and value of the answer. It was done if
-   the kind is FILSER_DONE or FILSER_VALUE. */
+   the kind is FILSER_ANSWER_DONE or FILSER_ANSWER_VALUE. */
 struct filser_outcome {
     int advance;
-    enum filser_kind kind;
+    enum filser_answer_kind kind;
     uint64_t value;
 };
 
-/* How a service is started. The first member is the size of this structure; what an initializer doesn't name is 0. */
+/* How a service is started. The first member is the size of this structure, since later versions may add others; what
+   an initializer doesn't name is 0, and means as today. */
 struct filser_options {
     size_t size;
     const char *program; /* found as a shell finds it */
-    const char *image;
-    int form;            /* 1 or 2 */
+    const char *image;   /* any path, also one that begins with a hyphen */
+    int form;            /* 1 or 2; 0 is 1 */
     int timeout;         /* how long an exchange may take, in milliseconds; 0 is as long as it takes */
     int shares_group;    /* 0: the program runs in a session of its own, so that what the terminal sends to this
                             process, such as an interrupt, doesn't end it; 1: it stays in this process's group */
+    int error_output;    /* the descriptor where the program's standard error goes; 0 is where this process's goes */
 };
 
 struct filser;
@@ -167,10 +177,18 @@ enum filser_error filser_start(const struct filser_options *options, struct fils
    loses nothing that was answered DONE. If answers are unread, the program ends with status 4. NULL has status 0. */
 int filser_stop(struct filser *service);
 
-/* Returns the line that a program printed that didn't start, such as "?Not a volume"; otherwise an empty text. */
+/* Returns the line that a program printed that didn't start, such as "?Not a volume", or why there is no such program;
+   otherwise an empty text. It belongs to the service. */
 const char *filser_printed(const struct filser *service);
 
+/* Return texts for people, which last as long as the program: of an error, and names such as "ADDRESS CHECK" and "OPEN"
+   of answers and calls. */
 const char *filser_error_text(enum filser_error error);
+const char *filser_answer_text(enum filser_answer_kind kind);
+const char *filser_call_text(enum filser_call_code code);
+
+/* Returns FILSER_VERSION as it was when the client was compiled. */
+const char *filser_version(void);
 
 /* Collects orders. After an error no order was added. */
 enum filser_error filser_add_login(struct filser *service, unsigned job, uint32_t project, uint32_t programmer,
@@ -178,7 +196,7 @@ enum filser_error filser_add_login(struct filser *service, unsigned job, uint32_
 enum filser_error filser_add_deposit(struct filser *service, unsigned job, uint32_t address, const uint64_t *words,
                                      size_t count);
 enum filser_error filser_add_examine(struct filser *service, unsigned job, uint32_t address, uint32_t count);
-enum filser_error filser_add_call(struct filser *service, unsigned job, enum filser_code code, unsigned channel,
+enum filser_error filser_add_call(struct filser *service, unsigned job, enum filser_call_code code, unsigned channel,
                                   uint32_t number, unsigned date, unsigned minute);
 enum filser_error filser_add_room(struct filser *service);
 
@@ -194,7 +212,7 @@ enum filser_error filser_deposit(struct filser *service, unsigned job, uint32_t 
                                  size_t count, struct filser_answer *answer);
 enum filser_error filser_examine(struct filser *service, unsigned job, uint32_t address, uint32_t count,
                                  struct filser_answer *answer);
-enum filser_error filser_call(struct filser *service, unsigned job, enum filser_code code, unsigned channel,
+enum filser_error filser_call(struct filser *service, unsigned job, enum filser_call_code code, unsigned channel,
                               uint32_t number, unsigned date, unsigned minute, struct filser_answer *answer);
 enum filser_error filser_room(struct filser *service, uint64_t *blocks);
 

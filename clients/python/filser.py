@@ -22,6 +22,7 @@ same functions.
 """
 
 import enum
+import fcntl
 import operator
 import os
 import select
@@ -34,6 +35,7 @@ from collections import namedtuple
 RECORD = struct.Struct(">BBBBIII")
 WORD_LIMIT = 1 << 36
 CORE_LIMIT = 1 << 18
+VERSION, WIRE_VERSION = "0.1.0", 1  # a program doesn't tell which wire it speaks, so these can't be compared
 RIGHT_HALF = CORE_LIMIT - 1
 LEAST_CORE, MOST_CORE = 0o1000, 0o400000
 ACCUMULATORS = 0o20
@@ -91,6 +93,9 @@ class Error(enum.Enum):
     NOT_LOGGED_IN = "the job isn't logged in, and nothing was sent"
     NOT_SENT = "orders were collected and are not sent yet"
     SHORT_MEMORY = "the machine's memory is smaller than the job's core, and nothing was sent"
+    NOT_FOUND = "there is no such program, or it can't be run"
+    IN_USE = "another process has the image"
+    IMAGE_REFUSED = "the program refused the image"
     NOT_STARTED = "the program ended before its first answer"
     ENDED = "the program ended, its streams failed, or an earlier exchange did"
     PROTOCOL = "the program wrote something that can't be the answer"
@@ -335,12 +340,12 @@ class Service:
         self._cores = {}  # by job
         self._timeout = timeout
         _check_ranges((timeout, 1 << 31), (form - 1, 2))
-        words = [os.fspath(program), "wire", os.fspath(image), "--form", str(form)]
+        words = [os.fspath(program), "wire", "--form", str(form), "--", os.fspath(image)]
         try:
             self._process = subprocess.Popen(words, bufsize=0, stdin=subprocess.PIPE, stdout=subprocess.PIPE,
                                              stderr=stderr, start_new_session=not shares_group)
         except OSError as error:
-            raise ServiceError(Error.NOT_STARTED, text=str(error)) from error
+            raise ServiceError(Error.NOT_FOUND, text=str(error)) from error
         try:
             os.set_blocking(self._process.stdin.fileno(), False)
             os.set_blocking(self._process.stdout.fileno(), False)
@@ -348,12 +353,12 @@ class Service:
         except ServiceError as error:
             if error.error not in (Error.ENDED, Error.PROTOCOL):
                 raise ServiceError(error.error, self.stop()) from error
-            raise self._not_started() from error
+            raise self._not_started(image) from error
         except BaseException:
             self.stop()
             raise
 
-    def _not_started(self):
+    def _not_started(self, image):
         """Returns the error of a program that has printed a line instead of an answer."""
         self._process.stdin.close()
         deadline = self._deadline()
@@ -364,7 +369,10 @@ class Service:
         except ServiceError:
             pass  # it has printed all
         text = self._held[:MOST_PRINTED].decode("latin-1").split("\n")[0]
-        return ServiceError(Error.NOT_STARTED, self.stop(), text)
+        error = Error.NOT_STARTED
+        if text.startswith("?"):
+            error = Error.IN_USE if _is_in_use(image) else Error.IMAGE_REFUSED
+        return ServiceError(error, self.stop(), text)
 
     def __enter__(self):
         return self
@@ -665,6 +673,23 @@ class Service:
         finally:
             held.release()
         del self._held[:place]
+
+
+def _is_in_use(image):
+    """Returns whether another process has locked the image, as a service does."""
+    try:
+        file = os.open(image, os.O_RDONLY | os.O_NONBLOCK)
+    except OSError:
+        return False
+    try:
+        fcntl.flock(file, fcntl.LOCK_SH | fcntl.LOCK_NB)
+    except BlockingIOError:
+        return True
+    except OSError:
+        return False
+    finally:
+        os.close(file)
+    return False
 
 
 def _check_ranges(*pairs):
