@@ -61,6 +61,7 @@ class Tries:
     def __init__(self, program, folder):
         self.program, self.folder = program, folder
         self.count = self.failed = self.lines = 0
+        self.others = {}  # other ways to use a client
         self.players = {"python": [sys.executable, os.path.join(HERE, "clients_player.py")]}
 
     def compile(self, flags=()):
@@ -79,6 +80,7 @@ class Tries:
         subprocess.run([*compiler, player, os.path.join(HERE, "clients_player.c"), *sources], check=True)
         subprocess.run([*compiler, os.path.join(self.folder, "use"), use, *sources], check=True)
         self.players["c"] = [player]
+        self.others["c with functions"] = [player]
 
     def same(self, what, found, wanted):
         """Counts a check, and reports what is wrong."""
@@ -104,7 +106,8 @@ class Tries:
 
     def play(self, client, image, lines, form=1, program=None, timeout=0, folder=None):
         """Returns what the player of a client answers to lines."""
-        words = [*self.players[client], program or self.program, image, str(form), str(timeout)]
+        words = [*(self.players.get(client) or self.others[client]), program or self.program, image, str(form),
+                 str(timeout), *(["functions"] if client in self.others else [])]
         done = subprocess.run(words, input="\n".join([*lines, ""]), capture_output=True, text=True, check=False,
                               timeout=LIMIT, cwd=folder)
         return done.stdout.split("\n")[:-1]
@@ -112,7 +115,7 @@ class Tries:
     def play_rows(self, name, rows, layout=1):
         """Plays rows by each client on its own image, and compares each answer; and then the images."""
         images = []
-        for client in self.players:
+        for client in [*self.players, *self.others]:
             image = self.image(f"{client}.IMG", layout=layout)
             found = self.play(client, image, [line for line, _ in rows])
             wanted = [(line, reply) for line, reply in rows if reply]
@@ -120,7 +123,7 @@ class Tries:
                 self.same(f"{name}, {client}, {line}", found[place] if place < len(found) else "nothing", reply)
             with open(image, "rb") as file:
                 images.append(file.read())
-        self.same(f"{name}: image of C", images[-1] == images[0], True)
+        self.same(f"{name}: images", [image == images[0] for image in images], [True] * len(images))
 
 
 def spoiled():
@@ -402,10 +405,13 @@ def rows(tries):
 class Recorder(Service):
     """A service that records its orders as lines of a call script, each with its answer."""
 
-    def _send_orders(self):
-        orders, self.kept = [data for data, _ in self._orders], getattr(self, "kept", [])
-        sent, answers = super()._send_orders()
-        for data, reply in zip(orders, answers):
+    def _begin(self):
+        self.data, self.kept = [data for data, _ in self._orders], getattr(self, "kept", [])
+        return super()._begin()
+
+    def _take_answers(self, exchange):
+        answers = super()._take_answers(exchange)
+        for data, reply in zip(self.data, answers):
             kind, code, job, channel, number, detail, count = struct.unpack_from(">BBBBIII", data)
             words = struct.unpack_from(f">{count}Q", data, 16)
             if kind == 1:
@@ -416,7 +422,7 @@ class Recorder(Service):
                 numbers = {"RESET": "", "GETSTS": f"{channel:o}", "RELEAS": f"{channel:o}", "MAKDIR": f"{number:o}"}
                 name = Code(code).name
                 self.kept.append((f"{job:o} {name} {numbers.get(name, f'{channel:o} {number:o}')}".rstrip(), reply))
-        return sent, answers
+        return answers
 
 
 def uuos_by_calls(tries):
@@ -444,7 +450,7 @@ def shown_use(tries):
     image = tries.image("USE.IMG")
     done = subprocess.run([os.path.join(tries.folder, "use"), tries.program, image], capture_output=True, text=True,
                           check=False, timeout=LIMIT)
-    tries.same("the use in filser.h", (done.stdout, done.returncode), ("done, go on 2 words\n", 0))
+    tries.same("the use in filser.h", (done.stdout, done.returncode), ("DONE, go on 2 words\n", 0))
 
 
 def main():

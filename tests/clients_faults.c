@@ -1,6 +1,6 @@
 /* Tests the client in C where something goes wrong around it: memory, signals, other threads, the terminal.
 
-   usage: clients_faults memory|signals|descriptors|threads|stop PROGRAM IMAGE
+   usage: clients_faults memory|signals|descriptors|threads|stop|reported|loop|values PROGRAM IMAGE
           clients_faults group PROGRAM IMAGE SHARES
 
    This file includes the client, so that each allocation and each system call of it can be made to fail. Prints a line
@@ -117,17 +117,12 @@ struct bench {
     const char *program, *image;
     struct filser *service;
     uint64_t accumulators[16], memory[CORE_WORDS];
-    struct filser_machine machine;
 };
 
 static void prepare(struct bench *bench, const char *program, const char *image) {
     memset(bench, 0, sizeof *bench);
     bench->program = program;
     bench->image = image;
-    bench->machine.job = 1;
-    bench->machine.accumulators = bench->accumulators;
-    bench->machine.words = bench->memory;
-    bench->machine.size = CORE_WORDS;
     bench->memory[0121] = 0140;
     bench->memory[BLOCK] = 017;
     bench->memory[BLOCK + 1] = 0446353000000; /* SIXBIT /DSK/ */
@@ -143,12 +138,15 @@ static enum filser_error start(struct bench *bench, int shares_group) {
 }
 
 static enum filser_error login(struct bench *bench, uint32_t words) {
-    return filser_login(bench->service, 1, 010, 020, words, NULL);
+    struct filser_memory memory = {.accumulators = bench->accumulators, .words = bench->memory};
+    return filser_login(bench->service, 1, 010, 020, words, &memory, NULL);
 }
 
 static enum filser_error uuo(struct bench *bench, uint64_t operation, uint32_t address,
                              struct filser_outcome *outcome) {
-    return filser_uuo(bench->service, &bench->machine, operation << 27 | 1 << 23 | address, address, outcome);
+    const struct filser_instruction instruction = {
+        .job = 1, .word = operation << 27 | 1 << 23 | address, .address = address};
+    return filser_uuo(bench->service, &instruction, outcome);
 }
 
 /* Returns whether the service's core has the machine's words. */
@@ -398,6 +396,118 @@ static void test_stop(const char *program, const char *image) {
     check(filser_stop(bench.service) == -SIGKILL, "it is killed", 0);
 }
 
+/* What a machine reports, an event loop, and words. */
+
+static enum filser_error login_comparing(struct bench *bench, enum filser_compare compare) {
+    struct filser_memory memory = {.accumulators = bench->accumulators, .words = bench->memory, .compare = compare};
+    return filser_login(bench->service, 1, 010, 020, CORE_WORDS, &memory, NULL);
+}
+
+/* Tests what is compared, and a logout. */
+static void test_reported(const char *program, const char *image) {
+    struct bench bench;
+    struct filser_outcome outcome;
+    struct filser_answer answer;
+    prepare(&bench, program, image);
+    check(start(&bench, 0) == FILSER_ERROR_NONE, "a start", 0);
+    check(login_comparing(&bench, FILSER_COMPARE_DEBUG) == FILSER_ERROR_NONE, "a login", 0);
+    check(uuo(&bench, FILSER_CALL_OPEN, BLOCK, &outcome) == FILSER_ERROR_NONE, "all is compared once", 0);
+    bench.memory[01001]++;
+    bench.memory[01003]++;
+    filser_touched(bench.service, 1, 01000, 3);
+    check(uuo(&bench, FILSER_CALL_OPEN, BLOCK, &outcome) == FILSER_ERROR_MISSED, "a missed word", 0);
+    check(filser_missed(bench.service) == 01003, "its address", filser_missed(bench.service));
+    filser_touched(bench.service, 1, 01003, 1);
+    check(uuo(&bench, FILSER_CALL_OPEN, BLOCK, &outcome) == FILSER_ERROR_NONE, "it is named", 0);
+    check(is_same_core(&bench, CORE_WORDS), "the core", 0);
+    check(login_comparing(&bench, FILSER_COMPARE_TOUCHED) == FILSER_ERROR_NONE, "a second login", 0);
+    check(uuo(&bench, FILSER_CALL_OPEN, BLOCK, &outcome) == FILSER_ERROR_NONE, "all is compared again", 0);
+    for (uint32_t place = 01000; place < CORE_WORDS; place += 0123) {
+        bench.memory[place]++;
+        filser_touched(bench.service, 1, place, 1);
+        bool is_none = uuo(&bench, 051, BLOCK, &outcome) == FILSER_ERROR_NONE;
+        check(is_none && outcome.next == FILSER_NEXT_NOT_MINE, "TTCALL", place);
+    }
+    filser_touched(bench.service, 1, CORE_WORDS - 1, UINT32_MAX);
+    filser_touched(bench.service, 999, 0, 1);
+    check(uuo(&bench, FILSER_CALL_OPEN, BLOCK, &outcome) == FILSER_ERROR_NONE, "what was named", 0);
+    check(is_same_core(&bench, CORE_WORDS), "the core of what was named", 0);
+    check(filser_logout(bench.service, 1, 0, 0, &answer) == FILSER_ERROR_NONE, "a logout", 0);
+    check(answer.kind == FILSER_ANSWER_DONE, "its answer", (long)answer.kind);
+    check(uuo(&bench, FILSER_CALL_OPEN, BLOCK, &outcome) == FILSER_ERROR_NOT_LOGGED_IN, "after a logout", 0);
+    check(filser_examine(bench.service, 1, 0, 1, &answer) == FILSER_ERROR_NOT_LOGGED_IN, "examine after a logout", 0);
+    check(filser_login(bench.service, 1, 010, 020, CORE_WORDS, NULL, NULL) == FILSER_ERROR_NONE, "a third login", 0);
+    check(uuo(&bench, FILSER_CALL_OPEN, BLOCK, &outcome) == FILSER_ERROR_NO_MACHINE, "without a machine", 0);
+    check(filser_stop(bench.service) == 0, "a stop", 0);
+}
+
+static struct filser *to_interrupt;
+
+static void interrupt_by_signal(int number) {
+    (void)number;
+    filser_interrupt(to_interrupt);
+}
+
+static void wait_as_told(const struct filser *service) {
+    struct filser_waits waits = filser_waits_for(service);
+    struct pollfd ends[3] = {{waits.readable, POLLIN, 0}, {waits.writable, POLLOUT, 0}, {waits.interrupt, POLLIN, 0}};
+    poll(ends, 3, waits.timeout);
+}
+
+/* Tests exchanges of an event loop, and an interrupt by a handler of a signal. */
+static void test_loop(const char *program, const char *image) {
+    struct bench bench;
+    struct filser_outcome outcome;
+    const struct filser_answer *answers;
+    const struct filser_instruction open = {.job = 1, .word = 0050040000210, .address = BLOCK};
+    const struct filser_instruction other = {.job = 1, .word = 0051040000210, .address = BLOCK};
+    enum filser_error error;
+    uint64_t blocks;
+    size_t count = 0;
+    prepare(&bench, program, image);
+    check(start(&bench, 0) == FILSER_ERROR_NONE && login(&bench, CORE_WORDS) == FILSER_ERROR_NONE, "a start", 0);
+    check(filser_begin_uuo(bench.service, &open) == FILSER_ERROR_NONE, "a UUO begins", 0);
+    check(filser_room(bench.service, &blocks) == FILSER_ERROR_UNFINISHED, "another call meanwhile", 0);
+    check(filser_advance(bench.service, &answers, &count) == FILSER_ERROR_BAD_ARGUMENT, "the other advance", 0);
+    while ((error = filser_advance_uuo(bench.service, &outcome)) == FILSER_ERROR_UNFINISHED)
+        wait_as_told(bench.service);
+    check(error == FILSER_ERROR_NONE && outcome.advance == 2 && is_same_core(&bench, CORE_WORDS), "its end", 0);
+    check(filser_begin_uuo(bench.service, &other) == FILSER_ERROR_NONE, "a UUO that isn't the service's", 0);
+    check(filser_advance_uuo(bench.service, &outcome) == FILSER_ERROR_NONE, "its end", 1);
+    for (int order = 0; order < 200; order++) filser_add_examine(bench.service, 1, 0, CORE_WORDS);
+    check(filser_begin(bench.service) == FILSER_ERROR_NONE, "a batch begins", 0);
+    while ((error = filser_advance(bench.service, &answers, &count)) == FILSER_ERROR_UNFINISHED)
+        wait_as_told(bench.service);
+    check(error == FILSER_ERROR_NONE && count == 200 && answers[199].count == CORE_WORDS, "the batch", (long)count);
+    to_interrupt = bench.service;
+    signal(SIGUSR2, interrupt_by_signal);
+    raise(SIGUSR2);
+    check(!filser_has_ended(bench.service), "it hasn't ended yet", 0);
+    check(filser_room(bench.service, &blocks) == FILSER_ERROR_INTERRUPTED, "an interrupt", 0);
+    check(filser_has_ended(bench.service) && filser_room(bench.service, &blocks) == FILSER_ERROR_ENDED, "after it", 0);
+    check(filser_stop(bench.service) == 0, "a stop", 0);
+}
+
+static void test_values(void) {
+    uint64_t word = 0;
+    unsigned date = 0, minute = 9999;
+    check(filser_sixbit("DSK", &word) == FILSER_ERROR_NONE && word == 0446353000000, "SIXBIT", 0);
+    check(filser_sixbit("TOOLONG", &word) == FILSER_ERROR_BAD_ARGUMENT, "seven characters", 0);
+    check(filser_sixbit("dsk", &word) == FILSER_ERROR_BAD_ARGUMENT, "lower case", 0);
+    check(filser_iowd(2, 0500, &word) == FILSER_ERROR_NONE && word == 0777776000477, "IOWD", 0);
+    check(filser_iowd(0, 0500, &word) == FILSER_ERROR_BAD_ARGUMENT, "no words", 0);
+    check(filser_iowd(1, 0, &word) == FILSER_ERROR_BAD_ARGUMENT, "no address before", 0);
+    check(filser_date(1975, 1, 4, &date) == FILSER_ERROR_NONE && date == 4095, "4-Jan-1975", date);
+    check(filser_date(2052, 2, 1, &date) == FILSER_ERROR_NONE && date == 32767, "1-Feb-2052", date);
+    check(filser_date(2052, 2, 2, &date) == FILSER_ERROR_BAD_ARGUMENT, "2-Feb-2052", 0);
+    check(filser_date(1975, 2, 29, &date) == FILSER_ERROR_BAD_ARGUMENT, "29-Feb-1975", 0);
+    check(filser_date(1963, 12, 31, &date) == FILSER_ERROR_BAD_ARGUMENT, "31-Dec-1963", 0);
+    check(filser_now(&date, &minute) == FILSER_ERROR_NONE && minute < 1440 && date > 20000, "now", date);
+    check(strcmp(filser_call_text(FILSER_CALL_OPEN), "OPEN") == 0, "the text of OPEN", 0);
+    check(strcmp(filser_answer_text(FILSER_ANSWER_ADDRESS_CHECK), "ADDRESS CHECK") == 0, "the text of a kind", 0);
+    check(strcmp(filser_version(), FILSER_VERSION) == 0, "the version", 0);
+}
+
 int main(int count, char **words) {
     if (count < 4) return 2;
     if (strcmp(words[1], "memory") == 0) test_memory(words[2], words[3]);
@@ -406,6 +516,9 @@ int main(int count, char **words) {
     if (strcmp(words[1], "threads") == 0) test_threads(words[2], words[3]);
     if (strcmp(words[1], "stop") == 0) test_stop(words[2], words[3]);
     if (strcmp(words[1], "group") == 0 && count == 5) test_group(words[2], words[3], atoi(words[4]));
+    if (strcmp(words[1], "reported") == 0) test_reported(words[2], words[3]);
+    if (strcmp(words[1], "loop") == 0) test_loop(words[2], words[3]);
+    if (strcmp(words[1], "values") == 0) test_values();
     printf("%d %d\n", checks, failures);
     return 0;
 }

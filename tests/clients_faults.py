@@ -7,8 +7,9 @@ usage: tests/clients_faults.py PROGRAM
 - Random programs whose UUOs say what the machine has changed: the same answers and the same image as if all of its
   memory is compared, also after UUOs that the service doesn't do, second logins, empty ranges and errors.
 - The client in C (clients_faults.c), with the sanitizers of the compiler if it has them: each allocation refused, a
-  signal at each system call, two services in two threads beside one that starts programs, unread answers, a timeout.
-- The client in Python: an exception at each of its steps, words that aren't whole numbers, the same stops.
+  signal at each system call, two services in two threads beside one that starts programs, unread answers, a timeout,
+  what a machine reports of its changes, an event loop.
+- The client in Python: an exception at each of its steps, words that aren't whole numbers, and the same.
 - An interrupt from the terminal; a program in C++ that includes the header.
 
 Prints a line for each failed check, and one line at the end.
@@ -25,13 +26,14 @@ import sys
 import tempfile
 import threading
 import time
+from array import array
 
 from clients import CLIENTS, FLAGS, HERE, LIMIT, Tries, error_of
 from clients_fake import CALL, DEPOSIT, EXAMINE, LOGIN, ROOM, RULES
 from clients_rows import word_of
 
 import filser
-from filser import Code, Error, Kind, Service, ServiceError, iowd, sixbit
+from filser import Code, Compare, Error, Kind, Next, Service, ServiceError, iowd, sixbit
 
 FAKE = os.path.join(HERE, "clients_fake.py")
 SANITIZERS = ["-g", "-fsanitize=address,undefined", "-fno-sanitize-recover=undefined"]
@@ -75,7 +77,7 @@ def unwanted_answer(tries):
     """Tests an answer that comes by itself, after the answer to the last order was read."""
     written = os.path.join(tries.folder, "WRITTEN")
     for client, player in tries.players.items():
-        words = [*player, FAKE, "an answer by itself", "1"]
+        words = [*player, FAKE, "an answer by itself", "1", "0"]
         with subprocess.Popen(words, stdin=subprocess.PIPE, stdout=subprocess.PIPE, text=True, cwd=tries.folder,
                               bufsize=1) as process:
             process.stdin.write("1 USETI 1 1\n")
@@ -167,7 +169,7 @@ def random_programs(tries):
     for seed in range(PROGRAMS):
         lines = RandomProgram(seed).lines
         wanted = None
-        for client in tries.players:
+        for client in [*tries.players, *tries.others]:
             for kind, played in (("all", [line for line in lines if "HINT" not in line]), ("hints", lines)):
                 image = tries.image("HINTS.IMG")
                 answers = tries.play(client, image, made + played)
@@ -191,7 +193,8 @@ def faults_in_c(tries):
     image = tries.image("FAULTS.IMG")
     for place in range(2):
         tries.image(f"FAULTS.IMG.{place}")
-    for words in (["memory"], ["signals"], ["descriptors"], ["threads"], ["stop"], ["group", "0"], ["group", "1"]):
+    for words in (["memory"], ["signals"], ["descriptors"], ["threads"], ["stop"], ["reported"], ["loop"], ["values"],
+                  ["group", "0"], ["group", "1"]):
         done = subprocess.run([program, words[0], tries.program, image, *words[1:]], capture_output=True, text=True,
                               check=False, timeout=LIMIT, start_new_session=True)
         *failed, last = done.stdout.split("\n")[:-1] or ["nothing"]
@@ -234,15 +237,15 @@ def steps_of(function, stop_at=None):
 class Machine:
     """A machine with its service, for the client in Python."""
 
-    def __init__(self, program, image):
+    def __init__(self, program, image, compare=Compare.ALL):
+        self.accumulators, self.memory = [0] * 16, array("Q", bytes(8 * 0o1000))
         self.service = Service(program, image)
-        self.service.login(1, 0o10, 0o20, 0o1000)
-        self.accumulators, self.memory = [0] * 16, [0] * 0o1000
+        self.service.login(1, 0o10, 0o20, 0o1000, self.accumulators, self.memory, compare)
         self.memory[0o121], self.memory[0o210], self.memory[0o211] = 0o140, 0o17, sixbit("DSK")
         self.uuo()
 
     def uuo(self, changed=None):
-        return self.service.uuo(1, word_of("OPEN", 1, 0o210), 0o210, self.accumulators, self.memory, changed=changed)
+        return self.service.uuo(1, word_of("OPEN", 1, 0o210), 0o210, changed=changed)
 
     def play(self):
         """Makes each kind of exchange."""
@@ -262,7 +265,7 @@ class Machine:
         except ServiceError as error:
             return error.error == Error.ENDED and error_of(self.uuo) == Error.ENDED
         done = self.uuo((0o700, 0o700)).kind == Kind.DONE
-        return done and self.service.examine(1, 0, 0o1000).words == self.accumulators + self.memory[16:]
+        return done and self.service.examine(1, 0, 0o1000).words == self.accumulators + list(self.memory[16:])
 
 
 def interrupted_steps(tries):
@@ -288,9 +291,10 @@ def wrong_words(tries):
     machine = Machine(tries.program, tries.image("FLOATS.IMG"))
     for word in (1.5, "1", None, -1, 1 << 36):
         tries.same(f"deposit {word}", error_of(machine.service.add_deposit, 1, 0o400, [1, word]), Error.BAD_WORD)
-        machine.memory[0o500], machine.memory[0o700] = 1, word
-        tries.same(f"memory {word}", error_of(machine.uuo), Error.BAD_WORD)
-        machine.memory[0o700] = 0
+        memory = list(machine.memory)
+        memory[0o500], memory[0o700] = 1, word
+        found = error_of(machine.service.uuo, 1, word_of("OPEN", 1, 0o210), 0o210, machine.accumulators, memory)
+        tries.same(f"memory {word}", found, Error.BAD_WORD)
         tries.same(f"after {word}", machine.is_right(), True)
     machine.service.stop()
 
@@ -329,6 +333,80 @@ def terminals(tries):
         done = subprocess.run([sys.executable, __file__, "group", tries.program, image, shares], capture_output=True,
                               text=True, check=False, timeout=LIMIT, start_new_session=True)
         tries.same(f"an interrupt, {shares or 0}", done.stdout, wanted)
+
+
+def reported(tries):
+    """Tests what a machine reports of its changes to the client in Python, and a logout."""
+    machine = Machine(tries.program, tries.image("REPORTED.IMG"), Compare.DEBUG)
+    machine.memory[0o701] += 1
+    machine.memory[0o703] += 1
+    machine.service.touched(1, 0o700, 3)
+    try:
+        machine.uuo()
+        tries.same("a missed word", "none", "one")
+    except ServiceError as error:
+        tries.same("a missed word", (error.error, error.address), (Error.MISSED, 0o703))
+    machine.service.touched(1, 0o703, 1)
+    tries.same("it is named", machine.is_right(), True)
+    tries.same("a logout", machine.service.logout(1).kind, Kind.DONE)
+    tries.same("after it", error_of(machine.uuo), Error.NOT_LOGGED_IN)
+    tries.same("examine after it", error_of(machine.service.examine, 1, 0, 1), Error.NOT_LOGGED_IN)
+    machine.service.login(1, 0o10, 0o20, 0o1000)
+    without = error_of(machine.service.uuo, 1, word_of("OPEN", 1, 0o210), 0o210)
+    tries.same("without a machine", without, Error.NO_MACHINE)
+    short = error_of(machine.service.login, 1, 0o10, 0o20, 0o1000, [0] * 16, [0] * 0o777)
+    tries.same("a short memory", short, Error.SHORT_MEMORY)
+    machine.service.stop()
+    machine = Machine(tries.program, tries.image("REPORTED.IMG"), Compare.TOUCHED)
+    for place in range(0o400, 0o1000, 0o23):
+        machine.memory[place] += 1
+        machine.service.touched(1, place, 1)
+        tries.same("TTCALL", machine.service.uuo(1, 0o51 << 27, 0).next, Next.NOT_MINE)
+    tries.same("all that was named", machine.is_right(), True)
+    machine.service.stop()
+
+
+def loops(tries):
+    """Tests exchanges of an event loop by the client in Python, and an interrupt from another thread."""
+    machine = Machine(tries.program, tries.image("LOOP.IMG"))
+    service = machine.service
+
+    def complete(advance):
+        while True:
+            result = advance()
+            if result is not None:
+                return result
+            waits = service.waits_for()
+            writable = [waits.writable] if waits.writable >= 0 else []
+            select.select([waits.readable, waits.interrupt], writable, [])
+
+    tries.same("a UUO begins", service.begin_uuo(1, word_of("OPEN", 1, 0o210), 0o210), True)
+    tries.same("another call meanwhile", error_of(service.room), Error.UNFINISHED)
+    tries.same("the other advance", error_of(service.advance), Error.BAD_ARGUMENT)
+    tries.same("a UUO", complete(service.advance_uuo).advance, 2)
+    tries.same("not the service's", service.begin_uuo(1, 0o51 << 27, 0), False)
+    for _ in range(200):
+        service.add_examine(1, 0, 0o1000)
+    service.begin()
+    tries.same("a batch", len(complete(service.advance)), 200)
+    tries.same("the core", machine.is_right(), True)
+    thread = threading.Thread(target=service.interrupt)
+    thread.start()
+    thread.join()
+    tries.same("an interrupt", (service.has_ended, error_of(service.room)), (False, Error.INTERRUPTED))
+    tries.same("after it", (service.has_ended, error_of(service.room)), (True, Error.ENDED))
+    tries.same("its status", service.stop(), 0)
+
+
+def values(tries):
+    """Tests the words and numbers that the client in Python makes."""
+    rows = [(filser.sixbit, ("TOOLONG",)), (filser.sixbit, ("dsk",)), (filser.iowd, (0, 0o500)), (filser.iowd, (1, 0)),
+            (filser.date_number, (1975, 2, 29)), (filser.date_number, (2052, 2, 2)), (filser.halves, (1 << 18, 0)),
+            (filser.date_number, (1963, 12, 31))]
+    for function, arguments in rows:
+        tries.same(f"{function.__name__}{arguments}", error_of(function, *arguments), Error.BAD_ARGUMENT)
+    tries.same("1-Feb-2052", filser.date_number(2052, 2, 1), 32767)
+    tries.same("now", 20000 < filser.now()[0] < 32768 and filser.now()[1] < 1440, True)
 
 
 def threads(tries):
@@ -419,7 +497,7 @@ def main():
         find_sanitizers(tries)
         tries.compile(tries.sanitizers)
         for part in [broken_rules, unwanted_answer, silence, random_programs, faults_in_c, interrupted_steps,
-                     wrong_words, stops, terminals, threads, in_cplusplus]:
+                     wrong_words, stops, terminals, threads, reported, loops, values, in_cplusplus]:
             part(tries)
     print(f"clients_faults: {tries.count - tries.failed} of {tries.count} as they should be; {tries.lines} lines of "
           "random programs")

@@ -1,7 +1,9 @@
 /* Plays lines by the client in C, as clients_player.py does by the client in Python; the head of that file describes
    the lines.
 
-   usage: clients_player PROGRAM IMAGE FORM [TIMEOUT] */
+   usage: clients_player PROGRAM IMAGE FORM TIMEOUT [functions]
+
+   With functions the machine's memory is read and written by functions; otherwise it is an array. */
 #include "filser.h"
 
 #include <inttypes.h>
@@ -27,8 +29,11 @@ struct core {
 
 static struct filser *service;
 static struct core cores[256];
-static uint64_t accumulators[16], memory[MOST_WORDS], was[MOST_WORDS], *pages[MOST_WORDS / 512];
-static struct filser_machine machine = {.accumulators = accumulators, .words = memory};
+static uint64_t accumulators[16], memory[MOST_WORDS], was[MOST_WORDS];
+static size_t memory_size;
+static struct filser_memory given = {.accumulators = accumulators, .words = memory, .compare = FILSER_COMPARE_TOUCHED};
+static struct filser_instruction instruction;
+static uint32_t first_changed, last_changed;
 static struct line batch[MOST_LINES];
 
 static const struct { const char *name; enum filser_call_code code; int parts; } CALLS[] = {
@@ -40,9 +45,9 @@ static const struct { const char *name; enum filser_call_code code; int parts; }
     {"LOOKUP", FILSER_CALL_LOOKUP, 2}, {"ENTER", FILSER_CALL_ENTER, 2},
 };
 
-static const char *const ERRORS[] = {"NONE", "BAD_ARGUMENT", "BAD_WORD", "NOT_LOGGED_IN", "NOT_SENT", "SHORT_MEMORY",
-                                     "NO_MEMORY", "LOST", "NOT_FOUND", "IN_USE", "IMAGE_REFUSED", "NOT_STARTED",
-                                     "ENDED", "PROTOCOL", "TIMED_OUT"};
+static const char *const ERRORS[] = {"NONE", "BAD_ARGUMENT", "BAD_WORD", "NOT_LOGGED_IN", "NOT_SENT", "NO_MACHINE",
+                                     "MISSED", "UNFINISHED", "NO_MEMORY", "LOST", "NOT_FOUND", "IN_USE",
+                                     "IMAGE_REFUSED", "NOT_STARTED", "ENDED", "PROTOCOL", "TIMED_OUT", "INTERRUPTED"};
 
 static void print_answer(enum filser_answer_kind kind, uint64_t value) {
     static const char *const texts[] = {"WRONG", "DONE", "", "", "", "NOCHANNEL", "ADDRESS", "NOJOB", "NOMEMORY",
@@ -84,7 +89,8 @@ static enum filser_error add(const struct line *line) {
     const uint64_t *numbers = line->numbers;
     if (strcmp(line->name, "ROOM") == 0) return filser_add_room(service);
     if (strcmp(line->name, "LOGIN") == 0)
-        return filser_add_login(service, line->job, (uint32_t)numbers[0], (uint32_t)numbers[1], (uint32_t)numbers[2]);
+        return filser_add_login(service, line->job, (uint32_t)numbers[0], (uint32_t)numbers[1], (uint32_t)numbers[2],
+                                &given);
     if (strcmp(line->name, "DEP") == 0)
         return filser_add_deposit(service, line->job, (uint32_t)numbers[0], &numbers[1], 1);
     if (strcmp(line->name, "EXA") == 0) return filser_add_examine(service, line->job, (uint32_t)numbers[0], 1);
@@ -92,7 +98,8 @@ static enum filser_error add(const struct line *line) {
         if (strcmp(line->name, CALLS[place].name) == 0) {
             unsigned channel = CALLS[place].parts < 2 ? 0 : (unsigned)numbers[0];
             return filser_add_call(service, line->job, CALLS[place].code, channel,
-                                   (uint32_t)numbers[CALLS[place].parts < 2 ? 0 : 1], machine.date, machine.minute);
+                                   (uint32_t)numbers[CALLS[place].parts < 2 ? 0 : 1], instruction.date,
+                                   instruction.minute);
         }
     return FILSER_ERROR_BAD_ARGUMENT;
 }
@@ -101,7 +108,7 @@ static enum filser_error add(const struct line *line) {
 static void print_reply(const struct line *line, const struct filser_answer *answer) {
     struct core *core = &cores[line->job];
     if (answer->kind == FILSER_ANSWER_DONE && strcmp(line->name, "LOGIN") == 0) {
-        machine.size = core->size = line->numbers[2];
+        memory_size = core->size = line->numbers[2];
         memset(memory, 0, sizeof memory);
         free(core->words);
         core->words = calloc(core->size, sizeof *core->words);
@@ -177,33 +184,52 @@ static void play_batch(size_t lines) {
     }
 }
 
-/* Plays a UUO of the machine. Every second one is given the memory as pages. */
+/* Functions that read and write the machine's memory. */
+static void read_memory(void *context, uint32_t first, size_t count, uint64_t *words) {
+    (void)context;
+    memcpy(words, first < 16 ? accumulators + first : memory + first, count * sizeof *words);
+}
+
+static void write_memory(void *context, uint32_t first, size_t count, const uint64_t *words) {
+    (void)context;
+    memcpy(first < 16 ? accumulators + first : memory + first, words, count * sizeof *words);
+}
+
+/* Notes the words of a HINT, or all. */
+static void touch_words(unsigned job, size_t size) {
+    if (last_changed == 0)
+        filser_touched(service, job, 0, (uint32_t)size);
+    else if (last_changed >= first_changed)
+        filser_touched(service, job, first_changed, last_changed - first_changed + 1);
+    first_changed = last_changed = 0;
+}
+
+/* Plays a UUO of the machine. */
 static void play_uuo(const struct line *line) {
-    static unsigned uuos;
     struct filser_outcome outcome;
     struct filser_answer answer;
-    size_t size = machine.size;
+    size_t size = memory_size;
     uint64_t registers[16];
     memcpy(was, memory, size * sizeof *was);
     memcpy(registers, accumulators, sizeof registers);
-    for (size_t page = 0; page < MOST_WORDS / 512; page++) pages[page] = memory + 512 * page;
-    machine.job = (unsigned)line->numbers[0];
-    machine.pages = pages;
-    machine.words = uuos++ % 2 == 0 ? memory : NULL;
-    machine.pc = (uint32_t)line->numbers[3];
-    enum filser_error error = filser_uuo(service, &machine, line->numbers[1], (uint32_t)line->numbers[2], &outcome);
-    machine.first_changed = machine.last_changed = 0;
-    if (print_error(error)) return;
-    printf("%d ", outcome.advance);
+    instruction.job = (unsigned)line->numbers[0];
+    instruction.word = line->numbers[1];
+    instruction.address = (uint32_t)line->numbers[2];
+    instruction.pc = (uint32_t)line->numbers[3];
+    touch_words(instruction.job, size);
+    if (print_error(filser_uuo(service, &instruction, &outcome))) return;
+    bool is_mine = outcome.next != FILSER_NEXT_NOT_MINE;
+    if (filser_is_uuo(instruction.word, instruction.address) != is_mine) printf("NOT AS ASKED ");
+    printf("%s%d ", outcome.next == FILSER_NEXT_STOP ? "STOP " : "", outcome.advance);
     print_answer(outcome.kind, outcome.value);
     for (size_t place = 0; place < 16; place++)
         if (accumulators[place] != registers[place]) printf(" %zo=%012" PRIo64, place, accumulators[place]);
     for (size_t place = 16; place < size; place++)
         if (memory[place] != was[place]) printf(" %zo=%012" PRIo64, place, memory[place]);
-    error = filser_examine(service, machine.job, 0, (uint32_t)size, &answer);
+    enum filser_error error = filser_examine(service, instruction.job, 0, (uint32_t)size, &answer);
     for (size_t place = 0; place < size && !error; place++) {
         uint64_t word = place < 16 ? accumulators[place] : memory[place];
-        cores[machine.job].words[place] = answer.changes[place].word;
+        cores[instruction.job].words[place] = answer.changes[place].word;
         if (answer.changes[place].word != word) printf(" BEHIND %zo", place);
     }
     printf("\n");
@@ -220,12 +246,12 @@ static void play(struct line *line) {
     const uint64_t *numbers = line->numbers;
     unsigned long count;
     parse(line);
-    if (sscanf(line->text, "AT %u %u", &machine.date, &machine.minute) == 2) return;
+    if (sscanf(line->text, "AT %u %u", &instruction.date, &instruction.minute) == 2) return;
     if (strcmp(line->name, "POKE") == 0) {
         *(numbers[0] < 16 ? &accumulators[numbers[0]] : &memory[numbers[0]]) = numbers[1];
     } else if (strcmp(line->name, "HINT") == 0) {
-        machine.first_changed = (uint32_t)numbers[0];
-        machine.last_changed = (uint32_t)numbers[1];
+        first_changed = (uint32_t)numbers[0];
+        last_changed = (uint32_t)numbers[1];
     } else if (strcmp(line->name, "STOP") == 0) {
         printf("STATUS %d\n", filser_stop(service));
         service = NULL;
@@ -245,11 +271,16 @@ static void play(struct line *line) {
 int main(int count, char **words) {
     static struct line line;
     struct filser_options options = {.size = sizeof options};
-    if (count != 4 && count != 5) return 2;
+    if (count != 5 && count != 6) return 2;
     options.program = words[1];
     options.image = words[2];
     options.form = atoi(words[3]);
-    options.timeout = count == 5 ? atoi(words[4]) : 0;
+    options.timeout = atoi(words[4]);
+    if (count == 6) {
+        given.words = NULL;
+        given.read = read_memory;
+        given.write = write_memory;
+    }
     setvbuf(stdout, NULL, _IOLBF, BUFSIZ);
     enum filser_error error = filser_start(&options, &service);
     if (error) {

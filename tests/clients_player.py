@@ -1,7 +1,7 @@
 #!/usr/bin/env python3
 """Plays lines by the client in Python; clients_player.c plays the same lines by the client in C.
 
-usage: clients_player.py PROGRAM IMAGE FORM [TIMEOUT]
+usage: clients_player.py PROGRAM IMAGE FORM TIMEOUT
 
 A line of a call script is answered as `filser calls` answers it. After a call the whole core of the job is examined:
 its words that have changed follow, each as ADDRESS=WORD, and UNTOLD or MISTOLD with an address if the answer to the
@@ -11,8 +11,9 @@ call didn't return such a word as it is. Numbers are octal, except in AT, ROOM a
     ROOM                the blocks that are left
     BATCH N             the N lines that follow are sent by one write
     POKE ADDRESS WORD   a word of the machine, whose memory is as large as the core of the last job that logged in
-    UUO J WORD E PC     a UUO of the machine: how far it goes on, the answer, the words of the machine that have
-                        changed, and BEHIND with an address if the job's core has another word there than the machine
+    UUO J WORD E PC     a UUO of the machine: STOP if the monitor would have stopped the program, how far it goes on,
+                        the answer, the words of the machine that have changed, and BEHIND with an address if the job's
+                        core has another word there than the machine
     HINT FIRST LAST     what the next UUO is told of the words that have changed
     STOP                the exit status
 """
@@ -22,7 +23,7 @@ import sys
 
 sys.path.insert(0, os.path.join(os.path.dirname(os.path.abspath(__file__)), "..", "clients", "python"))
 
-from filser import Code, Kind, Service, ServiceError
+from filser import Code, Kind, Next, Service, ServiceError, is_uuo
 
 TEXTS = {Kind.NO_CHANNEL: "NOCHANNEL", Kind.ADDRESS_CHECK: "ADDRESS", Kind.NO_JOB: "NOJOB", Kind.NO_MEMORY: "NOMEMORY",
          Kind.DATE_RANGE: "DATE", Kind.DONE: "DONE", Kind.DEVICE: "DEVICE", Kind.FAILED: "FAILED", Kind.WRONG: "WRONG"}
@@ -107,7 +108,9 @@ class Player:
         hint, self.hint = self.hint, None
         outcome = self.service.uuo(job, word, address, self.accumulators, self.memory, pc, *self.moment, changed=hint)
         after = self.accumulators + self.memory[16:]
-        replies = [str(outcome.advance), text_of(outcome.kind, outcome.value), *changes_of(before, after)]
+        replies = ["STOP"] if outcome.next is Next.STOP else []
+        replies += ["NOT AS ASKED"] if is_uuo(word, address) == (outcome.next is Next.NOT_MINE) else []
+        replies += [str(outcome.advance), text_of(outcome.kind, outcome.value), *changes_of(before, after)]
         core = self.service.examine(job, 0, len(after)).words
         replies += [f"BEHIND {place:o}" for place, (old, new) in enumerate(zip(core, after)) if old != new]
         self.cores[job] = core
@@ -139,7 +142,7 @@ class Player:
 
 def main():
     try:
-        player = Player(Service(*sys.argv[1:3], int(sys.argv[3]), timeout=int((sys.argv + ["0"])[4])))
+        player = Player(Service(*sys.argv[1:3], int(sys.argv[3]), timeout=int(sys.argv[4])))
     except ServiceError as error:
         print(f"ERROR {error.error.name} {error.status} {error.text}")
         return

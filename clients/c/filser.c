@@ -40,11 +40,15 @@ struct bytes {
     size_t length, room;
 };
 
-/* A copy of the core that the service has for a job. */
+/* A copy of the core that the service has for a job, and the machine's memory. */
 struct core {
     size_t size;
     uint64_t *words;
-    bool *touched; /* for each TOUCH_WORDS words whether the machine may have other ones than the copy */
+    size_t grain;  /* the words of a piece: 1 in debug mode, where a missed word is looked for */
+    bool *touched; /* for each piece whether the machine may have other words than the copy */
+    bool is_fresh; /* no UUO was sent since the LOGIN, so all words are compared */
+    struct filser_memory memory;
+    bool has_memory;
 };
 
 /* What is left of an order after it is written: what its answer may be, and changes in the copy of a core. */
@@ -55,9 +59,33 @@ struct order {
     struct core *core;   /* of a LOGIN: the copy if it is done, for which there has to be memory before it is sent */
 };
 
+/* The parts of a UUO, and a call of one. */
+struct uuo {
+    unsigned operation, channel;
+    uint32_t address, pc;
+};
+
+struct call {
+    enum filser_call_code code;
+    unsigned channel;
+    uint32_t number;
+    size_t place; /* of its order, and so of its answer */
+};
+
+/* An exchange that was begun: how far the orders are written and the answers read. */
+struct exchange {
+    bool is_running, is_uuo;
+    size_t written, place, answers, words;
+    int64_t deadline;
+    struct uuo uuo; /* what it does if it is of a UUO; there are no calls if that isn't the service's */
+    unsigned job;
+    struct call calls[CHANNELS];
+    size_t call_count;
+};
+
 struct filser {
     pid_t child;
-    int to, from, timeout;
+    int to, from, wake[2], timeout;
     bool has_ended, has_failed; /* the exchange; the disk */
     struct bytes sending, held;
     struct order *orders;
@@ -65,6 +93,9 @@ struct filser {
     struct filser_answer *answers;
     struct filser_change *changes;
     struct core *cores[JOBS];
+    bool is_out[JOBS]; /* by filser_logout */
+    uint32_t missed;
+    struct exchange exchange;
     char printed[256];
 };
 
@@ -101,33 +132,38 @@ static void free_core(struct core *core) {
     free(core);
 }
 
-/* Returns the copy of a core as a LOGIN leaves it, with all of the machine's words to be sent; NULL if there is no
-   memory. */
-static struct core *new_core(size_t size) {
+static size_t pieces_of(const struct core *core) { return core->size / core->grain + 1; }
+
+/* Returns the copy of a core as a LOGIN leaves it; NULL if there is no memory. */
+static struct core *new_core(size_t size, const struct filser_memory *memory) {
     struct core *core = calloc(1, sizeof *core);
     if (core == NULL) return NULL;
     core->size = size;
+    core->has_memory = memory != NULL;
+    if (memory != NULL) core->memory = *memory;
+    core->grain = core->memory.compare == FILSER_COMPARE_DEBUG ? 1 : TOUCH_WORDS;
+    core->is_fresh = true;
     core->words = calloc(size, sizeof *core->words);
-    core->touched = malloc((size / TOUCH_WORDS + 1) * sizeof *core->touched);
+    core->touched = calloc(pieces_of(core), sizeof *core->touched);
     if (core->words == NULL || core->touched == NULL) {
         free_core(core);
         return NULL;
     }
     core->words[FIRST_FREE] = 0140;
-    memset(core->touched, true, (size / TOUCH_WORDS + 1) * sizeof *core->touched);
     return core;
 }
 
 /* Notes that the machine may have other words than the copy from one address to before another. */
 static void touch(struct core *core, size_t first, size_t past) {
     if (past > core->size) past = core->size;
-    for (size_t piece = first / TOUCH_WORDS; first < past && piece <= (past - 1) / TOUCH_WORDS; piece++)
+    for (size_t piece = first / core->grain; first < past && piece <= (past - 1) / core->grain; piece++)
         core->touched[piece] = true;
 }
 
 /* Notes that the copy has the machine's words. */
 static void forget_touched(struct core *core) {
-    memset(core->touched, false, (core->size / TOUCH_WORDS + 1) * sizeof *core->touched);
+    memset(core->touched, false, pieces_of(core) * sizeof *core->touched);
+    core->is_fresh = false;
 }
 
 /* Orders. */
@@ -167,13 +203,27 @@ static enum filser_error add_order(struct filser *service, const unsigned char p
 
 static bool is_half(uint32_t number) { return number >= 1 && number < CORE_LIMIT; }
 
+static bool is_memory(const struct filser_memory *memory) {
+    bool has_words = memory->accumulators != NULL && memory->words != NULL;
+    return has_words || (memory->words == NULL && memory->read != NULL && memory->write != NULL);
+}
+
+/* Returns whether an order may be collected for a job. */
+static enum filser_error check_job(const struct filser *service, unsigned job) {
+    if (service->exchange.is_running) return FILSER_ERROR_UNFINISHED;
+    if (job >= JOBS) return FILSER_ERROR_BAD_ARGUMENT;
+    return service->is_out[job] ? FILSER_ERROR_NOT_LOGGED_IN : FILSER_ERROR_NONE;
+}
+
 enum filser_error filser_add_login(struct filser *service, unsigned job, uint32_t project, uint32_t programmer,
-                                   uint32_t words) {
+                                   uint32_t words, const struct filser_memory *memory) {
+    if (service->exchange.is_running) return FILSER_ERROR_UNFINISHED;
     if (job >= JOBS || !is_half(project) || !is_half(programmer)) return FILSER_ERROR_BAD_ARGUMENT;
+    if (memory != NULL && !is_memory(memory)) return FILSER_ERROR_BAD_ARGUMENT;
     const unsigned char parts[4] = {LOGIN, 0, (unsigned char)job, 0};
     const uint64_t owner = (uint64_t)project << 18 | programmer;
     bool is_size = words >= LEAST_CORE && words <= MOST_CORE; /* else the service refuses it */
-    struct core *core = is_size ? new_core(words) : NULL;
+    struct core *core = is_size ? new_core(words, memory) : NULL;
     if (is_size && core == NULL) return FILSER_ERROR_NO_MEMORY;
     enum filser_error error = add_order(service, parts, words, 0, &owner, 1);
     if (error)
@@ -185,13 +235,17 @@ enum filser_error filser_add_login(struct filser *service, unsigned job, uint32_
 
 enum filser_error filser_add_deposit(struct filser *service, unsigned job, uint32_t address, const uint64_t *words,
                                      size_t count) {
-    if (job >= JOBS || address > CORE_LIMIT || count > CORE_LIMIT - address) return FILSER_ERROR_BAD_ARGUMENT;
+    enum filser_error error = check_job(service, job);
+    if (error) return error;
+    if (address > CORE_LIMIT || count > CORE_LIMIT - address) return FILSER_ERROR_BAD_ARGUMENT;
     const unsigned char parts[4] = {DEPOSIT, 0, (unsigned char)job, 0};
     return add_order(service, parts, address, 0, words, count);
 }
 
 enum filser_error filser_add_examine(struct filser *service, unsigned job, uint32_t address, uint32_t count) {
-    if (job >= JOBS || address > CORE_LIMIT || count > CORE_LIMIT - address) return FILSER_ERROR_BAD_ARGUMENT;
+    enum filser_error error = check_job(service, job);
+    if (error) return error;
+    if (address > CORE_LIMIT || count > CORE_LIMIT - address) return FILSER_ERROR_BAD_ARGUMENT;
     const unsigned char parts[4] = {EXAMINE, 0, (unsigned char)job, 0};
     return add_order(service, parts, address, count, NULL, 0);
 }
@@ -222,14 +276,16 @@ static bool is_call(enum filser_call_code code, unsigned channel, uint32_t numbe
 
 enum filser_error filser_add_call(struct filser *service, unsigned job, enum filser_call_code code, unsigned channel,
                                   uint32_t number, unsigned date, unsigned minute) {
-    if (job >= JOBS || !is_call(code, channel, number)) return FILSER_ERROR_BAD_ARGUMENT;
-    if (date >= 32768 || minute >= 1440) return FILSER_ERROR_BAD_ARGUMENT;
+    enum filser_error error = check_job(service, job);
+    if (error) return error;
+    if (!is_call(code, channel, number) || date >= 32768 || minute >= 1440) return FILSER_ERROR_BAD_ARGUMENT;
     const unsigned char parts[4] = {CALL, (unsigned char)code, (unsigned char)job, (unsigned char)channel};
     return add_order(service, parts, number, (uint32_t)date << 16 | minute, NULL, 0);
 }
 
 enum filser_error filser_add_room(struct filser *service) {
     const unsigned char parts[4] = {ROOM, 0, 0, 0};
+    if (service->exchange.is_running) return FILSER_ERROR_UNFINISHED;
     return add_order(service, parts, 0, 0, NULL, 0);
 }
 
@@ -310,24 +366,35 @@ static enum filser_error check_silence(struct filser *service) {
     return !error && service->held.length > 0 ? FILSER_ERROR_PROTOCOL : error;
 }
 
-/* Writes the orders, and meanwhile reads until each is answered. */
-static enum filser_error exchange(struct filser *service, size_t *words) {
-    int64_t deadline = milliseconds() + service->timeout;
-    size_t written = write_orders(service, 0), place = 0, answers = 0;
-    while (answers < service->order_count) {
-        bool writes = written < service->sending.length;
-        struct pollfd ends[2] = {{service->from, POLLIN, 0}, {writes ? service->to : -1, POLLOUT, 0}};
-        int ready = poll(ends, 2, time_left(service, deadline));
-        if (ready == 0) return FILSER_ERROR_TIMED_OUT;
-        if (ready < 0 && errno == EINTR) continue;
-        if (ready < 0) return FILSER_ERROR_ENDED;
-        if (ends[1].revents != 0) written = write_orders(service, written);
-        if (ends[0].revents == 0) continue;
+/* Writes and reads what can be written and read without waiting. Returns no error if each order is answered. */
+static enum filser_error go_on(struct filser *service) {
+    struct exchange *exchange = &service->exchange;
+    struct pollfd ends[2] = {{service->from, POLLIN, 0}, {service->wake[0], POLLIN, 0}};
+    if (exchange->written < service->sending.length) exchange->written = write_orders(service, exchange->written);
+    if (poll(ends, 2, 0) < 0) return errno == EINTR ? FILSER_ERROR_UNFINISHED : FILSER_ERROR_ENDED;
+    if (ends[1].revents != 0) return FILSER_ERROR_INTERRUPTED;
+    if (ends[0].revents != 0) {
         enum filser_error error = read_answers(service);
-        if (!error) error = count_answers(&service->held, &place, &answers, words);
+        if (!error) error = count_answers(&service->held, &exchange->place, &exchange->answers, &exchange->words);
         if (error) return error;
     }
-    return answers == service->order_count && place == service->held.length ? FILSER_ERROR_NONE : FILSER_ERROR_PROTOCOL;
+    if (exchange->answers == service->order_count)
+        return exchange->place == service->held.length ? FILSER_ERROR_NONE : FILSER_ERROR_PROTOCOL;
+    if (exchange->answers > service->order_count) return FILSER_ERROR_PROTOCOL;
+    return time_left(service, exchange->deadline) == 0 ? FILSER_ERROR_TIMED_OUT : FILSER_ERROR_UNFINISHED;
+}
+
+/* Waits until `go_on` has something to do. */
+static void wait_for_exchange(const struct filser *service) {
+    struct filser_waits waits = filser_waits_for(service);
+    struct pollfd ends[3] = {{waits.readable, POLLIN, 0}, {waits.writable, POLLOUT, 0}, {waits.interrupt, POLLIN, 0}};
+    poll(ends, 3, waits.timeout); /* whatever comes of it, go_on finds out */
+}
+
+struct filser_waits filser_waits_for(const struct filser *service) {
+    bool writes = service->exchange.written < service->sending.length;
+    int timeout = time_left(service, service->exchange.deadline);
+    return (struct filser_waits){service->from, writes ? service->to : -1, service->wake[0], timeout};
 }
 
 /* Allocates memory for answers, of which there is at least one, and returns whether there was any. */
@@ -421,6 +488,7 @@ static void copy_order(struct filser *service, struct order *order, const struct
     if (answer->kind == FILSER_ANSWER_DEVICE || answer->kind == FILSER_ANSWER_FAILED) service->has_failed = true;
     if (order->kind == LOGIN && answer->kind == FILSER_ANSWER_DONE) {
         free_core(core);
+        service->is_out[order->job] = false;
         service->cores[order->job] = order->core;
         order->core = NULL;
     }
@@ -447,28 +515,77 @@ static enum filser_error take_answers(struct filser *service) {
     return FILSER_ERROR_NONE;
 }
 
-/* Sends the orders, which are kept. Any error ends the exchange for good: later answers couldn't be told apart. */
-static enum filser_error send_orders(struct filser *service) {
-    size_t words = 0;
+/* Begins the exchange of the orders. */
+static enum filser_error begin(struct filser *service) {
+    struct exchange *exchange = &service->exchange;
     if (service->has_ended) return FILSER_ERROR_ENDED;
+    exchange->is_running = true;
+    exchange->written = exchange->place = exchange->answers = exchange->words = 0;
+    exchange->deadline = milliseconds() + service->timeout;
+    service->held.length = 0;
     if (service->order_count == 0) return FILSER_ERROR_NONE;
     enum filser_error error = check_silence(service);
-    if (!error) error = exchange(service, &words);
-    if (!error && !reserve_answers(service, service->order_count, words)) error = FILSER_ERROR_LOST;
-    if (!error) {
-        parse_answers(service);
-        error = take_answers(service);
-    }
-    service->has_ended = error != FILSER_ERROR_NONE;
+    if (!error) exchange->written = write_orders(service, 0);
     return error;
 }
 
-enum filser_error filser_send(struct filser *service, const struct filser_answer **answers, size_t *count) {
-    enum filser_error error = send_orders(service);
+/* Ends an exchange, which keeps its orders and answers. Any error ends the service: later answers couldn't be told
+   apart. */
+static enum filser_error end(struct filser *service, enum filser_error error) {
+    service->exchange.is_running = false;
+    if (error) service->has_ended = true;
+    return error;
+}
+
+/* Goes on with an exchange, and ends it if it is complete or has failed. */
+static enum filser_error advance(struct filser *service) {
+    enum filser_error error = service->order_count == 0 ? FILSER_ERROR_NONE : go_on(service);
+    if (error == FILSER_ERROR_UNFINISHED) return error;
+    if (!error && service->order_count > 0) {
+        if (!reserve_answers(service, service->order_count, service->exchange.words))
+            return end(service, FILSER_ERROR_LOST);
+        parse_answers(service);
+        error = take_answers(service);
+    }
+    return end(service, error);
+}
+
+enum filser_error filser_begin(struct filser *service) {
+    if (service->exchange.is_running) return FILSER_ERROR_UNFINISHED;
+    service->exchange.is_uuo = false;
+    enum filser_error error = begin(service);
+    if (!error) return error;
+    forget_orders(service);
+    return end(service, error);
+}
+
+enum filser_error filser_advance(struct filser *service, const struct filser_answer **answers, size_t *count) {
+    *count = 0;
+    if (!service->exchange.is_running || service->exchange.is_uuo) return FILSER_ERROR_BAD_ARGUMENT;
+    enum filser_error error = advance(service);
+    if (error == FILSER_ERROR_UNFINISHED) return error;
     *count = error ? 0 : service->order_count;
     *answers = service->answers;
     forget_orders(service);
     return error;
+}
+
+enum filser_error filser_send(struct filser *service, const struct filser_answer **answers, size_t *count) {
+    *count = 0;
+    enum filser_error error = filser_begin(service);
+    while (!error && (error = filser_advance(service, answers, count)) == FILSER_ERROR_UNFINISHED) {
+        wait_for_exchange(service);
+        error = FILSER_ERROR_NONE;
+    }
+    return error;
+}
+
+int filser_has_ended(const struct filser *service) { return service->has_ended; }
+
+void filser_interrupt(struct filser *service) {
+    int before = errno;
+    while (write(service->wake[1], "", 1) < 0 && errno == EINTR) continue;
+    errno = before;
 }
 
 /* Sends one order, which was added or wasn't, and returns its answer. */
@@ -481,13 +598,14 @@ static enum filser_error send_one(struct filser *service, enum filser_error erro
 }
 
 static enum filser_error check_sent(const struct filser *service) {
+    if (service->exchange.is_running) return FILSER_ERROR_UNFINISHED;
     return service->order_count > 0 ? FILSER_ERROR_NOT_SENT : FILSER_ERROR_NONE;
 }
 
 enum filser_error filser_login(struct filser *service, unsigned job, uint32_t project, uint32_t programmer,
-                               uint32_t words, struct filser_answer *answer) {
+                               uint32_t words, const struct filser_memory *memory, struct filser_answer *answer) {
     enum filser_error error = check_sent(service);
-    if (!error) error = filser_add_login(service, job, project, programmer, words);
+    if (!error) error = filser_add_login(service, job, project, programmer, words, memory);
     return send_one(service, error, answer);
 }
 
@@ -651,7 +769,9 @@ enum filser_error filser_start(const struct filser_options *given, struct filser
     *service = started;
     started->child = started->to = started->from = -1;
     started->timeout = options.timeout;
-    int failure = run_program(started, &options);
+    started->wake[0] = started->wake[1] = -1;
+    bool is_ready = open_pipe(started->wake) && set_nonblocking(started->wake[0]) && set_nonblocking(started->wake[1]);
+    int failure = is_ready ? run_program(started, &options) : -1;
     started->has_ended = failure < 0;
     enum filser_error error = filser_room(started, &blocks);
     if (error == FILSER_ERROR_ENDED || error == FILSER_ERROR_PROTOCOL)
@@ -691,6 +811,7 @@ int filser_stop(struct filser *service) {
     if (service->to >= 0) close(service->to);
     if (service->from >= 0) close(service->from);
     int status = wait_for(service->child, service->timeout);
+    close_pipe(service->wake);
     forget_orders(service);
     for (int job = 0; job < JOBS; job++) free_core(service->cores[job]);
     free(service->sending.data);
@@ -713,7 +834,9 @@ const char *filser_error_text(enum filser_error error) {
     case FILSER_ERROR_BAD_WORD: return "a word has more than 36 bits, and nothing was sent";
     case FILSER_ERROR_NOT_LOGGED_IN: return "the job isn't logged in, and nothing was sent";
     case FILSER_ERROR_NOT_SENT: return "orders were collected and are not sent yet";
-    case FILSER_ERROR_SHORT_MEMORY: return "the machine's memory is smaller than the job's core, and nothing was sent";
+    case FILSER_ERROR_NO_MACHINE: return "the job logged in without a machine's memory, and nothing was sent";
+    case FILSER_ERROR_MISSED: return "a word was changed and not reported, and nothing was sent";
+    case FILSER_ERROR_UNFINISHED: return "the exchange isn't complete yet";
     case FILSER_ERROR_NO_MEMORY: return "this process has no memory, and nothing was sent";
     case FILSER_ERROR_LOST: return "this process has no memory for the answers";
     case FILSER_ERROR_NOT_FOUND: return "there is no such program, or it can't be run";
@@ -723,6 +846,7 @@ const char *filser_error_text(enum filser_error error) {
     case FILSER_ERROR_ENDED: return "the program ended, its streams failed, or an earlier exchange did";
     case FILSER_ERROR_PROTOCOL: return "the program wrote something that can't be the answer";
     case FILSER_ERROR_TIMED_OUT: return "the answers didn't come in time";
+    case FILSER_ERROR_INTERRUPTED: return "the exchange was interrupted";
     }
     return "no such error";
 }
@@ -752,19 +876,6 @@ const char *filser_call_text(enum filser_call_code code) {
 /* The operation codes of UUOs that have no call of their own. */
 enum { INIT = 041, CALLI = 047, STATO = 061, STATZ = 063, INPUT = 066, OUTPUT = 067 };
 enum { CALLI_RESET = 0, CALLI_EXIT = 012 };
-
-/* The parts of a UUO. */
-struct uuo {
-    unsigned operation, channel;
-    uint32_t address, pc;
-};
-
-struct call {
-    enum filser_call_code code;
-    unsigned channel;
-    uint32_t number;
-    size_t place; /* of its order, and so of its answer */
-};
 
 static size_t list_calls(struct call *calls, const struct call *wanted, size_t count) {
     memcpy(calls, wanted, count * sizeof *calls);
@@ -806,11 +917,27 @@ static size_t uuo_calls(const struct uuo *uuo, struct call calls[CHANNELS]) {
     return list_calls(calls, &one, 1);
 }
 
-/* Returns the word of the machine at an address of the job's core. */
-static uint64_t *word_at(const struct filser_machine *machine, uint32_t address) {
-    if (address < ACCUMULATORS) return &machine->accumulators[address];
-    if (machine->words != NULL) return &machine->words[address];
-    return &machine->pages[address / PAGE_WORDS][address % PAGE_WORDS];
+/* The machine's memory. A range of it lies in the accumulators or in one page. */
+
+/* Returns words of the machine, which may be put into the buffer. */
+static const uint64_t *words_of(const struct core *core, uint32_t first, size_t count, uint64_t buffer[PAGE_WORDS]) {
+    const struct filser_memory *memory = &core->memory;
+    if (memory->words != NULL) return first < ACCUMULATORS ? memory->accumulators + first : memory->words + first;
+    memory->read(memory->context, first, count, buffer);
+    return buffer;
+}
+
+static uint64_t word_of(const struct core *core, uint32_t address) {
+    uint64_t buffer[PAGE_WORDS];
+    return *words_of(core, address, 1, buffer);
+}
+
+static void put_words(const struct core *core, uint32_t first, size_t count, const uint64_t *words) {
+    const struct filser_memory *memory = &core->memory;
+    if (memory->words == NULL)
+        memory->write(memory->context, first, count, words);
+    else
+        memcpy((first < ACCUMULATORS ? memory->accumulators : memory->words) + first, words, count * sizeof *words);
 }
 
 /* Collects deposits of the runs of words that differ from the copy. */
@@ -818,7 +945,7 @@ static enum filser_error add_runs(struct filser *service, unsigned job, const ui
                                   size_t count) {
     const uint64_t *copy = service->cores[job]->words + first;
     enum filser_error error = FILSER_ERROR_NONE;
-    if (memcmp(found, copy, count * sizeof *found) == 0) return FILSER_ERROR_NONE;
+    if (memcmp(found, copy, count * sizeof *found) == 0) return error;
     for (size_t start = 0, end; start < count && !error; start = end) {
         end = start;
         while (end < count && found[end] != copy[end]) end++;
@@ -828,42 +955,41 @@ static enum filser_error add_runs(struct filser *service, unsigned job, const ui
     return error;
 }
 
-/* Returns where the words end that lie in a row in the machine's memory, and were touched, or weren't, as the first. */
+/* Returns where the words end that lie in one page, and were touched, or weren't, as the first. */
 static uint32_t end_of_touched(const struct core *core, uint32_t first) {
-    uint32_t end = first;
-    while (end < core->size && core->touched[end / TOUCH_WORDS] == core->touched[first / TOUCH_WORDS]) {
-        end = (end / TOUCH_WORDS + 1) * TOUCH_WORDS;
+    size_t end = first;
+    while (end < core->size && core->touched[end / core->grain] == core->touched[first / core->grain]) {
+        end = (end / core->grain + 1) * core->grain;
         if (end % PAGE_WORDS == 0) break;
     }
-    return end < core->size ? end : (uint32_t)core->size;
+    return (uint32_t)(end < core->size ? end : core->size);
 }
 
-static enum filser_error check_machine(const struct filser *service, const struct filser_machine *machine,
-                                       uint64_t instruction, uint32_t address) {
-    if (service->order_count > 0) return FILSER_ERROR_NOT_SENT;
-    if (instruction >= WORD_LIMIT) return FILSER_ERROR_BAD_WORD;
-    if (machine->job >= JOBS || address >= CORE_LIMIT || machine->pc >= CORE_LIMIT) return FILSER_ERROR_BAD_ARGUMENT;
-    if (machine->date >= 32768 || machine->minute >= 1440) return FILSER_ERROR_BAD_ARGUMENT;
+/* Returns FILSER_ERROR_MISSED if words that weren't touched differ from the copy. */
+static enum filser_error find_missed(struct filser *service, const struct core *core, const uint64_t *found,
+                                     uint32_t first, size_t count) {
+    for (size_t place = 0; place < count; place++) {
+        if (found[place] == core->words[first + place]) continue;
+        service->missed = first + (uint32_t)place;
+        return FILSER_ERROR_MISSED;
+    }
     return FILSER_ERROR_NONE;
 }
 
-/* Returns whether the machine has a memory as large as the job's core. */
-static bool is_large_enough(const struct filser_machine *machine, size_t size) {
-    if (machine->accumulators == NULL || machine->size < size) return false;
-    if (machine->words != NULL) return true;
-    for (size_t page = 0; page * PAGE_WORDS < size; page++)
-        if (machine->pages == NULL || machine->pages[page] == NULL) return false;
-    return true;
+uint32_t filser_missed(const struct filser *service) { return service->missed; }
+
+static enum filser_error check_instruction(const struct filser *service, const struct filser_instruction *instruction) {
+    if (service->exchange.is_running) return FILSER_ERROR_UNFINISHED;
+    if (service->order_count > 0) return FILSER_ERROR_NOT_SENT;
+    if (instruction->word >= WORD_LIMIT) return FILSER_ERROR_BAD_WORD;
+    if (instruction->job >= JOBS || instruction->address >= CORE_LIMIT || instruction->pc >= CORE_LIMIT)
+        return FILSER_ERROR_BAD_ARGUMENT;
+    return instruction->date >= 32768 || instruction->minute >= 1440 ? FILSER_ERROR_BAD_ARGUMENT : FILSER_ERROR_NONE;
 }
 
-/* Notes what the machine may have changed since the last call for its job, whatever becomes of this one. */
-static void touch_hint(struct filser *service, const struct filser_machine *machine) {
-    struct core *core = machine->job < JOBS ? service->cores[machine->job] : NULL;
-    if (core == NULL) return;
-    if (machine->last_changed == 0)
-        touch(core, 0, core->size);
-    else
-        touch(core, machine->first_changed, (size_t)machine->last_changed + 1);
+void filser_touched(struct filser *service, unsigned job, uint32_t first, uint32_t count) {
+    struct core *core = job < JOBS ? service->cores[job] : NULL;
+    if (core != NULL) touch(core, first, (size_t)first + count);
 }
 
 /* Collects deposits of the words of the machine that differ from the service's core.
@@ -871,73 +997,92 @@ static void touch_hint(struct filser *service, const struct filser_machine *mach
    This is right whatever a call reads, and doesn't depend on it: the copy has what the core of the service has, since
    only deposits and the words that answers return change that core, so after these deposits it is the machine's memory.
    An unchanged page costs one comparison. */
-static enum filser_error add_changes(struct filser *service, const struct filser_machine *machine) {
-    const struct core *core = service->cores[machine->job];
+static enum filser_error add_changes(struct filser *service, unsigned job) {
+    const struct core *core = service->cores[job];
+    uint64_t buffer[PAGE_WORDS];
     if (core == NULL) return FILSER_ERROR_NOT_LOGGED_IN;
-    if (!is_large_enough(machine, core->size)) return FILSER_ERROR_SHORT_MEMORY;
-    enum filser_error error = add_runs(service, machine->job, machine->accumulators, 0, ACCUMULATORS);
+    if (!core->has_memory) return FILSER_ERROR_NO_MACHINE;
+    bool is_debugged = core->memory.compare == FILSER_COMPARE_DEBUG && !core->is_fresh;
+    bool compares_all = core->memory.compare != FILSER_COMPARE_TOUCHED || core->is_fresh;
+    enum filser_error error = add_runs(service, job, words_of(core, 0, ACCUMULATORS, buffer), 0, ACCUMULATORS);
     for (uint32_t start = ACCUMULATORS, end; start < core->size && !error; start = end) {
         end = end_of_touched(core, start);
-        if (core->touched[start / TOUCH_WORDS])
-            error = add_runs(service, machine->job, word_at(machine, start), start, end - start);
+        bool is_touched = core->touched[start / core->grain];
+        if (!is_touched && !compares_all) continue;
+        const uint64_t *found = words_of(core, start, end - start, buffer);
+        error = !is_touched && is_debugged ? find_missed(service, core, found, start, end - start)
+                                           : add_runs(service, job, found, start, end - start);
     }
     return error;
 }
 
 /* Collects the calls of a UUO. OPEN reads three words; the first one of an INIT is its effective address, so that takes
    the place of the instruction in the service's copy, and is corrected before the next UUO. */
-static enum filser_error add_calls(struct filser *service, const struct filser_machine *machine, const struct uuo *uuo,
-                                   struct call *calls, size_t count) {
+static enum filser_error add_calls(struct filser *service, const struct filser_instruction *instruction) {
+    struct exchange *exchange = &service->exchange;
+    const uint64_t status = instruction->address;
     enum filser_error error = FILSER_ERROR_NONE;
-    for (size_t place = 0; place < count && !error; place++) {
-        const uint64_t status = uuo->address;
-        if (uuo->operation == INIT && calls[place].code == FILSER_CALL_OPEN)
-            error = filser_add_deposit(service, machine->job, uuo->pc, &status, 1);
-        calls[place].place = service->order_count;
+    for (size_t place = 0; place < exchange->call_count && !error; place++) {
+        struct call *call = &exchange->calls[place];
+        if (exchange->uuo.operation == INIT && call->code == FILSER_CALL_OPEN)
+            error = filser_add_deposit(service, instruction->job, instruction->pc, &status, 1);
+        call->place = service->order_count;
         if (!error)
-            error = filser_add_call(service, machine->job, calls[place].code, calls[place].channel, calls[place].number,
-                                    machine->date, machine->minute);
+            error = filser_add_call(service, instruction->job, call->code, call->channel, call->number,
+                                    instruction->date, instruction->minute);
     }
     return error;
 }
 
+/* Puts the words that an answer returns into the machine's memory, as runs of addresses in a row. */
+static void put_changes(const struct core *core, const struct filser_answer *answer) {
+    uint64_t run[PAGE_WORDS];
+    size_t count = 0;
+    for (size_t place = 0; place < answer->count; place++) {
+        uint32_t address = answer->changes[place].address;
+        run[count++] = answer->changes[place].word;
+        bool goes_on = place + 1 < answer->count && answer->changes[place + 1].address == address + 1;
+        if (goes_on && count < PAGE_WORDS && address + 1 != ACCUMULATORS) continue;
+        put_words(core, address + 1 - (uint32_t)count, count, run);
+        count = 0;
+    }
+}
+
 /* Puts the words of the answers into the machine's memory, which then is as the copy, and returns the answer to the
    UUO: that of its first call that isn't done, or of its last. A channel that isn't open counts as closed. */
-static struct filser_answer put_answers(struct filser *service, const struct filser_machine *machine,
-                                        const struct call *calls, size_t count) {
+static struct filser_answer put_answers(struct filser *service, struct core *core) {
     struct filser_answer result = {FILSER_ANSWER_DONE, 0, 0, NULL};
-    for (size_t place = 0; place < count; place++) {
-        struct filser_answer answer = service->answers[calls[place].place];
-        bool closes = calls[place].code == FILSER_CALL_CLOSE || calls[place].code == FILSER_CALL_RELEAS;
-        for (size_t change = 0; change < answer.count; change++)
-            *word_at(machine, answer.changes[change].address) = answer.changes[change].word;
+    for (size_t place = 0; place < service->exchange.call_count; place++) {
+        const struct call *call = &service->exchange.calls[place];
+        struct filser_answer answer = service->answers[call->place];
+        bool closes = call->code == FILSER_CALL_CLOSE || call->code == FILSER_CALL_RELEAS;
+        put_changes(core, &answer);
         if (closes && answer.kind == FILSER_ANSWER_NO_CHANNEL) answer.kind = FILSER_ANSWER_DONE;
         if (result.kind == FILSER_ANSWER_DONE) result = answer;
     }
-    forget_touched(service->cores[machine->job]);
+    forget_touched(core);
     return result;
 }
 
 /* Puts a word into the machine's memory that the copy doesn't have. */
-static void put_word(struct core *core, const struct filser_machine *machine, uint32_t address, uint64_t word) {
-    *word_at(machine, address) = word;
+static void put_word(struct core *core, uint32_t address, uint64_t word) {
+    put_words(core, address, 1, &word);
     touch(core, address, (size_t)address + 1);
 }
 
 /* Puts what a monitor puts into the machine's memory besides what a call does. A GETSTS into a word that doesn't exist
    is an address check. After an INIT the copy doesn't have its instruction. */
-static void settle(struct core *core, const struct filser_machine *machine, const struct uuo *uuo,
-                   struct filser_answer *answer) {
+static void settle(struct core *core, const struct uuo *uuo, struct filser_answer *answer) {
     if (uuo->operation == INIT) touch(core, uuo->pc, (size_t)uuo->pc + 1);
     if (uuo->operation == FILSER_CALL_GETSTS && uuo->address >= core->size) {
         answer->kind = FILSER_ANSWER_ADDRESS_CHECK;
         answer->value = 0;
     } else if (uuo->operation == FILSER_CALL_GETSTS && answer->kind == FILSER_ANSWER_VALUE) {
-        put_word(core, machine, uuo->address, answer->value);
+        put_word(core, uuo->address, answer->value);
     }
-    uint64_t start = *word_at(machine, START_ADDRESS) >> 18;
+    uint64_t start = word_of(core, START_ADDRESS) >> 18;
     if (uuo->operation == CALLI && uuo->address == CALLI_RESET && answer->kind == FILSER_ANSWER_DONE && start != 0)
-        put_word(core, machine, FIRST_FREE, *word_at(machine, FIRST_FREE) >> 18 << 18 | start);
+        put_word(core, FIRST_FREE, word_of(core, FIRST_FREE) >> 18 << 18 | start);
 }
 
 /* Returns how far the machine continues after a UUO with this answer. */
@@ -967,32 +1112,137 @@ static bool are_deposits_done(const struct filser *service) {
     return true;
 }
 
-/* Sends the orders of a UUO. */
-static enum filser_error send_uuo(struct filser *service) {
-    enum filser_error error = send_orders(service);
-    if (error || are_deposits_done(service)) return error;
-    service->has_ended = true;
-    return FILSER_ERROR_PROTOCOL;
+/* Returns whether a UUO has an error return that shows why a call was refused. */
+static bool has_error_return(unsigned operation) {
+    return operation == INIT || operation == FILSER_CALL_OPEN || operation == FILSER_CALL_LOOKUP ||
+           operation == FILSER_CALL_ENTER || operation == FILSER_CALL_RENAME;
 }
 
-enum filser_error filser_uuo(struct filser *service, const struct filser_machine *machine, uint64_t instruction,
-                             uint32_t address, struct filser_outcome *outcome) {
+/* Returns what a UUO did. */
+static struct filser_outcome outcome_of(const struct uuo *uuo, const struct filser_answer *answer) {
+    bool is_refused = answer->kind == FILSER_ANSWER_REFUSED;
+    bool goes_on = answer->kind == FILSER_ANSWER_DONE || answer->kind == FILSER_ANSWER_VALUE ||
+                   answer->kind == FILSER_ANSWER_STOPPED || (is_refused && has_error_return(uuo->operation));
+    enum filser_next next = goes_on ? FILSER_NEXT_ADVANCE : FILSER_NEXT_STOP;
+    return (struct filser_outcome){next, advance_of(uuo, answer), answer->kind, answer->value};
+}
+
+int filser_is_uuo(uint64_t word, uint32_t address) {
     struct call calls[CHANNELS];
-    *outcome = (struct filser_outcome){0, FILSER_ANSWER_WRONG, 0};
-    touch_hint(service, machine);
-    enum filser_error error = check_machine(service, machine, instruction, address);
+    struct uuo uuo = {(unsigned)(word >> 27), (unsigned)(word >> 23 & 017), address, 0};
+    return word < WORD_LIMIT && address < CORE_LIMIT && uuo_calls(&uuo, calls) > 0;
+}
+
+enum filser_error filser_begin_uuo(struct filser *service, const struct filser_instruction *instruction) {
+    struct exchange *exchange = &service->exchange;
+    enum filser_error error = check_instruction(service, instruction);
     if (error) return error;
-    struct uuo uuo = {(unsigned)(instruction >> 27), (unsigned)(instruction >> 23 & 017), address, machine->pc};
-    size_t count = uuo_calls(&uuo, calls);
-    if (count == 0) return FILSER_ERROR_NONE;
-    error = add_changes(service, machine);
-    if (!error) error = add_calls(service, machine, &uuo, calls, count);
-    if (!error) error = send_uuo(service);
+    exchange->is_uuo = true;
+    exchange->job = instruction->job;
+    exchange->uuo = (struct uuo){(unsigned)(instruction->word >> 27), (unsigned)(instruction->word >> 23 & 017),
+                                 instruction->address, instruction->pc};
+    exchange->call_count = uuo_calls(&exchange->uuo, exchange->calls);
+    exchange->is_running = exchange->call_count == 0; /* then there is nothing to send, and it is complete at once */
+    if (exchange->is_running) return FILSER_ERROR_NONE;
+    error = add_changes(service, instruction->job);
+    if (!error) error = add_calls(service, instruction);
     if (!error) {
-        struct filser_answer answer = put_answers(service, machine, calls, count);
-        settle(service->cores[machine->job], machine, &uuo, &answer);
-        *outcome = (struct filser_outcome){advance_of(&uuo, &answer), answer.kind, answer.value};
+        error = begin(service);
+        if (error) end(service, error);
+    }
+    if (error) forget_orders(service);
+    return error;
+}
+
+enum filser_error filser_advance_uuo(struct filser *service, struct filser_outcome *outcome) {
+    *outcome = (struct filser_outcome){FILSER_NEXT_NOT_MINE, 0, FILSER_ANSWER_WRONG, 0};
+    if (!service->exchange.is_running || !service->exchange.is_uuo) return FILSER_ERROR_BAD_ARGUMENT;
+    enum filser_error error = advance(service);
+    if (error == FILSER_ERROR_UNFINISHED) return error;
+    if (!error && !are_deposits_done(service)) error = end(service, FILSER_ERROR_PROTOCOL);
+    if (!error && service->exchange.call_count > 0) {
+        struct core *core = service->cores[service->exchange.job];
+        struct filser_answer answer = put_answers(service, core);
+        settle(core, &service->exchange.uuo, &answer);
+        *outcome = outcome_of(&service->exchange.uuo, &answer);
     }
     forget_orders(service);
     return error;
+}
+
+enum filser_error filser_uuo(struct filser *service, const struct filser_instruction *instruction,
+                             struct filser_outcome *outcome) {
+    *outcome = (struct filser_outcome){FILSER_NEXT_NOT_MINE, 0, FILSER_ANSWER_WRONG, 0};
+    enum filser_error error = filser_begin_uuo(service, instruction);
+    while (!error && (error = filser_advance_uuo(service, outcome)) == FILSER_ERROR_UNFINISHED) {
+        wait_for_exchange(service);
+        error = FILSER_ERROR_NONE;
+    }
+    return error;
+}
+
+enum filser_error filser_logout(struct filser *service, unsigned job, unsigned date, unsigned minute,
+                                struct filser_answer *answer) {
+    const struct filser_answer *answers;
+    struct filser_answer result = {FILSER_ANSWER_DONE, 0, 0, NULL};
+    size_t count;
+    enum filser_error error = check_sent(service);
+    if (!error && (job >= JOBS || service->cores[job] == NULL)) error = FILSER_ERROR_NOT_LOGGED_IN;
+    for (unsigned channel = 0; channel < CHANNELS && !error; channel++)
+        error = filser_add_call(service, job, FILSER_CALL_RELEAS, channel, 0, date, minute);
+    if (!error) error = filser_send(service, &answers, &count);
+    if (error) return error;
+    for (size_t place = 0; place < count && result.kind == FILSER_ANSWER_DONE; place++)
+        if (answers[place].kind != FILSER_ANSWER_NO_CHANNEL) result = answers[place];
+    if (answer != NULL) *answer = result;
+    if (result.kind != FILSER_ANSWER_DONE) return FILSER_ERROR_NONE;
+    free_core(service->cores[job]);
+    service->cores[job] = NULL;
+    service->is_out[job] = true;
+    return FILSER_ERROR_NONE;
+}
+
+/* Words and numbers. */
+
+enum filser_error filser_sixbit(const char *text, uint64_t *word) {
+    size_t length = strlen(text);
+    uint64_t made = 0;
+    if (length > 6) return FILSER_ERROR_BAD_ARGUMENT;
+    for (size_t place = 0; place < 6; place++) {
+        char character = ' ';
+        if (place < length) character = text[place];
+        if (character < ' ' || character > '_') return FILSER_ERROR_BAD_ARGUMENT;
+        made = made << 6 | (uint64_t)(character - ' ');
+    }
+    *word = made;
+    return FILSER_ERROR_NONE;
+}
+
+enum filser_error filser_iowd(uint32_t count, uint32_t first, uint64_t *word) {
+    if (count == 0 || count >= CORE_LIMIT || first == 0 || first >= CORE_LIMIT) return FILSER_ERROR_BAD_ARGUMENT;
+    *word = (uint64_t)(CORE_LIMIT - count) << 18 | (first - 1);
+    return FILSER_ERROR_NONE;
+}
+
+static int days_of(int year, int month) {
+    static const int days[] = {31, 28, 31, 30, 31, 30, 31, 31, 30, 31, 30, 31};
+    bool is_leap = year % 4 == 0 && (year % 100 != 0 || year % 400 == 0);
+    return month == 2 && is_leap ? 29 : days[month - 1];
+}
+
+enum filser_error filser_date(int year, int month, int day, unsigned *date) {
+    if (year < 1964 || year > 2052 || month < 1 || month > 12 || day < 1 || day > days_of(year, month))
+        return FILSER_ERROR_BAD_ARGUMENT;
+    int number = ((year - 1964) * 12 + month - 1) * 31 + day - 1;
+    if (number >= 32768) return FILSER_ERROR_BAD_ARGUMENT;
+    *date = (unsigned)number;
+    return FILSER_ERROR_NONE;
+}
+
+enum filser_error filser_now(unsigned *date, unsigned *minute) {
+    time_t now = time(NULL);
+    struct tm parts;
+    if (localtime_r(&now, &parts) == NULL) return FILSER_ERROR_BAD_ARGUMENT;
+    *minute = (unsigned)(parts.tm_hour * 60 + parts.tm_min);
+    return filser_date(parts.tm_year + 1900, parts.tm_mon + 1, parts.tm_mday, date);
 }
