@@ -1,8 +1,9 @@
 # filser: see README.md. The toolchain's command `rt` has to be on the PATH.
 
 PREFIX ?= /usr/local
+PYTHON_FOLDER ?= $(PREFIX)/lib/python3/dist-packages
 
-.PHONY: help try quick build run test program-tests wrong-bodies install
+.PHONY: help try quick build run test program-tests wrong-bodies install install-clients
 
 help:
 	@echo 'make try      a first session with the program, unproved: a minute'
@@ -14,7 +15,9 @@ help:
 	@echo 'make program-tests  test the program that is there, or one that is built first, and check the documents'
 	@echo 'make wrong-bodies   try the edits of wrong-bodies/, of all crates or of those in CRATES="NAME .."'
 	@echo 'make install  build the program, and install it with its man page and its completion for bash below'
-	@echo '              PREFIX (now $(PREFIX))'
+	@echo '              PREFIX (now $(PREFIX)), with the clients for emulators'
+	@echo 'make install-clients  install these alone: filser.h, libfilser.a, filser.pc, and a package of Python below'
+	@echo '              PYTHON_FOLDER (now $(PYTHON_FOLDER))'
 
 # rt try needs no proof, takes no lock, and leaves nothing below crates/, so it may run beside a check.
 try:
@@ -61,9 +64,21 @@ run: build
 	show "printf 'LOGIN [10,20]\\nMAKDIR [10,20]\\nDIRECTORY\\n' | filser run DISK.IMG"; \
 	printf 'LOGIN [10,20]\nMAKDIR [10,20]\nDIRECTORY\n' | $$program run DISK.IMG
 
-install: build
+install: build install-clients
 	install -d $(DESTDIR)$(PREFIX)/bin $(DESTDIR)$(PREFIX)/share/man/man1
 	install -d $(DESTDIR)$(PREFIX)/share/bash-completion/completions
 	install -m 755 bin/filser $(DESTDIR)$(PREFIX)/bin/filser
 	install -m 644 crates/filser/filser.1 $(DESTDIR)$(PREFIX)/share/man/man1/filser.1
 	install -m 644 crates/filser/filser.bash $(DESTDIR)$(PREFIX)/share/bash-completion/completions/filser
+
+# The clients need no proof. Without a C compiler the library is left out.
+install-clients:
+	install -d $(DESTDIR)$(PREFIX)/include $(DESTDIR)$(PREFIX)/lib/pkgconfig $(DESTDIR)$(PYTHON_FOLDER)/filser
+	install -m 644 clients/c/filser.h $(DESTDIR)$(PREFIX)/include/filser.h
+	@set -e; if ! command -v $(CC) >/dev/null; then echo 'there is no C compiler, so no library'; exit 0; fi; \
+	room=$$(mktemp -d); trap 'rm -rf "$$room"' EXIT; \
+	$(CC) -std=c99 -O2 -fPIC -c -o $$room/filser.o clients/c/filser.c; \
+	$(AR) rcs $$room/libfilser.a $$room/filser.o; \
+	install -m 644 $$room/libfilser.a $(DESTDIR)$(PREFIX)/lib/libfilser.a
+	sed 's|@PREFIX@|$(PREFIX)|' clients/c/filser.pc.in >$(DESTDIR)$(PREFIX)/lib/pkgconfig/filser.pc
+	cd clients/python && install -m 644 __init__.py filser.py py.typed $(DESTDIR)$(PYTHON_FOLDER)/filser

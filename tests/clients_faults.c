@@ -1,6 +1,7 @@
 /* Tests the client in C where something goes wrong around it: memory, signals, other threads, the terminal.
 
-   usage: clients_faults memory|signals|descriptors|threads|stop|reported|loop|values PROGRAM IMAGE
+   usage: clients_faults memory|signals|descriptors|threads|stop|options|reported|loop PROGRAM IMAGE
+          clients_faults interrupt|values PROGRAM IMAGE
           clients_faults group PROGRAM IMAGE SHARES
 
    This file includes the client, so that each allocation and each system call of it can be made to fail. Prints a line
@@ -12,6 +13,7 @@
 #include <pthread.h>
 #include <signal.h>
 #include <stdbool.h>
+#include <stddef.h>
 #include <stdio.h>
 #include <stdlib.h>
 #include <string.h>
@@ -130,11 +132,16 @@ static void prepare(struct bench *bench, const char *program, const char *image)
     for (uint64_t place = 0; place < 3; place++) bench->memory[WORDS + place] = 0123456 + place;
 }
 
-static enum filser_error start(struct bench *bench, int shares_group) {
-    struct filser_options options = {.size = sizeof options, .form = 1, .shares_group = shares_group};
+static enum filser_error start_with(struct bench *bench, struct filser_options options) {
+    options.size = sizeof options;
     options.program = bench->program;
     options.image = bench->image;
     return filser_start(&options, &bench->service);
+}
+
+static enum filser_error start(struct bench *bench, int shares_group) {
+    const struct filser_options options = {.form = 1, .shares_group = shares_group};
+    return start_with(bench, options);
 }
 
 static enum filser_error login(struct bench *bench, uint32_t words) {
@@ -396,7 +403,34 @@ static void test_stop(const char *program, const char *image) {
     check(filser_stop(bench.service) == -SIGKILL, "it is killed", 0);
 }
 
-/* What a machine reports, an event loop, and words. */
+/* Options, what a machine reports, an event loop, and words. */
+
+/* Tests options: their size, the form, and where the program's standard error goes. */
+static void test_options(const char *program, const char *image) {
+    struct bench bench;
+    struct filser_options options = {.size = 0};
+    FILE *errors = tmpfile();
+    prepare(&bench, program, image);
+    options.program = program;
+    options.image = image;
+    check(filser_start(&options, &bench.service) == FILSER_ERROR_BAD_ARGUMENT, "options without a size", 0);
+    options.size = sizeof options + 1;
+    check(filser_start(&options, &bench.service) == FILSER_ERROR_BAD_ARGUMENT, "more options than there are", 0);
+    options.size = offsetof(struct filser_options, form);
+    options.form = 3;
+    check(filser_start(&options, &bench.service) == FILSER_ERROR_NONE, "fewer options", 0);
+    check(filser_stop(bench.service) == 0, "a stop", 0);
+    bench.image = "/nothing/is/here";
+    const struct filser_options to_file = {.error_output = fileno(errors)};
+    check(start_with(&bench, to_file) == FILSER_ERROR_IMAGE_REFUSED, "no image", 0);
+    check(strcmp(filser_printed(bench.service), "?Device fault") == 0, "its line", 0);
+    check(filser_stop(bench.service) == 4, "its status", 0);
+    check(fseek(errors, 0, SEEK_END) == 0 && ftell(errors) > 0, "its reason", ftell(errors));
+    fclose(errors);
+    bench.program = "/nothing/is/here";
+    check(start(&bench, 0) == FILSER_ERROR_NOT_FOUND, "no program", 0);
+    check(filser_printed(bench.service)[0] != '\0' && filser_stop(bench.service) == 127, "its status", 0);
+}
 
 static enum filser_error login_comparing(struct bench *bench, enum filser_compare compare) {
     struct filser_memory memory = {.accumulators = bench->accumulators, .words = bench->memory, .compare = compare};
@@ -488,6 +522,26 @@ static void test_loop(const char *program, const char *image) {
     check(filser_stop(bench.service) == 0, "a stop", 0);
 }
 
+static void *interrupt_in_thread(void *service) {
+    filser_interrupt(service);
+    return NULL;
+}
+
+/* Tests an interrupt by another thread, while the exchange waits for a service that doesn't answer. */
+static void test_interrupt(const char *program, const char *image) {
+    struct bench bench;
+    pthread_t thread;
+    uint64_t blocks;
+    prepare(&bench, program, image);
+    check(start(&bench, 0) == FILSER_ERROR_NONE, "a start", 0);
+    kill(bench.service->child, SIGSTOP);
+    pthread_create(&thread, NULL, interrupt_in_thread, bench.service);
+    check(filser_room(bench.service, &blocks) == FILSER_ERROR_INTERRUPTED, "an interrupt by a thread", 0);
+    pthread_join(thread, NULL);
+    kill(bench.service->child, SIGCONT);
+    filser_stop(bench.service);
+}
+
 static void test_values(void) {
     uint64_t word = 0;
     unsigned date = 0, minute = 9999;
@@ -516,8 +570,10 @@ int main(int count, char **words) {
     if (strcmp(words[1], "threads") == 0) test_threads(words[2], words[3]);
     if (strcmp(words[1], "stop") == 0) test_stop(words[2], words[3]);
     if (strcmp(words[1], "group") == 0 && count == 5) test_group(words[2], words[3], atoi(words[4]));
+    if (strcmp(words[1], "options") == 0) test_options(words[2], words[3]);
     if (strcmp(words[1], "reported") == 0) test_reported(words[2], words[3]);
     if (strcmp(words[1], "loop") == 0) test_loop(words[2], words[3]);
+    if (strcmp(words[1], "interrupt") == 0) test_interrupt(words[2], words[3]);
     if (strcmp(words[1], "values") == 0) test_values();
     printf("%d %d\n", checks, failures);
     return 0;

@@ -10,7 +10,7 @@ usage: tests/clients_faults.py PROGRAM
   signal at each system call, two services in two threads beside one that starts programs, unread answers, a timeout,
   what a machine reports of its changes, an event loop.
 - The client in Python: an exception at each of its steps, words that aren't whole numbers, and the same.
-- An interrupt from the terminal; a program in C++ that includes the header.
+- An interrupt from the terminal; a program in C++ that includes the header; `make install-clients`.
 
 Prints a line for each failed check, and one line at the end.
 """
@@ -193,8 +193,8 @@ def faults_in_c(tries):
     image = tries.image("FAULTS.IMG")
     for place in range(2):
         tries.image(f"FAULTS.IMG.{place}")
-    for words in (["memory"], ["signals"], ["descriptors"], ["threads"], ["stop"], ["reported"], ["loop"], ["values"],
-                  ["group", "0"], ["group", "1"]):
+    for words in (["memory"], ["signals"], ["descriptors"], ["threads"], ["stop"], ["options"],
+                  ["reported"], ["loop"], ["interrupt"], ["values"], ["group", "0"], ["group", "1"]):
         done = subprocess.run([program, words[0], tries.program, image, *words[1:]], capture_output=True, text=True,
                               check=False, timeout=LIMIT, start_new_session=True)
         *failed, last = done.stdout.split("\n")[:-1] or ["nothing"]
@@ -470,6 +470,27 @@ def in_cplusplus(tries):
         tries.same("C++ runs", found, "an argument is outside its range, and nothing was sent\n")
 
 
+def installed(tries):
+    """Tests what `make install-clients` installs: a use in C by pkg-config, and an import in Python."""
+    if not all(map(shutil.which, ("make", "cc", "pkg-config"))):
+        print("clients_faults: without make, cc and pkg-config the installation of the clients isn't tested")
+        return
+    prefix, program = os.path.join(tries.folder, "installed"), os.path.join(tries.folder, "installed_use")
+    words = ["make", "-s", "-C", os.path.dirname(CLIENTS), "install-clients", f"PREFIX={prefix}"]
+    subprocess.run(words, check=True, timeout=LIMIT)
+    found = {**os.environ, "PKG_CONFIG_PATH": os.path.join(prefix, "lib", "pkgconfig"), "PYTHONDONTWRITEBYTECODE": "1"}
+    flags = subprocess.run(["pkg-config", "--cflags", "--libs", "filser"], capture_output=True, text=True, check=True,
+                           env=found).stdout.split()
+    subprocess.run(["cc", *FLAGS, "-o", program, os.path.join(tries.folder, "use.c"), *flags], check=True)
+    done = subprocess.run([program, tries.program, tries.image("USE.IMG")], capture_output=True, text=True, check=False)
+    tries.same("a use of the library", done.stdout, "DONE, go on 2 words\n")
+    folder = os.path.join(prefix, "lib", "python3", "dist-packages")
+    done = subprocess.run([sys.executable, "-c", "import filser; print(filser.VERSION, filser.__file__)"], check=False,
+                          capture_output=True, text=True, env={**found, "PYTHONPATH": folder})
+    tries.same("an import", done.stdout, f"0.1.0 {os.path.join(folder, 'filser', '__init__.py')}\n")
+    tries.same("py.typed", os.path.exists(os.path.join(folder, "filser", "py.typed")), True)
+
+
 def find_sanitizers(tries):
     """Sets the flags of the compiler for its sanitizers, if it has them."""
     tries.sanitizers = []
@@ -497,7 +518,8 @@ def main():
         find_sanitizers(tries)
         tries.compile(tries.sanitizers)
         for part in [broken_rules, unwanted_answer, silence, random_programs, faults_in_c, interrupted_steps,
-                     wrong_words, stops, terminals, threads, reported, loops, values, in_cplusplus]:
+                     wrong_words, stops, terminals, threads, reported, loops, values,
+                     in_cplusplus, installed]:
             part(tries)
     print(f"clients_faults: {tries.count - tries.failed} of {tries.count} as they should be; {tries.lines} lines of "
           "random programs")

@@ -1,6 +1,6 @@
 #!/bin/sh
-# Runs the two emulators of examples/, each on a new image, and compares what they print. Without a C compiler only the
-# one in Python is run. If SIMH is installed, its PDP-10 runs the programs of examples/simh.
+# Runs the emulators of examples/, each on a new image, and compares what they print. Without a C compiler only those in
+# Python are run. If SIMH is installed, its PDP-10 runs the programs of examples/simh.
 #
 # usage: tests/example_emulators.sh PROGRAM
 set -eu
@@ -32,7 +32,30 @@ printf 'DONE\n1 2 777777777777\nSTOPPED 020017\n' >"$room/wanted"
 python3 "$examples/emulator.py" "$program" "$room/A.IMG" >"$room/out" || failed=1
 judge emulator.py
 
+"$program" init "$room/P.IMG" 64 --layout 2
+"$program" init "$room/C.IMG" 64 --layout 2
+cat >"$room/uuos" <<END
+OPEN: go on 2
+ENTER: go on 2
+OUT: go on 1
+CLOSE: go on 1
+LOOKUP: go on 2
+IN: go on 1
+RELEAS: go on 1
+IN: the program stops, NO CHANNEL
+TTCALL: not the service's
+1 2 777777777777
+END
+cp "$room/uuos" "$room/wanted"
+python3 "$examples/uuo.py" "$program" "$room/P.IMG" >"$room/out" || failed=1
+judge uuo.py
+
 if command -v cc >/dev/null; then
+    client=$examples/../clients/c
+    cc -std=c99 -Wall -Wextra -Werror -I "$client" -o "$room/uuo" "$examples/uuo.c" "$client/filser.c"
+    "$room/uuo" "$program" "$room/C.IMG" >"$room/out" || failed=1
+    judge uuo.c
+
     cc -Wall -Wextra -Werror -o "$room/emulator" "$examples/emulator.c"
     printf '1 LOGIN 10,20 1000: DONE\n1 EXA 121: VALUE 000000000140\n' >"$room/wanted"
     "$room/emulator" "$program" "$room/A.IMG" >"$room/out" || failed=1

@@ -357,11 +357,13 @@ static int time_left(const struct filser *service, int64_t deadline) {
     return left > 0 ? (int)left : 0;
 }
 
-/* Reads what comes before any order is written: nothing, unless the program has ended or breaks the rules. */
+/* Reads what comes before any order is written: nothing, unless the program has ended or breaks the rules, or this
+   process interrupts the exchange. */
 static enum filser_error check_silence(struct filser *service) {
-    struct pollfd end = {service->from, POLLIN, 0};
+    struct pollfd ends[2] = {{service->from, POLLIN, 0}, {service->wake[0], POLLIN, 0}};
     service->held.length = 0;
-    if (poll(&end, 1, 0) <= 0) return FILSER_ERROR_NONE;
+    if (poll(ends, 2, 0) <= 0) return FILSER_ERROR_NONE;
+    if (ends[1].revents != 0) return FILSER_ERROR_INTERRUPTED;
     enum filser_error error = read_answers(service);
     return !error && service->held.length > 0 ? FILSER_ERROR_PROTOCOL : error;
 }
@@ -681,12 +683,13 @@ struct pipes {
     int to[2], from[2], failure[2];
 };
 
-/* Becomes the program, in the child; writes the error if that fails. */
+/* Becomes the program, in the child; writes the error if that fails. Standard error comes first, since it may go where
+   this process's output goes. */
 static void become_program(const struct filser_options *options, const struct pipes *pipes) {
     const char *form = options->form == 2 ? "2" : "1";
     if (!options->shares_group) setsid();
-    if (dup2(pipes->to[0], 0) == 0 && dup2(pipes->from[1], 1) == 1 &&
-        (options->error_output == 0 || dup2(options->error_output, 2) == 2))
+    bool has_streams = options->error_output == 0 || dup2(options->error_output, 2) == 2;
+    if (has_streams && dup2(pipes->to[0], 0) == 0 && dup2(pipes->from[1], 1) == 1)
         execlp(options->program, options->program, "wire", "--form", form, "--", options->image, (char *)NULL);
     int error = errno;
     while (write(pipes->failure[1], &error, sizeof error) < 0 && errno == EINTR) continue;

@@ -188,9 +188,13 @@ class Sent(NamedTuple):
 Memory = MutableSequence[int]
 
 LOGIN, DEPOSIT, EXAMINE, CALL, ROOM = range(1, 6)
-HAVE_VALUE = {Kind.VALUE, Kind.REFUSED, Kind.STOPPED, Kind.ROOM}
-OF_CALLS = {Kind.REFUSED, Kind.STOPPED, Kind.NO_CHANNEL, Kind.DATE_RANGE}
-OF_ALL = {Kind.DONE, Kind.ADDRESS_CHECK, Kind.NO_JOB, Kind.NO_MEMORY, Kind.DEVICE, Kind.FAILED}
+# Kinds of answers by orders. These are plain numbers, which are found faster.
+HAVE_VALUE = {int(kind) for kind in (Kind.VALUE, Kind.REFUSED, Kind.STOPPED, Kind.ROOM)}
+OF_ROOM = {int(Kind.ROOM)}
+OF_ALL = {int(kind) for kind in (Kind.DONE, Kind.ADDRESS_CHECK, Kind.NO_JOB, Kind.NO_MEMORY, Kind.DEVICE, Kind.FAILED)}
+OF_CALLS = OF_ALL | {int(kind) for kind in (Kind.REFUSED, Kind.STOPPED, Kind.NO_CHANNEL, Kind.DATE_RANGE)}
+OF_GETSTS = OF_CALLS - {int(Kind.DONE)} | {int(Kind.VALUE)}
+KINDS = tuple(Kind)
 
 WITHOUT_NUMBER = {Code.RESET, Code.GETSTS, Code.RELEAS}
 WITHOUT_CHANNEL = {Code.RESET, Code.MAKDIR, Code.REMDIR, Code.QUOTA}
@@ -296,7 +300,7 @@ def split_answer(held: Union[bytes, bytearray, memoryview]) -> Optional[Tuple[An
         return None
     groups = struct.unpack_from(f">{count}Q", held, RECORD.size)
     changes = [(group >> 36, group & WORD_LIMIT - 1) for group in groups]
-    return Answer(Kind(kind), high << 32 | low, changes), size
+    return Answer(KINDS[kind], high << 32 | low, changes), size
 
 
 def calls_of(operation, channel, address, pc):
@@ -358,11 +362,9 @@ def answer_of(calls, answers):
 
 def kinds_of(sent):
     """Returns the kinds of answers that an order may have."""
-    if sent.kind == ROOM:
-        return {Kind.ROOM}
-    if sent.kind == CALL:
-        return OF_ALL - {Kind.DONE} | OF_CALLS | {Kind.VALUE} if sent.code == Code.GETSTS else OF_ALL | OF_CALLS
-    return OF_ALL
+    if sent.kind != CALL:
+        return OF_ROOM if sent.kind == ROOM else OF_ALL
+    return OF_GETSTS if sent.code == Code.GETSTS else OF_CALLS
 
 
 def are_changes_for(sent, answer, size):
@@ -921,14 +923,15 @@ class Service:
         or the machine."""
         copy = self._cores.get(sent.job)
         is_empty = sent.kind == DEPOSIT and not sent.words or sent.kind == EXAMINE and sent.detail == 0
-        is_good = answer.kind in kinds_of(sent)
-        is_good &= answer.value < (WORD_LIMIT if answer.kind in HAVE_VALUE else 1)
-        if sent.kind == LOGIN and answer.kind == Kind.DONE:
+        kind = int(answer.kind)
+        is_good = kind in kinds_of(sent)
+        is_good &= answer.value < (WORD_LIMIT if kind in HAVE_VALUE else 1)
+        if sent.kind == LOGIN and kind == Kind.DONE:
             is_good &= LEAST_CORE <= sent.number <= MOST_CORE
-        if sent.kind != LOGIN and answer.kind == Kind.NO_JOB:
+        if sent.kind != LOGIN and kind == Kind.NO_JOB:
             is_good &= copy is None
         if self._has_failed and sent.kind != ROOM and not is_empty:
-            is_good &= answer.kind == Kind.FAILED
+            is_good &= kind == Kind.FAILED
         if not is_good or not are_changes_for(sent, answer, 0 if copy is None else len(copy.words)):
             raise ServiceError(Error.PROTOCOL)
 
@@ -964,7 +967,7 @@ class Service:
         """Takes the complete answers out of the bytes that were read."""
         place, held = 0, memoryview(self._held)
         try:
-            while True:
+            while len(held) - place >= RECORD.size:
                 found = split_answer(held[place:])
                 if found is None:
                     break
@@ -994,8 +997,9 @@ def _is_in_use(image):
 
 def _check_ranges(*pairs):
     """Refuses a number that is negative, or not below its limit."""
-    if not all(isinstance(number, int) and 0 <= number < limit for number, limit in pairs):
-        raise ServiceError(Error.BAD_ARGUMENT)
+    for number, limit in pairs:
+        if not isinstance(number, int) or not 0 <= number < limit:
+            raise ServiceError(Error.BAD_ARGUMENT)
 
 
 def _checked(words):
@@ -1004,13 +1008,13 @@ def _checked(words):
         words = [operator.index(word) for word in words]
     except TypeError as error:
         raise ServiceError(Error.BAD_WORD) from error
-    if not all(0 <= word < WORD_LIMIT for word in words):
+    if words and not 0 <= min(words) <= max(words) < WORD_LIMIT:
         raise ServiceError(Error.BAD_WORD)
     return words
 
 
-def _bytes_of(words):
-    """Returns a view of the bytes of an array of words of 64 bits, or None of a list or the like."""
+def _view_of(words):
+    """Returns the bytes of an array of words of 64 bits, which are compared fast; None of a list or the like."""
     try:
         view = memoryview(words)
     except TypeError:
@@ -1018,25 +1022,22 @@ def _bytes_of(words):
     return view.cast("B") if view.format in ("Q", "L") and view.itemsize == 8 and view.c_contiguous else None
 
 
-def _are_same(words, copy, first, past):
-    """Returns whether words are those of the copy."""
-    return list(words[first:past]) == copy[first:past].tolist()
-
-
 def _pieces_that_differ(words, copy, first, past):
-    """Returns the pieces of words that differ from the copy. An array is compared as bytes, first by large pieces."""
-    mine, known = _bytes_of(words), memoryview(copy).cast("B")
+    """Returns where pieces of words begin that differ from the copy. An array is compared as bytes; and all by large
+    pieces first."""
+    mine, known = _view_of(words), memoryview(copy).cast("B")
+
+    def differ(start, stop):
+        if mine is None:
+            return list(words[start:stop]) != copy[start:stop].tolist()
+        return mine[8 * start : 8 * stop].tobytes() != known[8 * start : 8 * stop].tobytes()
+
     pieces = []
-    if mine is None:
-        starts = range(first, past, PIECE)
-        return [start for start in starts if not _are_same(words, copy, start, min(start + PIECE, past))]
     for start in range(first, past, LARGE_PIECE):
         stop = min(start + LARGE_PIECE, past)
-        if mine[8 * start : 8 * stop].tobytes() != known[8 * start : 8 * stop].tobytes():
-            pieces += range(start, stop, PIECE)
-    return [start for start in pieces
-            if mine[8 * start : 8 * min(start + PIECE, past)].tobytes()
-            != known[8 * start : 8 * min(start + PIECE, past)].tobytes()]
+        if differ(start, stop):
+            pieces += [piece for piece in range(start, stop, PIECE) if differ(piece, min(piece + PIECE, stop))]
+    return pieces
 
 
 def _differences(words, copy, first, past):

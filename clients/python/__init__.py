@@ -1,0 +1,3 @@
+"""The client as an installed package; filser.py alone is the same."""
+
+from .filser import *
