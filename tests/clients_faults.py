@@ -46,8 +46,11 @@ OPEN_UUO = f"UUO 1 {word_of('OPEN', 1, 0o210):o} 210 0"
 GETSTS_UUO = f"UUO 1 {word_of('GETSTS', 1, 0o300):o} 300 0"
 BREAKING = {LOGIN: ["1 LOGIN 10,20 1000"], DEPOSIT: [OPEN_UUO], EXAMINE: ["1 EXA 200"],
             CALL: ["1 USETI 1 1", OPEN_UUO], ROOM: ["ROOM"]}
+# An answer too many is found at once only if it comes with the last one, so there is one call.
+ONE_CALL = ["1 USETI 1 1", f"UUO 1 {word_of('USETI', 1, 1):o} 1 0"]
 BREAKING_BY_RULE = {"login with 81 words": ["1 LOGIN 10,20 121"], "large status": ["1 GETSTS 1", GETSTS_UUO],
-                    "no status": ["1 GETSTS 1", GETSTS_UUO]}
+                    "no status": ["1 GETSTS 1", GETSTS_UUO], "one answer too many": ONE_CALL,
+                    "half an answer too many": ONE_CALL}
 SEPARATE = {"an answer by itself", "done after device", "silence", "silence in an answer", "silence at the start",
             "no rule"}
 

@@ -968,6 +968,21 @@ static uint32_t end_of_touched(const struct core *core, uint32_t first) {
     return (uint32_t)(end < core->size ? end : core->size);
 }
 
+static uint32_t end_of_page(const struct core *core, uint32_t first) {
+    size_t end = (first / PAGE_WORDS + 1) * (size_t)PAGE_WORDS;
+    return (uint32_t)(end < core->size ? end : core->size);
+}
+
+/* Returns the first address, from one on, that is compared; the size of the core if there are no more. */
+static uint32_t next_compared(const struct core *core, uint32_t first, bool compares_all) {
+    size_t piece = first / core->grain;
+    if (compares_all) return first;
+    const bool *found = memchr(core->touched + piece, true, pieces_of(core) - piece);
+    if (found == NULL) return (uint32_t)core->size;
+    size_t address = (size_t)(found - core->touched) * core->grain;
+    return address > first ? (uint32_t)address : first;
+}
+
 /* Returns FILSER_ERROR_MISSED if words that weren't touched differ from the copy. */
 static enum filser_error find_missed(struct filser *service, const struct core *core, const uint64_t *found,
                                      uint32_t first, size_t count) {
@@ -1008,13 +1023,14 @@ static enum filser_error add_changes(struct filser *service, unsigned job) {
     bool is_debugged = core->memory.compare == FILSER_COMPARE_DEBUG && !core->is_fresh;
     bool compares_all = core->memory.compare != FILSER_COMPARE_TOUCHED || core->is_fresh;
     enum filser_error error = add_runs(service, job, words_of(core, 0, ACCUMULATORS, buffer), 0, ACCUMULATORS);
-    for (uint32_t start = ACCUMULATORS, end; start < core->size && !error; start = end) {
-        end = end_of_touched(core, start);
-        bool is_touched = core->touched[start / core->grain];
-        if (!is_touched && !compares_all) continue;
+    uint32_t start = next_compared(core, ACCUMULATORS, compares_all);
+    while (start < core->size && !error) {
+        uint32_t end = compares_all && !is_debugged ? end_of_page(core, start) : end_of_touched(core, start);
         const uint64_t *found = words_of(core, start, end - start, buffer);
-        error = !is_touched && is_debugged ? find_missed(service, core, found, start, end - start)
-                                           : add_runs(service, job, found, start, end - start);
+        error = is_debugged && !core->touched[start / core->grain]
+                    ? find_missed(service, core, found, start, end - start)
+                    : add_runs(service, job, found, start, end - start);
+        start = next_compared(core, end, compares_all);
     }
     return error;
 }
