@@ -14,8 +14,8 @@ help:
 	@echo '              test the built program, the documents and the tools'
 	@echo 'make program-tests  test the program that is there, or one that is built first, and check the documents'
 	@echo 'make wrong-bodies   try the edits of wrong-bodies/, of all crates or of those in CRATES="NAME .."'
-	@echo 'make install  build the program, and install it with its man page and its completion for bash below'
-	@echo '              PREFIX (now $(PREFIX)), with the clients for emulators'
+	@echo 'make install  build the program, and install it with its man page, its completion for bash, and the relay,'
+	@echo '              below PREFIX (now $(PREFIX)), with the clients for emulators'
 	@echo 'make install-clients  install these alone: filser.h, libfilser.a, filser.pc, and a package of Python below'
 	@echo '              PYTHON_FOLDER (now $(PYTHON_FOLDER))'
 
@@ -70,6 +70,12 @@ install: build install-clients
 	install -m 755 bin/filser $(DESTDIR)$(PREFIX)/bin/filser
 	install -m 644 crates/filser/filser.1 $(DESTDIR)$(PREFIX)/share/man/man1/filser.1
 	install -m 644 crates/filser/filser.bash $(DESTDIR)$(PREFIX)/share/bash-completion/completions/filser
+	install -d $(DESTDIR)$(PREFIX)/lib/filser
+	install -m 644 clients/python/filser.py clients/python/filser_control.py clients/python/filser_session.py \
+		clients/python/filser_users.py $(DESTDIR)$(PREFIX)/lib/filser
+	install -m 755 clients/python/filser_relay.py $(DESTDIR)$(PREFIX)/lib/filser/filser_relay.py
+	ln -sf ../lib/filser/filser_relay.py $(DESTDIR)$(PREFIX)/bin/filser-relay
+	install -m 644 clients/python/filser-relay.1 $(DESTDIR)$(PREFIX)/share/man/man1/filser-relay.1
 
 # The clients need no proof. Without a C compiler the library is left out.
 install-clients:

@@ -14,6 +14,7 @@ cd "$(dirname "$0")"
 
 ./example_scripts.sh "$program"
 ./example_emulators.sh "$program"
+./example_service.py "$program"
 ./streams_and_locks.sh "$program"
 ./put_get_list_convert.py "$program"
 ./collections.py "$program"
@@ -21,6 +22,7 @@ cd "$(dirname "$0")"
 ./salvage.py "$program"
 ./clients.py "$program"
 ./clients_faults.py "$program"
+./relay.py "$program"
 ./hostile_inputs.py "$program" 2000
 ./hostile_starts.py "$program"
 ./model_rows.py

@@ -432,7 +432,7 @@ static bool is_kind_for(const struct order *order, enum filser_answer_kind kind)
     case FILSER_ANSWER_WRONG: return false;
     case FILSER_ANSWER_DONE: return order->kind != ROOM && !asks_status;
     case FILSER_ANSWER_VALUE: return asks_status;
-    case FILSER_ANSWER_REFUSED:
+    case FILSER_ANSWER_REFUSED: return order->kind == CALL || order->kind == LOGIN; /* a LOGIN by a relay */
     case FILSER_ANSWER_STOPPED:
     case FILSER_ANSWER_NO_CHANNEL:
     case FILSER_ANSWER_DATE_RANGE: return order->kind == CALL;

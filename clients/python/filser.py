@@ -192,6 +192,7 @@ LOGIN, DEPOSIT, EXAMINE, CALL, ROOM = range(1, 6)
 HAVE_VALUE = {int(kind) for kind in (Kind.VALUE, Kind.REFUSED, Kind.STOPPED, Kind.ROOM)}
 OF_ROOM = {int(Kind.ROOM)}
 OF_ALL = {int(kind) for kind in (Kind.DONE, Kind.ADDRESS_CHECK, Kind.NO_JOB, Kind.NO_MEMORY, Kind.DEVICE, Kind.FAILED)}
+OF_LOGIN = OF_ALL | {int(Kind.REFUSED)}  # by a relay
 OF_CALLS = OF_ALL | {int(kind) for kind in (Kind.REFUSED, Kind.STOPPED, Kind.NO_CHANNEL, Kind.DATE_RANGE)}
 OF_GETSTS = OF_CALLS - {int(Kind.DONE)} | {int(Kind.VALUE)}
 KINDS = tuple(Kind)
@@ -363,7 +364,7 @@ def answer_of(calls, answers):
 def kinds_of(sent):
     """Returns the kinds of answers that an order may have."""
     if sent.kind != CALL:
-        return OF_ROOM if sent.kind == ROOM else OF_ALL
+        return {ROOM: OF_ROOM, LOGIN: OF_LOGIN}.get(sent.kind, OF_ALL)
     return OF_GETSTS if sent.code == Code.GETSTS else OF_CALLS
 
 
@@ -653,7 +654,8 @@ class Service:
 
     def login(self, job: int, project: int, programmer: int, words: int, accumulators: Optional[Memory] = None,
               memory: Optional[Memory] = None, compare: Compare = Compare.ALL) -> Answer:
-        """Logs a job in, as of `add_login`: DONE, or ADDRESS_CHECK for a core that is too small or too large."""
+        """Logs a job in, as of `add_login`: DONE, or ADDRESS_CHECK for a core that is too small or too large. A relay
+        answers REFUSED to who may not be this one."""
         return self._send_one(self.add_login, job, project, programmer, words, accumulators, memory, compare)
 
     def deposit(self, job: int, address: int, words: Iterable[int]) -> Answer:
