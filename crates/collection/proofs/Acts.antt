@@ -1,6 +1,7 @@
 -- What a service did for one thing after the other is what it did for all of them.
 use Rattle.std.proofs.Common.{◌≡◌, ℕ, List, [], ◌∷◌, ◌++◌, Option, Result, Ok, Err, true, false, ap, inl, inr, refl}
 use Rattle.std.proofs.Common.{sym, subst, ◌∙◌}
+use Rattle.words36.specs.declared.names.FileName.{FileName}
 use Rattle.spec_language.specs.Common.{Say, silent}
 use Rattle.spec_machine.specs.declared.call.Reply.{Reply}
 use Rattle.spec_image.specs.declared.entry.Entry.{Entry}
@@ -12,6 +13,7 @@ use Rattle.monitor.specs.Common.{MonitorState}
 use Rattle.monitor.proofs.Events.EventCrashes.{state_stands}
 use Rattle.commands.proofs.ActLaws.{goes_nowhere, goes_on}
 use Rattle.collection.specs.Common.{Acted, EachDone, Goes, added, folder_made, folder_of, unread}
+use Rattle.collection.specs.declared.source.Source.{Source}
 use Rattle.collection.specs.declared.task.ExportTask.{ExportTask}
 use Rattle.collection.specs.declared.task.ImportTask.{ImportTask}
 use Rattle.collection.specs.Export as exporting
@@ -55,12 +57,30 @@ module _ {S : Type 0} (machine : S → Machine) (stands : AlwaysStands machine) 
     each_goes (x ∷ xs) tally sink full old new result (Err error, middle, mid, done, (written, same, is)) =
         then_goes old.1 mid.1 new.1 (steps x sink middle old mid (Err error) done) (acted_goes mid mid new same refl)
 
+  after_goes : (path : List ℕ) (sink full : Option (List ℕ)) (mid new : S) (result : Result Tally SessionError)
+      (IsDone : Type 0) (made : Result (Unit {0}) Reply) → (IsDone → Goes machine mid new)
+      → importing.GoesOn path sink full mid new result IsDone made → Goes machine mid new
+  after_goes path sink full mid new result IsDone (Ok unit) goes done = goes done
+  after_goes path sink full mid new result IsDone (Err reply) goes (inl (there, done)) = goes done
+  after_goes path sink full mid new result IsDone (Err reply) goes (inr (other, same, line)) = same_goes mid new same
+
   -- A file of the host.
+  put_goes : (task : ImportTask) (path text : List ℕ) (name : FileName) (source : Source) (sink full : Option (List ℕ))
+      (old new : S) (result : Result Tally SessionError)
+      → importing.IsPutInto machine task.owner path sink full old new result
+      (λ mid. importing.IsImported machine task path text name source sink full mid new result)
+      → Goes machine old new
+  put_goes task path text name source sink full old new result p =
+      let made = p.makes.led (Say silent) in
+      then_goes old p.mid new (record { acts = made.acts; goes = made.goes })
+      (after_goes path sink full p.mid new result _ p.made
+      (λ done. record { acts = done.imported.acts; goes = done.imported.goes }) p.done)
+
   pub import_goes : (task : ImportTask) (path : List ℕ) (sink full : Option (List ℕ)) (old new : Acted S)
       (result : Result Tally SessionError) → importing.IsDoneWith machine task path sink full old new result
       → Goes machine old.1 new.1
   import_goes task path sink full old new result (inl (text, name, named, inl (source, read, inl done))) =
-      record { acts = done.imported.acts; goes = done.imported.goes }
+      put_goes task path text name source sink full old.1 new.1 result done
   import_goes task path sink full old new result
       (inl (text, name, named, inl (source, read, inr (inl (dated, undated, (same, line)))))) =
       same_goes old.1 new.1 same
@@ -73,29 +93,11 @@ module _ {S : Type 0} (machine : S → Machine) (stands : AlwaysStands machine) 
       acted_goes old old new same refl
   import_goes task path sink full old new result (inr (inr unnamed)) = acted_goes old old new unnamed.same refl
 
-  pub imports_go : (task : ImportTask) (paths : List (List ℕ)) (sink full : Option (List ℕ)) (old new : Acted S)
-      (result : Result Tally SessionError) → importing.AreDoneWith machine task paths sink full old new result
-      → Goes machine old.1 new.1
-  imports_go task paths sink full old new result =
-      each_goes (importing.IsDoneWith machine task) (import_goes task) paths _ sink full old new result
-
-  goes_after : (task : ImportTask) (paths : List (List ℕ)) (made : Result (Unit {0}) Reply)
-      (sink full : Option (List ℕ)) (old new : Acted S) (result : Result Tally SessionError)
-      → importing.GoesOn machine task paths sink full old new result made → Goes machine old.1 new.1
-  goes_after task paths (Ok unit) sink full old new result done =
-      imports_go task paths sink full old new result done
-  goes_after task paths (Err reply) sink full old new result (inl (there, done)) =
-      imports_go task paths sink full old new result done
-  goes_after task paths (Err reply) sink full old new result (inr (other, same, line)) =
-      acted_goes old old new same refl
-
   pub import_run_goes : (task : ImportTask) (paths : List (List ℕ)) (sink full : Option (List ℕ)) (old new : Acted S)
       (result : Result Tally SessionError) → importing.IsImportRun machine task paths sink full old new result
       → Goes machine old.1 new.1
-  import_run_goes task paths sink full old new result run =
-      let made = run.makes.led (Say silent) in
-      then_goes old.1 run.mid new.1 (record { acts = made.acts; goes = made.goes })
-      (goes_after task paths run.made sink full (old.0, run.mid) new result run.done)
+  import_run_goes task paths sink full old new result =
+      each_goes (importing.IsDoneWith machine task) (import_goes task) paths _ sink full old new result
 
   -- A file of a directory.
   pub entry_goes : (task : ExportTask) (owner : ℕ) (entry : Entry) (sink full : Option (List ℕ)) (old new : Acted S)

@@ -1,14 +1,14 @@
 -- Facts about a file that hold by other names of its parts.
 use Rattle.std.proofs.Common.{◌≡◌, ℕ, Bool, false, List, Option, Result, Ok, Err, codes, inl, inr, refl, subst, sym}
 use Rattle.std.proofs.Common.{◌⊎◌, ◌∷◌, ◌∙◌, None, ap}
-use Rattle.spec_language.specs.Common.{Plan, is_broken, owner_text, refusal}
+use Rattle.spec_language.specs.Common.{Plan, is_broken, refusal}
 use Rattle.spec_language.specs.declared.encoding.Encoding.{Encoding}
 use Rattle.spec_image.specs.declared.entry.Entry.{Entry}
 use Rattle.commands.specs.Common.{Imported, Machine, HasEntries}
 use Rattle.commands.specs.declared.answer.Tally.{Tally}
 use Rattle.commands.specs.declared.error.SessionError.{SessionError}
 use Rattle.commands.specs.declared.error.SessionError.TheVariants.{NoMemory}
-use Rattle.collection.specs.Common.{Acted, AreDoneWith, FileAct, GoesOn, HasNoFolder, IsRefusedLine, IsTakenOut}
+use Rattle.collection.specs.Common.{Acted, FileAct, GoesOn, HasNoFolder, IsPutInto, IsRefusedLine, IsTakenOut}
 use Rattle.collection.specs.Common.{MadeFolder, ReadFile, folder_made, unread}
 use Rattle.collection.specs.declared.task.ImportTask.{ImportTask}
 use Rattle.collection.proofs.EachLaws.{beside}
@@ -72,27 +72,37 @@ pub no_entries : {V S : Type 0} (items : V → List Entry) (machine : S → Mach
 no_entries items machine old new at owner reply p = record { acts = p.acts; goes = p.goes; answer = p.answer }
 
 -- a directory that was made, or exists
-pub let_in : {S : Type 0} (machine : S → Machine) (task : ImportTask) (paths : List (List ℕ))
-    (sink full : Option (List ℕ)) (old new : Acted S) (result : Result Tally SessionError)
-    (made : Result (Unit {0}) Reply) → (made ≡ Ok tt) ⊎ (made ≡ Err (Refused 4))
-    → AreDoneWith machine task paths sink full old new result
-    → GoesOn machine task paths sink full old new result made
-let_in machine task paths sink full old new result made (inl e) done =
-    subst (GoesOn machine task paths sink full old new result) (sym e) done
-let_in machine task paths sink full old new result made (inr e) done =
-    subst (GoesOn machine task paths sink full old new result) (sym e) (inl (refl, done))
+pub let_in : {S : Type 0} (path : List ℕ) (sink full : Option (List ℕ)) (mid new : S)
+    (result : Result Tally SessionError) (IsDone : Type 0) (made : Result (Unit {0}) Reply)
+    → (made ≡ Ok tt) ⊎ (made ≡ Err (Refused 4)) → IsDone → GoesOn path sink full mid new result IsDone made
+let_in path sink full mid new result IsDone made (inl e) done =
+    subst (GoesOn path sink full mid new result IsDone) (sym e) done
+let_in path sink full mid new result IsDone made (inr e) done =
+    subst (GoesOn path sink full mid new result IsDone) (sym e) (inl (refl, done))
 
--- a directory that wasn't made and doesn't exist; its line may find no memory
-pub shut_out : {S : Type 0} (machine : S → Machine) (task : ImportTask) (paths : List (List ℕ))
-    (sink full : Option (List ℕ)) (now : Acted S) (result : Result Tally SessionError)
-    (made : Result (Unit {0}) Reply) (reply : Reply) → made ≡ Err reply → (reply ≡ Refused 4 → ⊥)
-    → IsRefusedLine (owner_text task.owner) (refusal reply) (is_broken reply) sink full result
-    ⊎ ((full ≡ sink) × (result ≡ Err NoMemory)) → GoesOn machine task paths sink full now now result made
-shut_out machine task paths sink full now result made reply e other (inl line) =
-    subst (GoesOn machine task paths sink full now now result) (sym e) (inr (other, refl, inl line))
-shut_out machine task paths sink full now result made reply e other (inr (unwritten, memory)) =
-    subst (GoesOn machine task paths sink full now now result) (sym e) (inr (
-      other,
-      refl,
-      inr (record { same = refl; unwritten = unwritten; memory = memory }),
-    ))
+-- a directory that wasn't made and doesn't exist
+pub shut_out : {S : Type 0} (path : List ℕ) (sink full : Option (List ℕ)) (mid : S)
+    (result : Result Tally SessionError) (IsDone : Type 0) (made : Result (Unit {0}) Reply) (reply : Reply)
+    → made ≡ Err reply → (reply ≡ Refused 4 → ⊥)
+    → IsRefusedLine path (refusal reply) (is_broken reply) sink full result
+    → GoesOn path sink full mid mid result IsDone made
+shut_out path sink full mid result IsDone made reply e other line =
+    subst (GoesOn path sink full mid mid result IsDone) (sym e) (inr (other, refl, line))
+
+-- what was done is known by more
+pub put_into_as : {S : Type 0} (machine : S → Machine) (owner : ℕ) (path : List ℕ) (sink full : Option (List ℕ))
+    (old new : S) (result : Result Tally SessionError) (IsPut IsPutToo : S → Type 0)
+    → ((mid : S) → IsPut mid → IsPutToo mid)
+    → IsPutInto machine owner path sink full old new result IsPut
+    → IsPutInto machine owner path sink full old new result IsPutToo
+put_into_as machine owner path sink full old new result IsPut IsPutToo more p = record {
+  mid = p.mid;
+  made = p.made;
+  makes = p.makes;
+  done = done_as p.made p.done;
+} where
+  done_as : (made : Result (Unit {0}) Reply) → GoesOn path sink full p.mid new result (IsPut p.mid) made
+      → GoesOn path sink full p.mid new result (IsPutToo p.mid) made
+  done_as (Ok unit) done = more p.mid done
+  done_as (Err reply) (inl (there, done)) = inl (there, more p.mid done)
+  done_as (Err reply) (inr none) = inr none

@@ -8,8 +8,8 @@ pub use Rattle.collection.specs.HostActs.{folder_made, read_from, unread}
 pub use Rattle.collection.specs.ActMade.{acts_in, spelled_act}
 pub use Rattle.collection.specs.Each.{EachDone, Goes, IsPassedOver, Then, added, none_counted}
 pub use Rattle.collection.specs.Lines.{IsCounted, IsLineWritten, IsRefusedLine, label_of, refused_tally}
-pub use Rattle.collection.specs.Import.{AreDoneWith, GoesOn, IsDoneWith, IsEncodingFor, IsImportRun, IsMomentFor}
-pub use Rattle.collection.specs.Import.{IsSourcePut, most_read}
+pub use Rattle.collection.specs.Import.{GoesOn, IsDoneWith, IsEncodingFor, IsImportRun, IsImported, IsMomentFor}
+pub use Rattle.collection.specs.Import.{IsPutInto, IsSourcePut, most_read}
 pub use Rattle.collection.specs.Export.{AreEntriesDone, AreOwnersDone, IsChangeOf, IsEntryDone, IsExportRun}
 pub use Rattle.collection.specs.Export.{HasNoFolder, IsOwnerDone, IsStored, IsTakenOut, encoding_text}
 pub use Rattle.collection.specs.Faults.{AreFindingsDone, IsKindDone, IsLineDone, IsRestDone, defect_text, fault_text}

@@ -4,7 +4,7 @@ use Rattle.words36.specs.declared.moment.Moment.{Moment}
 use Rattle.words36.specs.declared.names.FileName.{FileName}
 use Rattle.spec_language.specs.Common.{login_events, is_character, own_file, Plan, make_dir_events, each, Are}
 use Rattle.spec_language.specs.Common.{is_broken}
-use Rattle.spec_language.specs.Common.{owner_text, refusal}
+use Rattle.spec_language.specs.Common.{refusal}
 use Rattle.spec_machine.specs.declared.call.Reply.{Reply}
 use Rattle.spec_machine.specs.declared.call.Reply.TheVariants.{Refused}
 use Rattle.spec_language.specs.declared.encoding.Encoding.{Encoding}
@@ -53,11 +53,37 @@ pub record IsImported {S : Type 0} (machine : S → Machine) (task : ImportTask)
   pub imported : Imported sink full machine old new encoding (label_of path text) source.bytes.items
       (put_plan_as Refuse at task.owner encoding (own_file name)) result
 
+-- The job of an owner made its directory, and this is the result.
+pub record HasMade {S : Type 0} (machine : S → Machine) (old new : S) (owner : ℕ) (made : Result (Unit {0}) Reply)
+    : Type 0 where
+  pub at : Moment
+  pub first : at_first at
+  pub led : (next : Plan)
+      → FollowsPlan machine old new (each at (login_events owner) (each at (make_dir_events at owner 0) next))
+      (followed at made (λ unit. next))
+
+-- A directory was made, or exists, and this was done; or it does neither, as the line of a file for it states.
+abbrev pub GoesOn : {S : Type 0} → List ℕ → Option (List ℕ) → Option (List ℕ) → S → S → Result Tally SessionError
+    → Type 0 → Result (Unit {0}) Reply → Type 0
+GoesOn path sink full mid new result IsDone (Ok unit) = IsDone
+GoesOn path sink full mid new result IsDone (Err reply) = ((reply ≡ Refused 4) × IsDone)
+    ⊎ ((reply ≡ Refused 4 → ⊥) × (new ≡ mid)
+    × IsRefusedLine path (refusal reply) (is_broken reply) sink full result)
+
+-- The directory of an owner was made, unless it was there, and then a file for it was put as stated.
+pub record IsPutInto {S : Type 0} (machine : S → Machine) (owner : ℕ) (path : List ℕ) (sink full : Option (List ℕ))
+    (old new : S) (result : Result Tally SessionError) (IsPut : S → Type 0) : Type 0 where
+  pub mid : S
+  pub made : Result (Unit {0}) Reply
+  pub makes : HasMade machine old mid owner made
+  pub done : GoesOn path sink full mid new result (IsPut mid) made
+
 -- What became of a file that was read: it was put, or its last change was at a time that no file can have.
 abbrev pub IsSourcePut : {S : Type 0} → (S → Machine) → ImportTask → List ℕ → List ℕ → FileName → Source
     → Option (List ℕ) → Option (List ℕ) → S → S → Result Tally SessionError → Type 0
 IsSourcePut machine task path text name source sink full old new result =
-    IsImported machine task path text name source sink full old new result
+    IsPutInto machine task.owner path sink full old new result
+    (λ mid. IsImported machine task path text name source sink full mid new result)
     ⊎ ((task.dated ≡ true) × (source.changed ≡ None) × IsTurnedDown path sink full old new (codes "?Date out of range")
     result)
     ⊎ IsUnnamed sink full old new result
@@ -83,35 +109,7 @@ IsDoneWith machine task path sink full old new result =
     ⊎ IsUnnamed sink full old new result
 
 -- What became of all of them, in their order. A fault of the writer and a lack of memory end the run.
-abbrev pub AreDoneWith : {S : Type 0} → (S → Machine) → ImportTask → List (List ℕ) → Option (List ℕ)
+abbrev pub IsImportRun : {S : Type 0} → (S → Machine) → ImportTask → List (List ℕ) → Option (List ℕ)
     → Option (List ℕ) → Acted S → Acted S → Result Tally SessionError → Type 0
-AreDoneWith machine task paths sink full old new result =
+IsImportRun machine task paths sink full old new result =
     EachDone (IsDoneWith machine task) paths none_counted sink full old new result
-
--- The owner's job made its directory, first of all, and this is the result.
-pub record HasMade {S : Type 0} (machine : S → Machine) (old new : S) (owner : ℕ) (made : Result (Unit {0}) Reply)
-    : Type 0 where
-  pub at : Moment
-  pub first : at_first at
-  pub led : (next : Plan)
-      → FollowsPlan machine old new (each at (login_events owner) (each at (make_dir_events at owner 0) next))
-      (followed at made (λ unit. next))
-
--- The directory was made, or exists; or it does neither, and a line states this: whose it is, and why.
-abbrev pub GoesOn : {S : Type 0} → (S → Machine) → ImportTask → List (List ℕ) → Option (List ℕ) → Option (List ℕ)
-    → Acted S → Acted S → Result Tally SessionError → Result (Unit {0}) Reply → Type 0
-GoesOn machine task paths sink full old new result (Ok unit) =
-    AreDoneWith machine task paths sink full old new result
-GoesOn machine task paths sink full old new result (Err reply) =
-    ((reply ≡ Refused 4) × AreDoneWith machine task paths sink full old new result)
-    ⊎ ((reply ≡ Refused 4 → ⊥) × (new ≡ old)
-    × (IsRefusedLine (owner_text task.owner) (refusal reply) (is_broken reply) sink full result
-    ⊎ IsUnnamed sink full old new result))
-
--- What became of a directory and of the files that were put into it.
-pub record IsImportRun {S : Type 0} (machine : S → Machine) (task : ImportTask) (paths : List (List ℕ))
-    (sink full : Option (List ℕ)) (old new : Acted S) (result : Result Tally SessionError) : Type 0 where
-  pub mid : S
-  pub made : Result (Unit {0}) Reply
-  pub makes : HasMade machine old.1 mid task.owner made
-  pub done : GoesOn machine task paths sink full (old.0, mid) new result made

@@ -2,17 +2,17 @@
 ghost use Rattle.std.specs.Prelude.{◌≡◌, ◌⊎◌, ◌<◌, ℕ, List, length, get_or, map, true, IfSome, IfNone, Ok, Err};
 ghost use Rattle.std.specs.Prelude.{None};
 ghost use Rattle.spec_machine.specs.declared.call.Reply.TheVariants.{Refused};
-ghost use Rattle.spec_language.specs.Common.{is_broken, owner_text, refusal};
-ghost use Rattle.commands.specs.declared.error.SessionError.TheVariants.{NoMemory};
-ghost use Rattle.collection.specs.Common.{IsRefusedLine, Goes, AreDoneWith, IsDoneWith, IsEncodingFor, IsImportRun};
-ghost use Rattle.collection.specs.Common.{IsMomentFor, IsSourcePut, most_read};
+ghost use Rattle.spec_language.specs.Common.{own_file};
+ghost use Rattle.commands.specs.Common.{Imported, put_plan_as};
+ghost use Rattle.commands.specs.declared.existing.Existing.TheVariants.{Refuse};
+ghost use Rattle.collection.specs.Common.{Goes, IsDoneWith, IsEncodingFor, IsImportRun, IsMomentFor, IsPutInto};
+ghost use Rattle.collection.specs.Common.{IsSourcePut, most_read};
 ghost use Rattle.monitor.specs.Common.{MonitorState};
 ghost use Rattle.commands.specs.Common.{machine_of};
 
 use crate::clock::first_moment;
 use crate::host_names::{Named, name_for};
 use crate::lines::{added, label, turn_down};
-use crate::paths::owner_text;
 use crate::report::{report, report_collision};
 use crate::{HostFiles, ImportTask, Source};
 use blockdisk::Disk;
@@ -89,6 +89,43 @@ fn report_misfit<E: Write>(errors: &mut E, path: &str, put: &Result<Tally, Sessi
     }
 }
 
+/// Returns why a directory doesn't exist, if it was neither made nor there before.
+fn refusal_of(made: Result<(), Reply>) -> Option<Reply>
+    ensures some { IfSome result (λ reply. (made ≡ Err reply) × (reply ≡ Refused 4 → ⊥)) }
+    ensures none { IfNone result ((made ≡ Ok tt) ⊎ (made ≡ Err (Refused 4))) }
+{
+    match made {
+        Ok(()) => None,
+        Err(Reply::Refused(ALREADY_EXISTS)) => None,
+        Err(reply) => Some(reply),
+    }
+}
+
+/// Makes the directory of a file, unless it exists, puts the file, if none has its name, and writes its line.
+fn put_into<W: Write, E: Write, D: Disk>(
+    alloc: Global,
+    path: &str,
+    file: &Import<'_>,
+    monitor: &mut Monitor<D>,
+    writer: &mut W,
+    errors: &mut E,
+) -> Result<Tally, SessionError>
+    ensures { IsPutInto (λ (m : MonitorState D). machine_of (D.state m.disk) m.map m.failed m.jobs) file.now.owner
+        path.now (W.contents writer.old) (W.contents writer.new) monitor.old monitor.new result
+        (λ mid. Imported (W.contents writer.old) (W.contents writer.new)
+        (λ (m : MonitorState D). machine_of (D.state m.disk) m.map m.failed m.jobs) mid monitor.new file.now.encoding
+        file.now.label.now file.now.bytes.now
+        (put_plan_as Refuse file.now.moment file.now.owner file.now.encoding (own_file file.now.name)) result) }
+{
+    let made = make_directory(alloc, monitor, first_moment(), file.owner);
+    if let Some(reply) = refusal_of(made) {
+        return turn_down(alloc, writer, path, refusal(&reply), is_broken(&reply));
+    }
+    let put = import(alloc, writer, monitor, file);
+    report_misfit(errors, path, &put);
+    put
+}
+
 /// Puts a file that was read, if no file has its name, and writes its line.
 fn put_source<W: Write, E: Write, D: Disk>(
     alloc: Global,
@@ -117,9 +154,7 @@ fn put_source<W: Write, E: Write, D: Disk>(
         label: &label,
         bytes: &source.bytes,
     };
-    let put = import(alloc, writer, monitor, &file);
-    report_misfit(errors, named.path, &put);
-    put
+    put_into(alloc, named.path, &file, monitor, writer, errors)
 }
 
 /// Reads a file of the host and puts it, if no file has its name, and writes its line.
@@ -186,7 +221,7 @@ fn path_at<'a>(task: &ImportTask<'a>, place: usize) -> &'a str
     task.paths[place]
 }
 
-/// Puts files of the host into a directory that exists.
+/// Puts files of the host into a directory.
 fn import_all<H: HostFiles, W: Write, E: Write, D: Disk>(
     host: &mut H,
     alloc: Global,
@@ -195,7 +230,7 @@ fn import_all<H: HostFiles, W: Write, E: Write, D: Disk>(
     writer: &mut W,
     errors: &mut E,
 ) -> Result<Tally, SessionError>
-    ensures { AreDoneWith (λ (m : MonitorState D). machine_of (D.state m.disk) m.map m.failed m.jobs) task.now
+    ensures { IsImportRun (λ (m : MonitorState D). machine_of (D.state m.disk) m.map m.failed m.jobs) task.now
         (map (λ p. p.now) task.now.paths.items) (W.contents writer.old) (W.contents writer.new)
         (H.acts host.old, monitor.old) (H.acts host.new, monitor.new) result }
 {
@@ -210,40 +245,9 @@ fn import_all<H: HostFiles, W: Write, E: Write, D: Disk>(
     Ok(tally)
 }
 
-/// Returns why a directory doesn't exist, if it was neither made nor there before.
-fn refusal_of(made: Result<(), Reply>) -> Option<Reply>
-    ensures some { IfSome result (λ reply. (made ≡ Err reply) × (reply ≡ Refused 4 → ⊥)) }
-    ensures none { IfNone result ((made ≡ Ok tt) ⊎ (made ≡ Err (Refused 4))) }
-{
-    match made {
-        Ok(()) => None,
-        Err(Reply::Refused(ALREADY_EXISTS)) => None,
-        Err(reply) => Some(reply),
-    }
-}
-
-/// Writes why a directory can't be made.
-fn refuse_owner<W: Write>(
-    alloc: Global,
-    writer: &mut W,
-    owner: Ppn,
-    reply: Reply,
-) -> Result<Tally, SessionError>
-    ensures { IsRefusedLine (owner_text owner) (refusal reply) (is_broken reply) (W.contents writer.old)
-        (W.contents writer.new) result ⊎ ((W.contents writer.new ≡ W.contents writer.old) × (result ≡ Err NoMemory)) }
-{
-    match owner_text(alloc, owner) {
-        Ok(text) => {
-            let (said, broke) = (refusal(&reply), is_broken(&reply));
-            turn_down(alloc, writer, text.as_str(), said, broke)
-        }
-        Err(_) => Err(SessionError::NoMemory),
-    }
-}
-
 /// Puts files of the host into a directory, each one if no file has its name, by job 1, which logs in as the owner.
-/// Makes the directory first, if it doesn't exist. A line is written for each file. A refused file doesn't stop the
-/// others.
+/// Makes the directory before the first file is put, if it doesn't exist. A line is written for each file. A refused
+/// file doesn't stop the others.
 ///
 /// # Errors
 ///
@@ -263,9 +267,5 @@ pub fn import_files<H: HostFiles, W: Write, E: Write, D: Disk>(
     ensures goes { Goes (λ (m : MonitorState D). machine_of (D.state m.disk) m.map m.failed m.jobs) monitor.old
         monitor.new }
 {
-    let made = make_directory(alloc, monitor, first_moment(), task.owner);
-    match refusal_of(made) {
-        None => import_all(host, alloc, task, monitor, writer, errors),
-        Some(reply) => refuse_owner(alloc, writer, task.owner, reply),
-    }
+    import_all(host, alloc, task, monitor, writer, errors)
 }

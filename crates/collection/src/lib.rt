@@ -6,10 +6,11 @@
 //! 2. `moment_of` returns the date and the minute that the calendar shows at a second in UTC, and none exactly if no
 //!    file can have the date. `second_of` returns a second of the given minute, and none exactly if the calendar has no
 //!    such day. (`IsAtSecond`)
-//! 3. `import_files` makes the directory first, and then takes the files in the order in which they are given: each has
-//!    one line, and is either put as a file of its name that didn't exist, or refused for the cause that its line
-//!    states. A refused file makes no call, and the files after it are done. A fault of the writer and a lack of memory
-//!    end the run. The host reads each file that has a name once, and does nothing else. (`IsImportRun`)
+//! 3. `import_files` takes the files in the order in which they are given: each has one line, and is either put as a
+//!    file of its name that didn't exist, or refused for the cause that its line states. The directory is made, if it
+//!    isn't there, before a file is put. A file without a name, or one that the host doesn't give, makes no call, and
+//!    the files after it are done. A fault of the writer and a lack of memory end the run. The host reads each file
+//!    that has a name once, and does nothing else. (`IsImportRun`)
 //! 4. `export_files` takes the directories and their files in the order of the volume. Each file has one line: what the
 //!    host stored at its path are the bytes of the file, with the moment that the volume has for it. If paths are only
 //!    to be listed, no call is made for a file. The host makes the folders and these files in the order of their lines,

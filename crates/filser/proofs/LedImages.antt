@@ -12,7 +12,7 @@ use Rattle.filser.specs.declared.fault.HostFault.TheVariants.{WrongLength}
 use Rattle.filser.specs.declared.fault.ImageFault.{ImageFault}
 use Rattle.filser.specs.declared.led_image.LedImage.{LedImage}
 use Rattle.filser.specs.declared.refusal.Refusal.{Refusal}
-use Rattle.filser.proofs.NamedFiles.{holds_of_images}
+use Rattle.filser.proofs.NamedFiles.{holds_of_named}
 
 -- what forbids reports forbids the output too
 mute_too : (fault : HostFault) → forbids_errors fault ≡ true → forbids_output fault ≡ true
@@ -110,7 +110,7 @@ words_spared : {H : Type 0} (facts : HostFacts H) (words : List (List ℕ)) → 
     → AreWordsSpared facts (subcommand_of command_line words) (drop 1 words)
 words_spared facts words all = record {
   files = all;
-  images = λ request asks. holds_of_images (SparesErrors facts) words (subcommand_of command_line words) request refl
+  images = λ request asks. holds_of_named (SparesErrors facts) words (subcommand_of command_line words) request refl
       asks all;
 }
 

@@ -6,7 +6,7 @@ pub use Rattle.filser.specs.Requests.{IsExisting, IsExportTask, IsFaultIn, IsImp
 pub use Rattle.filser.specs.Requests.{IsNamedFile, IsOneEncoding, IsSalvageTask, IsStyle, IsTask, IsUsage, IsWrong}
 pub use Rattle.filser.specs.Requests.{LacksDate, LacksOwned, NamesDate, NamesEncoding, NamesFile, NamesNoDate}
 pub use Rattle.filser.specs.Requests.{NamesOwner, NamesSearch, SaysDate, Spells}
-pub use Rattle.filser.specs.Requests.{encoding_flag, image_named, new_named, task_name}
+pub use Rattle.filser.specs.Requests.{encoding_flag, image_named, new_named, sources_named, task_name}
 pub use Rattle.filser.specs.Statuses.{status_code}
 pub use Rattle.filser.specs.Refusals.{converted_text, refusal_code, refusal_text, start_text}
 pub use Rattle.filser.specs.Outputs.{fault_of_count, fault_of_flush, fault_of_write}
@@ -33,5 +33,5 @@ pub use Rattle.filser.specs.ExportRuns.{IsExportedFrom, IsOnExported}
 pub use Rattle.filser.specs.SalvageRuns.{AreAllFound, AreExact, AreFound, ArePartFound, IsCopySalvaged, IsNoCopy}
 pub use Rattle.filser.specs.SalvageRuns.{IsOnSalvaged, IsPartSalvaged, IsSalvagedFrom, IsSaved, IsUncopied}
 pub use Rattle.filser.specs.SalvageRuns.{IsUnsurveyed, named_only, start_error}
-pub use Rattle.filser.specs.Runs.{AreReportsSpared, AreWordsSpared, HoldsOfImages, IsApart, IsHandled, IsLed, IsLedBy}
-pub use Rattle.filser.specs.Runs.{IsRequestRun, PrintsOnly, WasRun}
+pub use Rattle.filser.specs.Runs.{AreReportsSpared, AreWordsSpared, HoldsOfImages, HoldsOfNamed, IsApart, IsHandled}
+pub use Rattle.filser.specs.Runs.{IsLed, IsLedBy, IsRequestRun, PrintsOnly, WasRun}

@@ -295,3 +295,14 @@ new_named (Migrate image form) = None
 new_named (Import image form task) = None
 new_named (Export image form task) = None
 new_named (Salvage image form task) = None
+
+-- the files to import that the request names
+abbrev pub sources_named : Request → List Text
+sources_named Fresh = []
+sources_named (Init image blocks form layout) = []
+sources_named (Work image form task) = []
+sources_named (Convert image new form) = []
+sources_named (Migrate image form) = []
+sources_named (Import image form task) = map (λ path. path.now) task.paths.items
+sources_named (Export image form task) = []
+sources_named (Salvage image form task) = []

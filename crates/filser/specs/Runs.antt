@@ -1,5 +1,5 @@
 -- What a run comes to: the reader had `source` and has `left`, the writer had `sink` and has `full`.
-use Rattle.std.specs.Prelude.{◌≡◌, ◌⊎◌, ℕ, List, Option, Some, None as Nothing, All, IfSome}
+use Rattle.std.specs.Prelude.{◌≡◌, ◌⊎◌, ℕ, List, Option, Some, None as Nothing, All, Any, IfSome}
 use Rattle.clap.specs.Words.{Kinds, kind_of, Row, Text}
 use Rattle.imagefile.specs.Common.{Unseen}
 use Rattle.collection.specs.Common.{FileAct}
@@ -12,8 +12,8 @@ use Rattle.filser.specs.Hosts.{HostFacts, IsMadeLike}
 use Rattle.filser.specs.Images.{IsOnBoth, IsOnFresh, IsOnImage, IsOnNew}
 use Rattle.filser.specs.ImportRuns.{IsOnImported}
 use Rattle.filser.specs.Migrations.{IsOnMigrated}
-use Rattle.filser.specs.Requests.{Asks, IsMistaken, IsUsage, image_named, new_named}
-use Rattle.filser.specs.FreeStreams.{SparesErrors, SparesNamed, SparesOutput}
+use Rattle.filser.specs.Requests.{Asks, IsMistaken, IsUsage, image_named, new_named, sources_named}
+use Rattle.filser.specs.FreeStreams.{BarsErrors, BarsOutput, SparesErrors, SparesNamed, SparesOutput}
 use Rattle.filser.specs.Streams.{AreNeeded, IsStreamAt}
 use Rattle.filser.specs.Views.{Views}
 use Rattle.filser.specs.declared.request.Request.{Request}
@@ -110,21 +110,28 @@ IsLed facts request path fault = IsLedBy facts (image_named request) (Start Devi
 abbrev pub HoldsOfImages : Request → (List ℕ → Type 0) → Type 0
 HoldsOfImages request Holds = IfSome (image_named request) Holds × IfSome (new_named request) Holds
 
--- No image was opened, and nothing read: the run would have printed into an image or read from it, or there is nothing
--- to read from or to print to.
+-- and of the path of each file to import
+abbrev pub HoldsOfNamed : Request → (List ℕ → Type 0) → Type 0
+HoldsOfNamed request Holds = HoldsOfImages request Holds × All Holds (sources_named request)
+
+-- No image was opened, and nothing read: the run would have printed into an image or read from it, or have printed or
+-- reported into a file to import, or there is nothing to read from or to print to.
 abbrev pub IsTurnedAway : {H L N M F D I : Type 0} → HostFacts H → MissingStreams → Things L N M F D I → Request
     → Option (List ℕ) → Option (List ℕ) → Option (List ℕ) → Option (List ℕ) → Status → Type 0
 IsTurnedAway facts missing things request source left sink full status =
     (left ≡ source) × AreUntouched things
     × (((path : List ℕ) × (fault : ImageFault) × IsLed facts request path fault × IsExplained sink full status fault
-    × ((full ≡ sink) ⊎ HoldsOfImages request (SparesOutput facts)))
+    × ((full ≡ sink) ⊎ HoldsOfNamed request (SparesOutput facts)))
+    ⊎ ((Any (BarsOutput facts) (sources_named request) ⊎ Any (BarsErrors facts) (sources_named request))
+    × (full ≡ sink) × (status ≡ Fault))
     ⊎ (AreNeeded missing × (full ≡ sink) × (status ≡ Fault)))
 
 -- The request was turned away, or served with streams that exist and lead elsewhere.
 abbrev pub IsHandled : {H L N M F D I : Type 0} → HostFacts H → Views M F D I → MissingStreams → Things L N M F D I
     → Request → Option (List ℕ) → Option (List ℕ) → Option (List ℕ) → Option (List ℕ) → Status → Type 0
 IsHandled facts views missing things request source left sink full status =
-    (IsApart facts (image_named request) × IsApart facts (new_named request) × (AreNeeded missing → ⊥)
+    (IsApart facts (image_named request) × IsApart facts (new_named request)
+    × All (SparesOutput facts) (sources_named request) × (AreNeeded missing → ⊥)
     × IsRequestRun facts views things request source left sink full status)
     ⊎ IsTurnedAway facts missing things request source left sink full status
 
@@ -151,15 +158,15 @@ pub record WasRun {H L N M F D I : Type 0} (facts : HostFacts H) (views : Views 
       × IsHandled facts views missing things request source left sink full status)
       ⊎ IsUnasked facts kinds found names things source left sink full status
 
--- None of it lands in a file that the words name, and so in no image that their request names, as the host answered.
+-- None of it lands in a file that the words name, and so in none that their request names, as the host answered.
 pub record AreWordsSpared {H : Type 0} (facts : HostFacts H) (found : Option (Text × List Row)) (names : List (List ℕ))
     : Type 0 where
   pub files : All (SparesErrors facts) names
-  pub images : (request : Request) → Asks found request → HoldsOfImages request (SparesErrors facts)
+  pub images : (request : Request) → Asks found request → HoldsOfNamed request (SparesErrors facts)
 
--- Nothing was reported, or none of it lands in a file that the words name, or in an image that their request names, as
+-- Nothing was reported, or none of it lands in a file that the words name, or in one that their request names, as
 -- the host answered.
 abbrev pub AreReportsSpared : {H : Type 0} → HostFacts H → Option (Text × List Row) → List (List ℕ) → Option (List ℕ)
     → Option (List ℕ) → Type 0
 AreReportsSpared facts found names told reported = (reported ≡ told) ⊎ AreWordsSpared facts found names
-    ⊎ ((request : Request) × Asks found request × HoldsOfImages request (SparesErrors facts))
+    ⊎ ((request : Request) × Asks found request × HoldsOfNamed request (SparesErrors facts))

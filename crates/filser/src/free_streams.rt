@@ -41,7 +41,7 @@ impl FreeStreams {
     }
 
     /// Returns the streams that lead to no file of these names.
-    fn of_names<H: Host>(host: &H, names: &[&str]) -> Self
+    pub(crate) fn of_names<H: Host>(host: &H, names: &[&str]) -> Self
         ensures output { IsTrue result.output
             → All (SparesOutput (H.facts host.now)) (map (λ n. n.now) names.now) }
         ensures errors { IsTrue result.errors

@@ -29,8 +29,8 @@
 //!    of it if the writer fails. (`IsExplained`, `IsLine`)
 //! 10. A run hands back the images that it worked on, so that its contract states what became of them. (`WasRun`)
 //! 11. Words that make no request print nothing into a file that one of them names. (`SparesNamed`) A request prints
-//!    nothing into an image that it names. (`IsHandled`) Nothing that a run reports lands in an image that its request
-//!    names, or in a file that one of its words names if they make no request. (`AreReportsSpared`)
+//!    nothing into an image that it names, or into a file to import. (`IsHandled`) Nothing that a run reports lands in
+//!    one of these, or in a file that one of its words names if they make no request. (`AreReportsSpared`)
 //!
 //! What an image stands for, and what a line does, is not known here.
 #![tactic(auto)]

@@ -1,6 +1,6 @@
 //! A whole run of the program, by the words of its command line.
 ghost use Rattle.std.specs.Prelude.{◌≡◌, ◌≢◌, ◌⊎◌, ◌≤◌, ℕ, List, [], map, true, Option, IfSome};
-ghost use Rattle.std.specs.Prelude.{MatchResult, IsFalse, IsSome, All, drop};
+ghost use Rattle.std.specs.Prelude.{MatchResult, IsFalse, IsSome, IsTrue, All, drop};
 ghost use Rattle.std.specs.Io.KnownBytes.{Keeps};
 ghost use Rattle.clap.specs.Words.{fault_of, kind_of, subcommand_of};
 ghost use Rattle.clap.specs.declared.error.Error.{Error as Errors};
@@ -8,7 +8,8 @@ ghost use Rattle.arguments.specs.CommandLine.{command_line};
 ghost use Rattle.imagefile.specs.Common.{assumed_in};
 ghost use Rattle.filser.specs.Common.{IsExplained, AreMistaken, AskToSee, EndsUnasked, AsksForHelp, forbids_errors};
 ghost use Rattle.filser.specs.Common.{IsOnNew, Asks, InRange, IsHandled, IsRequestRun, WasRun};
-ghost use Rattle.filser.specs.Common.{AreReportsSpared, HoldsOfImages, SparesErrors, acts_of, status_code};
+ghost use Rattle.filser.specs.Common.{AreReportsSpared, HoldsOfNamed, SparesErrors, SparesOutput, acts_of};
+ghost use Rattle.filser.specs.Common.{sources_named, status_code};
 ghost use Rattle.filser.specs.declared.request.Request.{Request as Asked};
 ghost use Rattle.filser.specs.declared.error.WrongArgument.{WrongArgument as WrongArguments};
 ghost use Rattle.filser.specs.declared.error.RequestError.TheVariants.{BadArgument, NoMemory, Usage};
@@ -49,8 +50,9 @@ use std::io::{self, Read, Write};
 /// salvage has lines for, in folders below the one that it names; it reads and makes no others. All of these calls are
 /// on the record of the permit that it hands back.
 ///
-/// If there are several faults, the first of these is met: the arguments, a new file that exists already, a file that
-/// can't be opened or made or that another process has, its size, the start, the input.
+/// If there are several faults, the first of these is met: the arguments, a stream that leads to a file to import, a
+/// new file that exists already, a file that can't be opened or made or that another process has, its size, the start,
+/// the input.
 pub fn work<H: Host, R: Read, W: Write, E: Write>(
     host: &H,
     alloc: Global,
@@ -210,7 +212,8 @@ fn answer<H: Host, R: Read, W: Write, E: Write>(
     }
 }
 
-/// Serves the request, unless that would print into the image, or there is nothing to read from or to print to.
+/// Serves the request, unless that would print into the image or a file to import, or there is nothing to read from or
+/// to print to.
 fn start<H: Host, R: Read, W: Write, E: Write>(
     host: &H,
     alloc: Global,
@@ -235,7 +238,45 @@ fn start<H: Host, R: Read, W: Write, E: Write>(
     }) asked.now (R.remaining streams.old.reader) (R.remaining streams.new.reader) (W.contents streams.old.writer)
         (W.contents streams.new.writer) result.status }
     ensures spared { (E.contents streams.new.errors ≡ E.contents streams.old.errors)
-        ⊎ HoldsOfImages asked.now (SparesErrors (H.facts host.now)) }
+        ⊎ HoldsOfNamed asked.now (SparesErrors (H.facts host.now)) }
+{
+    let free = FreeStreams::of_names(host, asked.sources());
+    if !free.output || !free.errors {
+        report_source(host, asked, free, &mut streams.errors);
+        return Outcome::without_disks(Status::Fault, leaves);
+    }
+    start_apart(host, alloc, asked, missing, telling, leaves, streams)
+}
+
+/// Serves a request with streams that lead to no file to import, unless that would print into the image, or there is
+/// nothing to read from or to print to.
+fn start_apart<H: Host, R: Read, W: Write, E: Write>(
+    host: &H,
+    alloc: Global,
+    asked: &Request<'_>,
+    missing: &MissingStreams,
+    telling: Telling,
+    leaves: Leaves,
+    streams: &mut Streams<R, W, E>,
+) -> Outcome
+    requires range { InRange asked.now }
+    requires output { All (SparesOutput (H.facts host.now)) (sources_named asked.now) }
+    requires errors { All (SparesErrors (H.facts host.now)) (sources_named asked.now) }
+    ensures serving { result.status ≢ BadArguments }
+    ensures ran { IsHandled (H.facts host.now) (⟦<Run as Seen>⟧.views) missing.now (record {
+      opening = leaves.image;
+      making = leaves.new;
+      u = assumed_in leaves.image.supposed;
+      v = assumed_in leaves.new.supposed;
+      before = acts_of leaves.files;
+      image = result.image;
+      new = result.new;
+      memory = result.memory;
+      after = acts_of result.files;
+    }) asked.now (R.remaining streams.old.reader) (R.remaining streams.new.reader) (W.contents streams.old.writer)
+        (W.contents streams.new.writer) result.status }
+    ensures spared { (E.contents streams.new.errors ≡ E.contents streams.old.errors)
+        ⊎ HoldsOfNamed asked.now (SparesErrors (H.facts host.now)) }
 {
     if let Some(led) = led_image(host, asked) {
         let Streams { writer, errors, .. } = streams;
@@ -247,6 +288,27 @@ fn start<H: Host, R: Read, W: Write, E: Write>(
         return Outcome::without_disks(Status::Fault, leaves);
     }
     perform(host, alloc, asked, telling, leaves, streams)
+}
+
+/// Reports that the standard output leads to a file to import, unless that would land in a file that the request names.
+fn report_source<H: Host, E: Write>(
+    host: &H,
+    asked: &Request<'_>,
+    free: FreeStreams,
+    errors: &mut E,
+)
+    requires { IsTrue free.errors → All (SparesErrors (H.facts host.now)) (sources_named asked.now) }
+    ensures { (E.contents errors.new ≡ E.contents errors.old)
+        ⊎ HoldsOfNamed asked.now (SparesErrors (H.facts host.now)) }
+{
+    let led = led_image(host, asked);
+    if free.errors && led.is_none_or(|led| !led.stream.forbids_errors()) {
+        report(
+            errors,
+            "a file to import",
+            &"the standard output of this run",
+        );
+    }
 }
 
 /// Reports that there is nothing to read from or to print to.

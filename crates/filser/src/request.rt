@@ -1,6 +1,6 @@
 //! Requests: what the words of a command line ask for.
-ghost use Rattle.std.specs.Prelude.{◌≡◌, option_map};
-ghost use Rattle.filser.specs.Common.{image_named, new_named};
+ghost use Rattle.std.specs.Prelude.{◌≡◌, map, option_map};
+ghost use Rattle.filser.specs.Common.{image_named, new_named, sources_named};
 
 use crate::{ExportTask, ImportTask, SalvageTask, Task};
 use imagefile::Form;
@@ -48,6 +48,16 @@ impl<'a> Request<'a> {
         match self {
             Request::Convert(_, new, _) => Some(*new),
             _ => None,
+        }
+    }
+
+    /// Returns the paths of the files to import that the request names.
+    pub fn sources(&self) -> &[&'a str]
+        ensures { map (λ path. path.now) result.now ≡ sources_named self.now }
+    {
+        match self {
+            Request::Import(_, _, task) => &task.paths,
+            _ => &[],
         }
     }
 }

@@ -1,7 +1,7 @@
 #!/usr/bin/env python3
 """Tests whole collections in and out: import, export, and put with --new.
 
-usage: tests/collections.py PROGRAM
+usage: tests/imported_files.py PROGRAM
 
 Prints a line for each failed check, and one line at the end.
 """
@@ -49,7 +49,7 @@ class Tries:
         self.count += 1
         if not is_so:
             self.failed += 1
-            print(f"collections: {name}")
+            print(f"imported_files: {name}")
 
     def expect(self, words, given, wanted, status):
         """Checks that a run prints this, and has this status. Returns what it reports on the standard error."""
@@ -229,7 +229,35 @@ def rooms(tries):
     owners = [f"[10,{n:o}]" for n in range(1, 49)]
     script = [line for owner in owners for line in (f"LOGIN {owner}", f"MAKDIR {owner}")]
     tries.run(["run", "FULL.IMG"], lines(*script))
-    tries.expect(["import", "FULL.IMG", "20,20", "a/foo.txt"], b"", lines("20,20: ?No room"), 1)
+    tries.expect(["import", "FULL.IMG", "20,20", "a/foo.txt"], b"", lines("a/foo.txt: ?No room"), 1)
+
+
+def directories(tries):
+    """Tests that a directory is made with the first file that is put, and not before."""
+    tries.image("DIR.IMG", 64)
+    tries.expect(["import", "DIR.IMG", "10,20", "odd/none", "long/---"], b"",
+                 lines("odd/none: ?Can't read", "long/---: ?Bad name"), 1)
+    tries.expect(["list", "DIR.IMG", "10,20"], b"", b"?No such directory\n", 1)
+    tries.expect(["import", "DIR.IMG", "10,20", "odd/none", "a/foo.txt"], b"",
+                 lines("odd/none: ?Can't read", "a/foo.txt: FOO.TXT OK"), 1)
+
+
+def streams(tries):
+    """Tests that nothing is printed or reported into a file to import: such a run is turned away."""
+    tries.image("S.IMG", 64)
+    tries.image("S2.IMG", 64)
+    before = tries.read("S.IMG"), tries.read("S2.IMG")
+    words = [tries.program, "import", "S.IMG", "10,20", "a/foo.txt", "S2.IMG"]
+    reason = b"filser: a file to import: the standard output of this run\n"
+    for led, told in ((("stdout",), reason), (("stderr",), None), (("stdout", "stderr"), None)):
+        with open(tries.path("S2.IMG"), "ab") as source:
+            given = {"stdout": subprocess.PIPE, "stderr": subprocess.PIPE, **{name: source for name in led}}
+            ran = subprocess.run(words, cwd=tries.folder, stdin=subprocess.DEVNULL, **given)
+        tries.so(f"{led} at a file to import: {ran}", ran.returncode == 4 and not ran.stdout and ran.stderr == told)
+        tries.so(f"{led} at a file to import: no byte changes", before == (tries.read("S.IMG"), tries.read("S2.IMG")))
+    with open(tries.path("a/foo.txt"), "rb") as source:
+        ran = subprocess.run([*words[:4], "a/foo.txt"], cwd=tries.folder, stdin=source, capture_output=True)
+    tries.so("a file to import may be the input", ran.stdout == lines("a/foo.txt: FOO.TXT OK"))
 
 
 def arguments(tries):
@@ -290,13 +318,14 @@ def kills(tries, paths, wanted):
 
 def main():
     if len(sys.argv) != 2 or not os.access(sys.argv[1], os.X_OK):
-        print("usage: tests/collections.py PROGRAM", file=sys.stderr)
+        print("usage: tests/imported_files.py PROGRAM", file=sys.stderr)
         return 2
     with tempfile.TemporaryDirectory() as folder:
         tries = Tries(os.path.abspath(sys.argv[1]), folder)
-        for part in (four_commands, names, encodings, dates, odd_names, rooms, arguments, thousand):
+        for part in (four_commands, names, encodings, dates, odd_names, rooms, directories, streams, arguments,
+                     thousand):
             part(tries)
-    print(f"collections: {tries.count - tries.failed} as they should be, {tries.failed} not")
+    print(f"imported_files: {tries.count - tries.failed} as they should be, {tries.failed} not")
     return 1 if tries.failed else 0
 
 
