@@ -1,5 +1,5 @@
 -- The definitions that proofs and other crates cite, passed on from one place. Declares nothing.
-pub use Rattle.filser.specs.Hosts.{HostFacts, IsKept, IsMadeLike, IsOpened, IsOwn}
+pub use Rattle.filser.specs.Hosts.{HostFacts, IsKept, IsMadeLike, IsMadePlain, IsOpened, IsOwn}
 pub use Rattle.filser.specs.Requests.{Asks, AsksFor, HasDate, HasForm, HasLayout, HasNumber, HasOwned, HasOwner}
 pub use Rattle.filser.specs.Requests.{HasText, InRange, IsAsked, IsAskedSearch, IsAt, IsDateNumber, IsEncoding}
 pub use Rattle.filser.specs.Requests.{IsExisting, IsExportTask, IsFaultIn, IsImportTask, IsListedPlace, IsMistaken}

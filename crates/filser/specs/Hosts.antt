@@ -16,6 +16,8 @@ pub record HostFacts (F : Type 0) : Type 1 where
   pub created : List ℕ → Result F Error → Type 0
   -- a file was made to have the permission bits of the file at a path
   pub bits_of : F → List ℕ → Type 0
+  -- a file was made to have those of any new file
+  pub own_bits : F → Type 0
   -- a file was to be filled with this many blocks of zeros, in this form
   pub filled : F → Form → ℕ → Result (Unit {0}) Error → Type 0
   -- a file was to be locked for this process
@@ -49,6 +51,11 @@ pub record IsOpened {F : Type 0} (facts : HostFacts F) (path : List ℕ) (access
 abbrev pub IsMadeLike : {F : Type 0} → HostFacts F → List ℕ → List ℕ → Type 0
 IsMadeLike {F} facts path other = ((error : Error) × facts.created path (Err error))
     ⊎ ((file : F) × facts.created path (Ok file) × facts.bits_of file other)
+
+-- A file was made at this path, to have the permission bits of any new file; or none could be made.
+abbrev pub IsMadePlain : {F : Type 0} → HostFacts F → List ℕ → Type 0
+IsMadePlain {F} facts path = ((error : Error) × facts.created path (Err error))
+    ⊎ ((file : F) × facts.created path (Ok file) × facts.own_bits file)
 
 -- A file was made at this path, where nothing was, and filled with this many blocks of zeros in this form; and this is
 -- supposed of it.

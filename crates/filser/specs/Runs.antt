@@ -8,7 +8,7 @@ use Rattle.filser.specs.Denials.{IsExplained}
 use Rattle.filser.specs.Endings.{AsksForHelp, EndsUnasked}
 use Rattle.filser.specs.ExportRuns.{IsOnExported}
 use Rattle.filser.specs.SalvageRuns.{IsOnSalvaged}
-use Rattle.filser.specs.Hosts.{HostFacts, IsMadeLike}
+use Rattle.filser.specs.Hosts.{HostFacts, IsMadeLike, IsMadePlain}
 use Rattle.filser.specs.Images.{IsOnBoth, IsOnFresh, IsOnImage, IsOnNew}
 use Rattle.filser.specs.ImportRuns.{IsOnImported}
 use Rattle.filser.specs.Migrations.{IsOnMigrated}
@@ -61,9 +61,9 @@ IsRequestRun facts views things Fresh source left sink full status =
     IsOnFresh views source left sink full things.memory status × (things.image ≡ Unasked things.opening)
     × (things.new ≡ Unasked things.making) × (things.after ≡ things.before)
 IsRequestRun facts views things (Init path blocks form layout) source left sink full status =
-    (left ≡ source) × IsOnNew facts views path.now form blocks layout things.v sink full things.new
-    status
-    × (things.image ≡ Unasked things.opening) × (things.memory ≡ Nothing) × (things.after ≡ things.before)
+    (left ≡ source) × IsOnNew facts views path.now form blocks layout things.v sink full things.new status
+    × (things.image ≡ Unasked things.opening) × (things.memory ≡ Nothing) × IsMadePlain facts path.now
+    × (things.after ≡ things.before)
 IsRequestRun facts views things (Work path form task) source left sink full status =
     IsOnImage facts views path.now form things.u task source left sink full things.image status
     × (things.new ≡ Unasked things.making) × (things.memory ≡ Nothing) × (things.after ≡ things.before)

@@ -221,7 +221,7 @@ fn new_target<H: Host, E: Write>(
         Err(fault) => return Err((fault, Disks::None)),
     };
     let form = conversion.form.other();
-    match zeros_in(host, made.file, new, form, blocks, supposed) {
+    match zeros_in(host, made.file, new, form, blocks, made.leave, supposed) {
         Ok(disk) => Ok((disk, made.right)),
         Err(denied) => {
             report_incomplete(new, errors);

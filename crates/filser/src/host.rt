@@ -1,5 +1,5 @@
 //! The files of the host: the calls that the program makes on them, and the system that serves these.
-ghost use Rattle.std.specs.Prelude.{◌≡◌, ◌∷◌, Ok, Err, IfOk, IfErr, IfSome, is_ok, pos, ◌<ℤ◌};
+ghost use Rattle.std.specs.Prelude.{◌≡◌, ◌∷◌, Ok, Err, IfOk, IfErr, IfNone, IfSome, is_ok, pos, ◌<ℤ◌};
 ghost use Rattle.collection.specs.Common.{MadeFile, MadeFolder, ReadFile, day_of, read_from};
 ghost use Rattle.imagefile.specs.Common.{BeganAs, BeganCut, HasTooManyBlocks, IsImageSize, assumed_in, size_of};
 ghost use Rattle.imagefile.specs.declared.size.ImageError.TheVariants.{BadSize, Device};
@@ -53,6 +53,7 @@ pub trait Host {
 
     /// Makes a file at a path, if nothing is there, and returns it with what is supposed of it and the right to remove
     /// it. It gets the permission bits of the file at `like`, if one is named; until then only its owner may open it.
+    /// Otherwise it gets those of any new file.
     ///
     /// # Errors
     ///
@@ -67,17 +68,26 @@ pub trait Host {
             × (assumed_in made.1 ≡ assumed_in leave.supposed)) }
         ensures bits { IfOk result
             (λ made. IfSome like.entry (λ other. (facts self.now).bits_of made.0.file other.now)) }
+        ensures plain { IfOk result (λ made. IfNone like.entry ((facts self.now).own_bits made.0.file)) }
         ensures refused { IfErr result (λ error. (facts self.now).created path.now (Err error)) };
 
-    /// Fills a file that was made with `blocks` blocks of zeros, in this form, and waits until these and the name of
-    /// the file are on the device. So a file system that has no room for an image refuses it now, not when somebody's
-    /// file is written.
+    /// Fills a file that was made, and is locked, with `blocks` blocks of zeros, in this form, and waits until these
+    /// and the name of the file are on the device. So a file system that has no room for an image refuses it now, not
+    /// when somebody's file is written.
     ///
     /// # Errors
     ///
-    /// The system's.
-    fn fill(&self, path: &str, file: &Self::File, form: Form, blocks: u32) -> io::Result<()>
-        requires { (facts self.now).created path.now (Ok file.now) }
+    /// The system's. The leave is used up.
+    fn fill(
+        &self,
+        path: &str,
+        file: &Self::File,
+        form: Form,
+        blocks: u32,
+        leave: FillingLeave,
+    ) -> io::Result<()>
+        requires created { (facts self.now).created path.now (Ok file.now) }
+        requires locked { (facts self.now).locked file.now (Ok tt) }
         ensures { (facts self.now).filled file.now form blocks result };
 
     /// Locks a file for this process, until the process ends. It never waits, and retries an interrupted call.
@@ -309,11 +319,18 @@ impl FilesPermit {
     }
 }
 
-/// A file that was made, and the right to remove it.
+/// A file that was made, the leave to fill it, and the right to remove it.
 #[derive(Drop)]
 pub struct NewFile<F: Drop> {
     pub(crate) file: F,
+    pub(crate) leave: FillingLeave,
     pub(crate) right: RemovalRight,
+}
+
+/// The leave to fill a file that was made. Whoever has made a file has it once.
+#[derive(Drop)]
+pub struct FillingLeave {
+    _once: (),
 }
 
 /// The right to remove a file that was made. Whoever has made a file has it once.
@@ -446,6 +463,7 @@ impl<F: Files<File = File>> Host for SystemHost<'_, F> {
       opened = λ path access result. Unit {0};
       created = λ path result. Unit {0};
       bits_of = λ file path. Unit {0};
+      own_bits = λ file. Unit {0};
       filled = λ file form blocks result. Unit {0};
       locked = λ file result. Unit {0};
       removed = λ path result. Unit {0};
@@ -477,10 +495,22 @@ impl<F: Files<File = File>> Host for SystemHost<'_, F> {
         let right = RemovalRight {
             made: file_id(file.metadata()),
         };
-        Ok((NewFile { file, right }, leave.supposed))
+        let new = NewFile {
+            file,
+            leave: FillingLeave { _once: () },
+            right,
+        };
+        Ok((new, leave.supposed))
     }
 
-    fn fill(&self, path: &str, file: &File, form: Form, blocks: u32) -> io::Result<()> {
+    fn fill(
+        &self,
+        path: &str,
+        file: &File,
+        form: Form,
+        blocks: u32,
+        _leave: FillingLeave,
+    ) -> io::Result<()> {
         write_zeros(file, form, blocks)?;
         sync_folder(self.files, path)
     }

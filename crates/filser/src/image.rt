@@ -1,12 +1,13 @@
 //! Images: opening an existing one, and making a new one.
-ghost use Rattle.std.specs.Prelude.{◌≡◌, Ok, Err, None, IfOk, IfErr, IfSome, OnOk, option_map, pos, ◌<ℤ◌, ℕ};
+ghost use Rattle.std.specs.Prelude.{◌≡◌, Ok, Err, None, IfOk, IfErr, IfNone, IfSome, OnOk, option_map, pos, ◌<ℤ◌, ℕ};
 ghost use Rattle.blockdisk.specs.Common.{SameDisk};
 ghost use Rattle.imagefile.specs.Common.{BeganAs, BeganCut, failure_of as reason_of, assumed_in, Unseen};
 ghost use Rattle.imagefile.specs.declared.form.Form.{Form as Forms};
 ghost use Rattle.imagefile.specs.declared.size.ImageError.TheVariants.{BadSize, Device as NoLength};
 ghost use Rattle.volume.specs.declared.error.VolumeError.TheVariants.{NotVolume};
 ghost use Rattle.filser.specs.Common.{IsNoImage, IsUnfilled, IsUnfit, IsUnlocked, IsUnmade, IsUnopened, of_host};
-ghost use Rattle.filser.specs.Common.{IsKept, IsOpened, IsOwn, HasNoDisk, IsDenied, IsEmptyVolume, IsNewDisk};
+ghost use Rattle.filser.specs.Common.{IsKept, IsMadePlain, IsOpened, IsOwn, HasNoDisk, IsDenied, IsEmptyVolume};
+ghost use Rattle.filser.specs.Common.{IsNewDisk};
 ghost use Rattle.filser.specs.Common.{IsCleared, IsDeniedCut, IsDeviceFault, IsNoCutImage, IsNoNewDisk, IsNotMade};
 ghost use Rattle.filser.specs.declared.host.Access.TheVariants.{Read};
 ghost use Rattle.filser.specs.declared.refusal.Refusal.TheVariants.{Start};
@@ -16,8 +17,8 @@ ghost use Rattle.filser.specs.declared.disks.Disks.TheVariants as disks;
 use crate::fault::{report_fault, report_stale_cache};
 use crate::streams::{is_stream, stream_of};
 use crate::{
-    Access, Disks, Host, HostFault, Image, ImageDisks, ImageFault, MakingLeave, NewDisks, NewFile,
-    OpeningLeave, Refusal, RemovalRight, Run, Seen,
+    Access, Disks, FillingLeave, Host, HostFault, Image, ImageDisks, ImageFault, MakingLeave,
+    NewDisks, NewFile, OpeningLeave, Refusal, RemovalRight, Run, Seen,
 };
 use blockcache::Cached;
 use blockdisk::{Disk, NoMemory};
@@ -341,6 +342,7 @@ pub(crate) fn new_file<H: Host>(
     ensures made { IfOk result (λ made. (H.facts host.now).created path.now (Ok made.0.file)
         × (assumed_in made.1 ≡ assumed_in leave.supposed)) }
     ensures bits { IfOk result (λ made. IfSome like.entry (λ other. (H.facts host.now).bits_of made.0.file other.now)) }
+    ensures plain { IfOk result (λ made. IfNone like.entry ((H.facts host.now).own_bits made.0.file)) }
     ensures refused { IfErr result (IsUnmade (H.facts host.now) path.now) }
 {
     match host.create(path, like, leave) {
@@ -364,6 +366,7 @@ fn filled<H: Host>(
     path: &str,
     form: Form,
     blocks: u32,
+    leave: FillingLeave,
 ) -> Result<H::File, ImageFault>
     requires { (H.facts host.now).created path.now (Ok file) }
     ensures filled { IfOk result (λ kept. (kept ≡ file) × IsOwn (H.facts host.now) kept
@@ -371,7 +374,7 @@ fn filled<H: Host>(
     ensures refused { IfErr result (λ fault. IsUnfilled (H.facts host.now) path.now form blocks fault) }
 {
     let file = own(host, file)?;
-    match host.fill(path, &file, form, blocks) {
+    match host.fill(path, &file, form, blocks, leave) {
         Ok(()) => Ok(file),
         Err(error) => Err(ImageFault::from(HostFault::System(error))),
     }
@@ -410,6 +413,7 @@ pub(crate) fn zeros_in<H: Host>(
     path: &str,
     form: Form,
     blocks: u32,
+    leave: FillingLeave,
     supposed: AssumedImage,
 ) -> Result<ImageDisk<HostFile>, NotMade>
     requires { (H.facts host.now).created path.now (Ok file) }
@@ -421,7 +425,7 @@ pub(crate) fn zeros_in<H: Host>(
     ensures denied { IfErr result (λ denied. IsNotMade (H.facts host.now) (⟦<Run as Seen>⟧.views) path.now form
         blocks (assumed_in supposed) denied.0 denied.1) }
 {
-    let file = match filled(host, file, path, form, blocks) {
+    let file = match filled(host, file, path, form, blocks, leave) {
         Ok(file) => file,
         Err(fault) => return Err((fault, Disks::None)),
     };
@@ -468,6 +472,7 @@ fn volume_in<H: Host>(
     file: H::File,
     path: &str,
     volume: &NewVolume,
+    leave: FillingLeave,
     supposed: AssumedImage,
 ) -> Result<ImageDisk<HostFile>, NotMade>
     requires { (H.facts host.now).created path.now (Ok file) }
@@ -477,7 +482,8 @@ fn volume_in<H: Host>(
     ensures denied { IfErr result (λ denied. IsNotMade (H.facts host.now) (⟦<Run as Seen>⟧.views) path.now
         volume.now.form volume.now.blocks (assumed_in supposed) denied.0 denied.1) }
 {
-    let disk = zeros_in(host, file, path, volume.form, volume.blocks, supposed)?;
+    let (form, blocks) = (volume.form, volume.blocks);
+    let disk = zeros_in(host, file, path, form, blocks, leave, supposed)?;
     volume_on(disk, volume.layout)
 }
 
@@ -501,12 +507,13 @@ pub(crate) fn make_image<H: Host>(
     ensures denied { IfErr result (λ denied. IsNotMade (H.facts host.now) (⟦<Run as Seen>⟧.views) path.now
         volume.now.form volume.now.blocks (assumed_in leave.supposed) denied.0 denied.1) }
     ensures cleared { IfErr result (λ denied. IsCleared (H.facts host.now) path.now denied.0) }
+    ensures bits { IsMadePlain (H.facts host.now) path.now }
 {
     let (made, supposed) = match new_file(host, path, None, leave) {
         Ok(made) => made,
         Err(fault) => return Err((fault, Disks::None)),
     };
-    match volume_in(host, made.file, path, volume, supposed) {
+    match volume_in(host, made.file, path, volume, made.leave, supposed) {
         Ok(disk) => Ok((disk, made.right)),
         Err(denied) => {
             let _ = host.remove(path, made.right);

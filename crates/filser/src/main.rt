@@ -73,7 +73,8 @@ pub use error::{RequestError, WrongArgument};
 pub use escaped::Escaped;
 pub use fault::{HostFault, ImageFault};
 pub use host::{
-    Access, FilesPermit, Host, MakingLeave, NewFile, OpeningLeave, RemovalRight, SystemHost,
+    Access, FilesPermit, FillingLeave, Host, MakingLeave, NewFile, OpeningLeave, RemovalRight,
+    SystemHost,
 };
 pub use identity::FileId;
 pub use lines::LineReader;

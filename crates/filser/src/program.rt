@@ -7,7 +7,7 @@ ghost use Rattle.clap.specs.declared.error.Error.{Error as Errors};
 ghost use Rattle.arguments.specs.CommandLine.{command_line};
 ghost use Rattle.imagefile.specs.Common.{assumed_in};
 ghost use Rattle.filser.specs.Common.{IsExplained, AreMistaken, AskToSee, EndsUnasked, AsksForHelp, forbids_errors};
-ghost use Rattle.filser.specs.Common.{IsOnNew, Asks, InRange, IsHandled, IsRequestRun, WasRun};
+ghost use Rattle.filser.specs.Common.{IsMadePlain, IsOnNew, Asks, InRange, IsHandled, IsRequestRun, WasRun};
 ghost use Rattle.filser.specs.Common.{AreReportsSpared, HoldsOfNamed, SparesErrors, SparesOutput, acts_of};
 ghost use Rattle.filser.specs.Common.{sources_named, status_code};
 ghost use Rattle.filser.specs.declared.request.Request.{Request as Asked};
@@ -426,6 +426,7 @@ fn init_image<H: Host, W: Write, E: Write>(
     ensures ran { IsOnNew (H.facts host.now) (⟦<Run as Seen>⟧.views) path.now volume.now.form volume.now.blocks
         volume.now.layout (assumed_in leave.supposed) (W.contents writer.old) (W.contents writer.new)
         result.1 result.0 }
+    ensures bits { IsMadePlain (H.facts host.now) path.now }
 {
     match make_image(host, path, volume, leave) {
         Ok((disk, right)) => (Status::Done, Disks::Made(disk, right)),

@@ -7,7 +7,7 @@ returns-in-Fresh-clause-ran g c = rw (c.in-Fresh.is, c.of_memory.ensures) (c.ser
 pub returns-in-Init-clause-ran : goal.returns-in-Init-clause-ran
 returns-in-Init-clause-ran g c =
     rw (c.in-Init.is, c.of_new.ensures)
-    (refl, rw c.new-volume.ensures at c.init_image-made.ensures.ran, refl, refl, refl)
+    (refl, rw c.new-volume.ensures at c.init_image-made.ensures.ran, refl, refl, c.init_image-made.ensures.bits, refl)
 
 pub returns-in-Work-clause-ran : goal.returns-in-Work-clause-ran
 returns-in-Work-clause-ran g c =
