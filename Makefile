@@ -1,7 +1,9 @@
 # filser: see README.md. The toolchain's command `rt` has to be on the PATH.
 
 PREFIX ?= /usr/local
-PYTHON_FOLDER ?= $(PREFIX)/lib/python3/dist-packages
+# Where Python looks for packages below PREFIX; if it looks nowhere there, what /usr has.
+PYTHON_FOLDER ?= $(shell python3 -c 'import sys; at = sys.argv[1]; print(next((it for it in sys.path \
+	if it.startswith(at + "/") and it.endswith("-packages")), at + "/lib/python3/dist-packages"))' $(PREFIX))
 
 .PHONY: help try quick build run test program-tests wrong-bodies install install-clients
 
