@@ -28,6 +28,7 @@ cd "$(dirname "$0")"
 ./model_rows.py
 ./against_model.py "$program"
 ./both_forms.py "$program"
+./format.py "$program"
 ./low_memory.py "$program"
 ./refusals_and_faults.py "$program"
 ./untouched_images.py "$program"
