@@ -72,7 +72,7 @@ Example:
 /// The text below the arguments of `export` in its help.
 const EXPORT_NOTES: &str = "\
 Without --text, --bytes or --words each file comes out so that import brings
-back its words.
+back its words, with --bytes or --words if its line says bytes or words.
 
 Example:
   filser export DISK.IMG backup 10,20";
