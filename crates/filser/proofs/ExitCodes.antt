@@ -1,5 +1,6 @@
 -- The exit status of a run, and what is printed if the words make no request.
-use Rattle.std.proofs.Common.{◌≡◌, ◌≢◌, ◌⊎◌, inl, inr, ℕ, List, Option, Result, Ok, Err, MatchResult, IfErr, IsSome}
+use Rattle.std.proofs.Common.{◌≡◌, ◌≢◌, ◌⊎◌, inl, inr, ℕ, List, Option, Result, Ok, Err, IfOk, IsSome}
+use Rattle.std.proofs.Common.{Bool, MatchOption, true}
 use Rattle.std.proofs.Common.{refl, sym, ◌∙◌, ap, subst}
 use Rattle.std.specs.Prelude.{IsErrOf, None, Some}
 use Rattle.std.specs.Option.{option_or}
@@ -8,6 +9,7 @@ use Rattle.clap.specs.Words.{Kinds, Row, Text, kind_of}
 use Rattle.clap.specs.declared.error.Error.{Error}
 use Rattle.filser.specs.Common.{AsksForHelp, IsMistaken, IsUsage, PrintsOnly, fault_of_flush, status_code}
 use Rattle.filser.specs.declared.output.OutputFault.{OutputFault}
+use Rattle.filser.specs.declared.output.OutputFault.TheVariants.{System}
 use Rattle.filser.specs.declared.request.Request.{Request}
 use Rattle.filser.specs.declared.error.RequestError.{RequestError}
 use Rattle.filser.specs.declared.error.WrongArgument.{WrongArgument}
@@ -15,26 +17,28 @@ use Rattle.filser.specs.declared.error.RequestError.TheVariants.{Usage, BadArgum
 use Rattle.filser.specs.declared.status.Status.{Status}
 use Rattle.filser.specs.declared.status.Status.TheVariants.{Done, Refused, BadArguments, BadImage, Fault}
 
--- the status's own number, or 4
-pub code_is : {V E : Type 0} (flushed : Result V E) (status : Status) (code : ℕ)
-    → MatchResult flushed (λ v. code ≡ status_code status) (λ e. code ≡ 4)
-    → (code ≡ status_code status) ⊎ (code ≡ 4)
-code_is (Ok v) status code h = inl h
-code_is (Err e) status code h = inr h
-
--- a flush that failed has shown a fault
-pub flush_failed : {T : Type 0} (flushed : Result T IoError) (old new : Option OutputFault)
-    → new ≡ option_or old (fault_of_flush flushed) → IfErr flushed (λ e. IsSome new)
-flush_failed (Ok v) old new is = tt
-flush_failed (Err e) None new is = subst IsSome (sym is) refl
-flush_failed (Err e) (Some fault) new is = subst IsSome (sym is) refl
+-- the status of a run is that of what was done, or 4
+pub code_is : {F : Type 0} (fault : Option F) (status : Status) (code : ℕ)
+    → MatchOption fault (code ≡ status_code status) (λ why. code ≡ 4) → (code ≡ status_code status) ⊎ (code ≡ 4)
+code_is None status code h = inl h
+code_is (Some why) status code h = inr h
 
 -- and 4 only after a fault of the output
-pub code_ran : {V E F : Type 0} (flushed : Result V E) (status : Status) (code : ℕ) (fault : Option F)
-    → MatchResult flushed (λ v. code ≡ status_code status) (λ e. code ≡ 4) → IfErr flushed (λ e. IsSome fault)
+pub code_ran : {F : Type 0} (fault : Option F) (status : Status) (code : ℕ)
+    → MatchOption fault (code ≡ status_code status) (λ why. code ≡ 4)
     → (code ≡ status_code status) ⊎ ((code ≡ 4) × IsSome fault)
-code_ran (Ok v) status code fault h failed = inl h
-code_ran (Err e) status code fault h failed = inr (h, failed)
+code_ran None status code h = inl h
+code_ran (Some why) status code h = inr (h, refl)
+
+-- and 4 after each fault, and if the output wasn't flushed
+pub code_written : {T : Type 0} (flushed : Result T IoError) (old new : Option OutputFault) (is_flushed : Bool)
+    (status : Status) (code : ℕ) → MatchOption new (code ≡ status_code status) (λ why. code ≡ 4)
+    → new ≡ option_or old (fault_of_flush flushed) → IfOk flushed (λ v. is_flushed ≡ true)
+    → (code ≡ 4) ⊎ ((new ≡ None) × (is_flushed ≡ true))
+code_written flushed old (Some why) is_flushed status code h is made = inl h
+code_written (Ok v) old None is_flushed status code h is made = inr (refl, made)
+code_written (Err e) None None is_flushed status code h is made = let wrong : None ≡ Some (System e) = is in cc
+code_written (Err e) (Some fault) None is_flushed status code h is made = let wrong : None ≡ Some fault = is in cc
 
 pub code_mistaken : (status : Status) (code : ℕ) → (code ≡ status_code status) ⊎ (code ≡ 4)
     → (status ≡ BadArguments) ⊎ (status ≡ Fault) → (code ≡ 2) ⊎ (code ≡ 4)

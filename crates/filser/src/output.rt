@@ -1,5 +1,5 @@
 //! A writer that remembers its first fault.
-ghost use Rattle.std.specs.Prelude.{◌≡◌, None, Some, length};
+ghost use Rattle.std.specs.Prelude.{◌≡◌, IfOk, None, Some, false, length, true};
 ghost use Rattle.std.specs.Option.{option_or};
 ghost use Rattle.std.specs.Io.{WritesAtMost};
 ghost use Rattle.std.specs.Io.KnownBytes.{Keeps, WriteAppends};
@@ -24,6 +24,8 @@ pub enum OutputFault {
 pub struct OutputWriter<W: Write> {
     writer: W,
     fault: Option<OutputFault>,
+    /// Whether all that it took was flushed.
+    is_flushed: bool,
 }
 
 impl<W: Write> OutputWriter<W> {
@@ -34,6 +36,7 @@ impl<W: Write> OutputWriter<W> {
         OutputWriter {
             writer,
             fault: None,
+            is_flushed: true,
         }
     }
 
@@ -47,6 +50,7 @@ impl<W: Write> OutputWriter<W> {
     /// Records a fault, unless there was one before.
     fn keep(&mut self, fault: OutputFault)
         ensures writer { self.new.writer ≡ self.old.writer }
+        ensures flushed { self.new.is_flushed ≡ self.old.is_flushed }
         ensures kept { self.new.fault ≡ option_or self.old.fault (Some fault) }
     {
         self.fault = self.fault.or(Some(fault));
@@ -60,7 +64,9 @@ impl<W: Write> Write for OutputWriter<W> {
         ensures bound { WritesAtMost result buf.now }
         ensures bytes { WriteAppends (W.contents self.old.writer) (W.contents self.new.writer) result buf.now }
         ensures first { self.new.fault ≡ option_or self.old.fault (fault_of_write (length buf.now) result) }
+        ensures held { self.new.is_flushed ≡ false }
     {
+        self.is_flushed = false;
         let count = self.writer.write(buf);
         match count {
             Ok(0) if !buf.is_empty() => self.keep(OutputFault::NoByte),
@@ -73,10 +79,12 @@ impl<W: Write> Write for OutputWriter<W> {
     fn flush(&mut self) -> io::Result<()>
         ensures bytes { Keeps (W.contents self.old.writer) (W.contents self.new.writer) }
         ensures first { self.new.fault ≡ option_or self.old.fault (fault_of_flush result) }
+        ensures flushed { IfOk result (λ unit. self.new.is_flushed ≡ true) }
     {
         let flushed = self.writer.flush();
-        if let Err(error) = flushed {
-            self.keep(OutputFault::System(error));
+        match flushed {
+            Ok(()) => self.is_flushed = true,
+            Err(error) => self.keep(OutputFault::System(error)),
         }
         flushed
     }

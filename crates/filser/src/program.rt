@@ -1,6 +1,6 @@
 //! A whole run of the program, by the words of its command line.
 ghost use Rattle.std.specs.Prelude.{◌≡◌, ◌≢◌, ◌⊎◌, ◌≤◌, ℕ, List, [], map, true, Option, IfSome};
-ghost use Rattle.std.specs.Prelude.{MatchResult, IsFalse, IsSome, IsTrue, All, drop};
+ghost use Rattle.std.specs.Prelude.{MatchOption, IsFalse, IsSome, IsTrue, None, All, drop};
 ghost use Rattle.std.specs.Io.KnownBytes.{Keeps};
 ghost use Rattle.clap.specs.Words.{fault_of, kind_of, subcommand_of};
 ghost use Rattle.clap.specs.declared.error.Error.{Error as Errors};
@@ -28,7 +28,7 @@ use crate::led_image::led_image;
 use crate::lines::LineReader;
 use crate::migrate_image::migrate_image;
 use crate::outcome::Outcome;
-use crate::output::OutputWriter;
+use crate::output::{OutputFault, OutputWriter};
 use crate::salvage_image::salvage_image;
 use crate::serve_image::{say, serve_fresh, serve_image};
 use crate::streams::Streams;
@@ -87,13 +87,17 @@ pub fn work<H: Host, R: Read, W: Write, E: Write>(
         (subcommand_of command_line (map (λ w. w.now) words.now)) (drop 1 (map (λ w. w.now) words.now))
         (R.remaining streams.old.reader.reader)
         (R.remaining streams.new.reader.reader) (W.contents streams.old.writer.writer) full status }
+    // If the output has failed, or wasn't flushed, the status says so.
+    ensures written { (result.code ≡ 4)
+        ⊎ ((streams.new.writer.fault ≡ None) × (streams.new.writer.is_flushed ≡ true)) }
     // Nothing that was reported lands in an image that is named.
     ensures spared { AreReportsSpared (H.facts host.now)
         (subcommand_of command_line (map (λ w. w.now) words.now)) (drop 1 (map (λ w. w.now) words.now))
         (E.contents streams.old.errors) (E.contents streams.new.errors) }
 {
     let outcome = answer(host, alloc, words, missing, telling, leaves, streams);
-    let flushed = streams.writer.flush();
+    // Its fault is remembered.
+    let _ = streams.writer.flush();
     report_streams(
         host,
         words,
@@ -102,7 +106,7 @@ pub fn work<H: Host, R: Read, W: Write, E: Write>(
         &mut streams.errors,
     );
     Run {
-        code: exit_code(outcome.status, flushed),
+        code: exit_code(outcome.status, streams.writer.fault()),
         image: outcome.image,
         new: outcome.new,
         memory: outcome.memory,
@@ -158,13 +162,13 @@ fn has_lines(words: &[&str]) -> bool {
     }
 }
 
-/// Returns the exit status of a run, by its status and by whether its whole text could be written.
-fn exit_code(status: Status, flushed: io::Result<()>) -> u8
-    ensures { MatchResult flushed (λ unit. result ≡ status_code status) (λ error. result ≡ 4) }
+/// Returns the exit status of a run, by its status and by why the output has failed, if it has.
+fn exit_code(status: Status, fault: Option<OutputFault>) -> u8
+    ensures { MatchOption fault (result ≡ status_code status) (λ why. result ≡ 4) }
 {
-    match flushed {
-        Ok(()) => status.code(),
-        Err(_) => Status::Fault.code(),
+    match fault {
+        None => status.code(),
+        Some(_) => Status::Fault.code(),
     }
 }
 
