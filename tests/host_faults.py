@@ -4,10 +4,10 @@
 usage: tests/host_faults.py PROGRAM
 
 A run that ends with status 4 reports why: an output that is full, a root directory that can't be opened, lack of
-memory, a lock that the system doesn't give, a sync that fails, an image whose length changes. Words that are refused or
-ask for help print nothing into a file that one of them names. `convert` copies permission bits, a failed `init` removes
-only its own file, and names are reported with their control characters escaped. An endless input is refused, and 512
-KiB of stack are enough. Some calls are made to fail by strace; without it, or if it may not trace, those cases are
+memory, a lock that the system doesn't give, reads or a sync that fail, an image whose length changes. A read that fails
+once costs nothing. Words that are refused or ask for help print nothing into a file that one of them names. `convert`
+copies permission bits, a failed `init` removes only its own file, and names are reported with their control characters
+escaped. An endless input is refused, and 512 KiB of stack are enough. Some calls are made to fail by strace; without it, or if it may not trace, those cases are
 SKIPPED, and a line says so. Prints a line for each failed check, and one line at the end.
 """
 
@@ -284,6 +284,22 @@ def a_sync_that_fails(tries):
     tries.expect(["put", "A.IMG", "10,20", "BAR"], FAULT, told, 4, data=HELLO, faults=later)
 
 
+def a_read_that_fails(tries):
+    """Tests that a read which fails once costs nothing, since blocks are read ahead, and a block that wasn't reached is
+    read by itself; and that a device that fails from then on is a fault."""
+    if not tries.may_trace:
+        tries.skip("there is no strace that may trace")
+        return
+    words, told = ["get", "A.IMG", "10,20", "HELLO.TXT"], tells("A.IMG", BROKEN, HINT)
+    for count in range(1, 40):
+        here = ["-P", tries.path("A.IMG")]
+        tries.expect_kept("A.IMG", words, HELLO, b"", 0, faults=here + failing("read", "EIO", str(count)))
+        if "(INJECTED)" not in tries.read("LOG").decode():
+            break
+        tries.expect_kept("A.IMG", words, FAULT, told, 4, faults=here + failing("read", "EIO", f"{count}+"))
+    tries.judge(2 < count < 39, f"{count} reads of the image")
+
+
 def an_image_whose_length_changes(tries):
     """Tests that such a change is reported as what it is."""
     image = tries.read("A.IMG")
@@ -424,6 +440,7 @@ CASES = [
     words_that_ask_for_help,
     a_new_name_that_a_stream_leads_to,
     a_sync_that_fails,
+    a_read_that_fails,
     an_image_whose_length_changes,
     a_lock_that_is_not_given,
     names_with_control_characters,

@@ -118,18 +118,18 @@ def without_writes():
 
 
 def without_reads():
-    """From now on this process can't read two blocks from a file: the system refuses it, by a filter (seccomp).
+    """From now on this process can't read a block from a file: the system refuses it, by a filter (seccomp).
 
-    The filter's numbers are those of Linux on an x86-64. It looks at the kind of the processor, at the call (`read` or
-    `pread64`), at its file, which is no standard stream, and at how many bytes are asked for, which are those of the
-    two blocks that a start reads first. Other reads are let through, since the program itself is loaded by them."""
-    load, equal, above, answer = 0x20, 0x15, 0x25, 0x06
+    The filter's numbers are those of Linux on an x86-64. It checks the kind of the processor, the call (`read` or
+    `pread64`), its file, which is no standard stream, and how many bytes are requested, which are at least those of a
+    block. Shorter reads are let through, since the program itself is loaded by them."""
+    load, equal, above, at_least, answer = 0x20, 0x15, 0x25, 0x35, 0x06
     refuse, allow = 0x00050000 | errno.EBADF, 0x7FFF0000
     code = [
         (load, 0, 0, 4), (equal, 0, 8, 0xC000003E),
         (load, 0, 0, 0), (equal, 1, 0, 0), (equal, 0, 5, 17),
         (load, 0, 0, 16), (above, 0, 3, 2),
-        (load, 0, 0, 32), (equal, 0, 1, 2 * BLOCK),
+        (load, 0, 0, 32), (at_least, 0, 1, BLOCK),
         (answer, 0, 0, refuse), (answer, 0, 0, allow),
     ]
     rules = ctypes.create_string_buffer(b"".join(struct.pack("=HBBI", *rule) for rule in code))

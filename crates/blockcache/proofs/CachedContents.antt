@@ -93,6 +93,9 @@ gone n es distinct = lookup-remove_entry nat_eq_equiv (nat_eq n) (one_key n) n e
 pub none_some : {X : Type 0} (x : X) → Some x ≡ None → ⊥
 none_some x e = cc
 
+pub some_same : {X : Type 0} (x y : X) → Some x ≡ Some y → x ≡ y
+some_same x y e = cc
+
 -- an entry of a block is found under its number
 pub found_somewhere : (n : ℕ) (es : List (ℕ × List ℕ)) (e : ℕ × List ℕ) → Contains es e → e.0 ≡ n
     → lookup (nat_eq n) es ≡ None → ⊥

@@ -1,4 +1,2 @@
-mod Ahead
 pub mod CachedContents
 mod Recalled
-pub mod Seen

@@ -30,26 +30,14 @@ one_place (place ∷ next ∷ more) words one = cc
 
 -- A run of one place, read in the way of a block that is cached, is filled with that block.
 module _ (o : Option (List ℕ)) (places : List (List ℕ)) (read : List ℕ) (one : length places ≡ 1) where
-  pub run_recalled : (Inner CachedBlocks Near : Type 0)
-      → IfSome o (λ words. (◌≡◌ {A = Result (List ℕ) Fault} (Ok read) (Ok words)) × Inner × CachedBlocks × Near)
+  pub run_recalled : (Inner CachedBlocks : Type 0)
+      → IfSome o (λ words. (◌≡◌ {A = Result (List ℕ) Fault} (Ok read) (Ok words)) × Inner × CachedBlocks)
       → IfSome o (λ words. (◌≡◌ {A = Result (Option ℕ) Fault} (Ok None) (Ok None))
-      × (slice_set places 0 read ≡ words ∷ []) × Inner × CachedBlocks × Near)
-  run_recalled inner kept near was = (elim o as (λ o. IfSome o (λ words. (◌≡◌ {A = Result (List ℕ) Fault} (Ok read)
-      (Ok words)) × inner × kept × near) → IfSome o (λ words. (◌≡◌ {A = Result (Option ℕ) Fault} (Ok None) (Ok None))
-      × (slice_set places 0 read ≡ words ∷ []) × inner × kept × near)) [
+      × (slice_set places 0 read ≡ words ∷ []) × Inner × CachedBlocks)
+  run_recalled inner kept was = (elim o as (λ o. IfSome o (λ words. (◌≡◌ {A = Result (List ℕ) Fault} (Ok read)
+      (Ok words)) × inner × kept) → IfSome o (λ words. (◌≡◌ {A = Result (Option ℕ) Fault} (Ok None) (Ok None))
+      × (slice_set places 0 read ≡ words ∷ []) × inner × kept)) [
         | None ↦ λ was. was
         | Some words ↦ λ was.
-            (refl, one_place places read one ∙ ap (λ ws. ws ∷ []) (same_words read words was.0), was.1, was.2, was.3)
-      ]) was
-
-  pub run_near : (Inner : Type 0)
-      → IfSome o (λ words. (◌≡◌ {A = Result (List ℕ) Fault} (Ok read) (Ok words)) × Inner)
-      → IfSome o (λ words. (◌≡◌ {A = Result (Option ℕ) Fault} (Ok None) (Ok None))
-      × (slice_set places 0 read ≡ words ∷ []) × Inner)
-  run_near inner was = (elim o as (λ o. IfSome o (λ words. (◌≡◌ {A = Result (List ℕ) Fault} (Ok read)
-      (Ok words)) × inner) → IfSome o (λ words. (◌≡◌ {A = Result (Option ℕ) Fault} (Ok None) (Ok None))
-      × (slice_set places 0 read ≡ words ∷ []) × inner)) [
-        | None ↦ λ was. was
-        | Some words ↦ λ was.
-            (refl, one_place places read one ∙ ap (λ ws. ws ∷ []) (same_words read words was.0), was.1)
+            (refl, one_place places read one ∙ ap (λ ws. ws ∷ []) (same_words read words was.0), was.1, was.2)
       ]) was

@@ -1,2 +1,1 @@
 pub mod Cache
-pub mod Window

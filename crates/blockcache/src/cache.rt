@@ -1,15 +1,12 @@
-//! A disk with a cache: the blocks that were used last, and windows of neighbours that were read ahead.
+//! A disk with a cache of the blocks that were used last. Nothing is read ahead.
 ghost use Rattle.std.specs.Prelude.{◌≡◌, ◌+◌, ◌<◌, ◌≤◌, ◌^◌, ℕ, List, Some, None, Ok, IfOk, IfErr, OnOk, OnErr};
-ghost use Rattle.std.specs.Prelude.{IfSome, IsSome, IsErrOf, [], ◌∷◌, Contains, IfNone, get_or, length, nat_eq};
+ghost use Rattle.std.specs.Prelude.{IfSome, [], ◌∷◌, Contains, IfNone, get_or, length, nat_eq};
 ghost use Rattle.std.specs.NonZero.{non_zero_usize_get};
 ghost use Rattle.std.specs.Map.{lookup};
 ghost use Rattle.lru.specs.LruCache.{lru_cache};
 ghost use Rattle.blockdisk.specs.Common.{IsRead, IsRunRead, IsVerify, IsWrite, IsRunWrite, IsSync, IsInRun, IsWithin};
-ghost use Rattle.blockdisk.specs.declared.fault.Fault.TheVariants.{Device};
 ghost use Rattle.blockcache.specs.Cache.{AreCached, IsCached, used, without, without_run, emptied};
-ghost use Rattle.blockcache.specs.Window.{AreSeen, MovesOn, apart, cleared, words_near};
 
-use crate::windows::Windows;
 use blockdisk::{Disk, Fault, NoMemory};
 use lru::LruCache;
 use std::alloc::Global;
@@ -17,22 +14,18 @@ use std::num::NonZeroUsize;
 use words36::Block;
 
 /// A disk some of whose blocks are cached in memory: those that were read or written last, each by itself, as many as
-/// there is room for; and neighbours of those that were read, in two windows. Writes go through to the disk
-/// underneath at once.
+/// there is room for. Writes go through to the disk underneath at once, and no block is read ahead.
 ///
 /// Blocks for which there is no memory are silently not cached: they are read again when they are needed.
 #[derive(Drop)]
 pub struct Cached<D: Disk> {
     inner: D,
     cache: LruCache<u32, Block>,
-    windows: Windows,
     ghost coherent: { (D.state inner).honest → AreCached cache.entries (D.state inner).contents },
-    ghost seen: { (D.state inner).honest → AreSeen windows.last windows.earlier (D.state inner).contents },
 }
 
 impl<D: Disk> Cached<D> {
-    /// Returns the same disk, with room for this number of blocks; windows get their memory as they grow. No block is
-    /// cached yet, and the disk isn't called.
+    /// Returns the same disk, with room for this number of blocks. No block is cached yet, and the disk isn't called.
     ///
     /// # Errors
     ///
@@ -40,17 +33,10 @@ impl<D: Disk> Cached<D> {
     pub fn new(alloc: Global, disk: D, capacity: NonZeroUsize) -> Result<Self, (NoMemory, D)>
         ensures inner { IfOk result (λ cached. cached.inner ≡ disk) }
         ensures empty { IfOk result (λ cached. cached.cache ≡ lru_cache [] (non_zero_usize_get capacity)) }
-        ensures no_windows { IfOk result (λ cached. (length cached.windows.last.blocks ≡ 0)
-            × (length cached.windows.earlier.blocks ≡ 0)) }
-        ensures from_block_0 { IfOk result (λ cached. cached.windows.last.first ≡ 0) }
         ensures handed_back { IfErr result (λ refused. refused.1 ≡ disk) }
     {
         match LruCache::new(alloc, capacity) {
-            Ok(cache) => Ok(Cached {
-                inner: disk,
-                cache,
-                windows: Windows::new(alloc),
-            }),
+            Ok(cache) => Ok(Cached { inner: disk, cache }),
             Err(error) => Err((error.into(), disk)),
         }
     }
@@ -75,7 +61,6 @@ impl<D: Disk> Cached<D> {
         ensures used { self.new.cache ≡ used n self.old.cache }
         ensures missed { lookup (nat_eq n) self.old.cache.entries ≡ None → self.new.cache ≡ self.old.cache }
         ensures inner { self.new.inner ≡ self.old.inner }
-        ensures windows { self.new.windows ≡ self.old.windows }
     {
         self.cache.get(&n).copied()
     }
@@ -85,7 +70,6 @@ impl<D: Disk> Cached<D> {
         requires { (D.state self.old.inner).honest → (D.state self.old.inner).contents n ≡ Some block.now }
         ensures kept { IsCached n block.now self.old.cache self.new.cache }
         ensures inner { self.new.inner ≡ self.old.inner }
-        ensures windows { self.new.windows ≡ self.old.windows }
     {
         let _kept = self.cache.put(n, *block);
     }
@@ -95,7 +79,6 @@ impl<D: Disk> Cached<D> {
         ensures forgotten { self.new.cache ≡ without n self.old.cache }
         ensures none { lookup (nat_eq n) self.new.cache.entries ≡ None }
         ensures inner { self.new.inner ≡ self.old.inner }
-        ensures windows { self.new.windows ≡ self.old.windows }
     {
         let _kept = self.cache.len(); // no block is cached twice
         let _block = self.cache.pop(&n);
@@ -108,7 +91,6 @@ impl<D: Disk> Cached<D> {
         ensures none { (n : ℕ) → IsInRun first count n → lookup (nat_eq n) self.new.cache.entries ≡ None }
         ensures no_others { (e : ℕ × List ℕ) → Contains self.new.cache.entries e → Contains self.old.cache.entries e }
         ensures inner { self.new.inner ≡ self.old.inner }
-        ensures windows { self.new.windows ≡ self.old.windows }
     {
         for number in first..first + count {
             self.forget(number);
@@ -132,14 +114,7 @@ impl<D: Disk> Disk for Cached<D> {
     fn read(&mut self, n: u32) -> Result<Block, Fault>
         requires { n < (D.state self.old.inner).size }
         ensures recalled { IfSome (lookup (nat_eq n) self.old.cache.entries) (λ block. (result ≡ Ok block)
-            × (self.new.inner ≡ self.old.inner) × (self.new.cache ≡ used n self.old.cache)
-            × (self.new.windows ≡ self.old.windows)) }
-        ensures nearby { lookup (nat_eq n) self.old.cache.entries ≡ None
-            → IfSome (words_near n self.old.windows.last self.old.windows.earlier)
-            (λ block. (result ≡ Ok block) × (self.new.inner ≡ self.old.inner)) }
-        ensures moves { lookup (nat_eq n) self.old.cache.entries ≡ None
-            → MovesOn n (D.state self.old.inner) (D.state self.new.inner) (IsErrOf result Device) self.old.windows.last
-            self.old.windows.earlier self.new.windows.last self.new.windows.earlier }
+            × (self.new.inner ≡ self.old.inner) × (self.new.cache ≡ used n self.old.cache)) }
         ensures reads { IsRead n (D.state self.old.inner) (D.state self.new.inner) result }
         ensures keeps_block { lookup (nat_eq n) self.old.cache.entries ≡ None
             → IfOk result (λ block. IsCached n block self.old.cache self.new.cache) }
@@ -149,7 +124,7 @@ impl<D: Disk> Disk for Cached<D> {
         if let Some(block) = self.recall(n) {
             return Ok(block);
         }
-        let block = self.windows.read(&mut self.inner, n)?;
+        let block = self.inner.read(n)?;
         self.keep(n, &block);
         Ok(block)
     }
@@ -161,16 +136,9 @@ impl<D: Disk> Disk for Cached<D> {
         ensures within { IfOk result (IsWithin first (first + length blocks.old)) }
         ensures reads { IsRunRead first (D.state self.old.inner) (D.state self.new.inner) blocks.new result }
         ensures passes_by { (length blocks.old ≡ 1 → ⊥) → self.new.cache ≡ self.old.cache }
-        ensures leaves_windows { (length blocks.old ≡ 1 → ⊥) → self.new.windows ≡ self.old.windows }
         ensures recalled { length blocks.old ≡ 1 → IfSome (lookup (nat_eq first) self.old.cache.entries)
             (λ block. (result ≡ Ok None) × (blocks.new ≡ block ∷ []) × (self.new.inner ≡ self.old.inner)
-            × (self.new.cache ≡ used first self.old.cache) × (self.new.windows ≡ self.old.windows)) }
-        ensures nearby { length blocks.old ≡ 1 → lookup (nat_eq first) self.old.cache.entries ≡ None
-            → IfSome (words_near first self.old.windows.last self.old.windows.earlier)
-            (λ block. (result ≡ Ok None) × (blocks.new ≡ block ∷ []) × (self.new.inner ≡ self.old.inner)) }
-        ensures moves { length blocks.old ≡ 1 → lookup (nat_eq first) self.old.cache.entries ≡ None
-            → MovesOn first (D.state self.old.inner) (D.state self.new.inner) (IsErrOf result Device)
-            self.old.windows.last self.old.windows.earlier self.new.windows.last self.new.windows.earlier }
+            × (self.new.cache ≡ used first self.old.cache)) }
         ensures keeps_block { length blocks.old ≡ 1 → lookup (nat_eq first) self.old.cache.entries ≡ None
             → IfOk result (λ bad. IfNone bad
             (IsCached first (get_or blocks.new 0 []) self.old.cache self.new.cache)) }
@@ -188,22 +156,14 @@ impl<D: Disk> Disk for Cached<D> {
         Ok(None)
     }
 
-    /// Calls the disk to verify the blocks from the first one that is in no window, even those that are cached by
-    /// themselves, which are as the disk holds them. Caches none of the others.
+    /// Calls the disk to verify all these blocks, even those that are cached, which are as the disk holds them. Caches
+    /// none of the others.
     fn verify(&mut self, first: u32, end: u32) -> Result<Option<u32>, Fault>
         requires { end ≤ (D.state self.old.inner).size }
         ensures verifies { IsVerify first end (D.state self.old.inner) (D.state self.new.inner) result }
-        ensures nearby { ((n : ℕ) → first ≤ n → n < end
-            → IsSome (words_near n self.old.windows.last self.old.windows.earlier))
-            → (result ≡ Ok None) × (self.new.inner ≡ self.old.inner) }
         ensures keeps_all { self.new.cache ≡ self.old.cache }
-        ensures leaves_windows { self.new.windows ≡ self.old.windows }
     {
-        let next = self.windows.passed(first, end);
-        if next >= end {
-            return Ok(None);
-        }
-        self.inner.verify(next, end)
+        self.inner.verify(first, end)
     }
 
     fn write(&mut self, n: u32, block: &Block) -> Result<(), Fault>
@@ -212,11 +172,8 @@ impl<D: Disk> Disk for Cached<D> {
         ensures keeps_block { OnOk result (IsCached n block.now (without n self.old.cache) self.new.cache) }
         ensures forgets { OnErr result (self.new.cache ≡ without n self.old.cache) }
         ensures none { OnErr result (lookup (nat_eq n) self.new.cache.entries ≡ None) }
-        ensures last { self.new.windows.last ≡ apart n 1 self.old.windows.last }
-        ensures earlier { self.new.windows.earlier ≡ apart n 1 self.old.windows.earlier }
     {
         self.forget(n);
-        self.windows.forget_run(n, 1);
         self.inner.write(n, block)?;
         self.keep(n, block);
         Ok(())
@@ -234,15 +191,12 @@ impl<D: Disk> Disk for Cached<D> {
         ensures keeps_block { length blocks.now ≡ 1
             → OnOk result (IsCached first (get_or blocks.now 0 []) (without first self.old.cache) self.new.cache) }
         ensures forgets_block { length blocks.now ≡ 1 → OnErr result (self.new.cache ≡ without first self.old.cache) }
-        ensures last { self.new.windows.last ≡ apart first (length blocks.now) self.old.windows.last }
-        ensures earlier { self.new.windows.earlier ≡ apart first (length blocks.now) self.old.windows.earlier }
     {
         if blocks.len() == 1 {
             return self.write(first, &blocks[0]);
         }
         let _size = self.blocks(); // the number of blocks fits a u32
         self.forget_run(first, blocks.len() as u32);
-        self.windows.forget_run(first, blocks.len() as u32);
         self.inner.write_run(first, blocks)
     }
 
@@ -250,13 +204,9 @@ impl<D: Disk> Disk for Cached<D> {
         ensures syncs { IsSync (D.state self.old.inner) (D.state self.new.inner) result }
         ensures keeps_all { OnOk result (self.new.cache ≡ self.old.cache) }
         ensures keeps_none { OnErr result (self.new.cache ≡ emptied self.old.cache) }
-        ensures leaves_windows { OnOk result (self.new.windows ≡ self.old.windows) }
-        ensures last { OnErr result (self.new.windows.last ≡ cleared self.old.windows.last) }
-        ensures earlier { OnErr result (self.new.windows.earlier ≡ cleared self.old.windows.earlier) }
     {
         if let Err(fault) = self.inner.sync() {
             self.cache.clear(); // what open blocks hold may have changed
-            self.windows.clear();
             return Err(fault);
         }
         Ok(())

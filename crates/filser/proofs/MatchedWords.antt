@@ -38,8 +38,7 @@ use Rattle.filser.specs.declared.error.RequestError.TheVariants.{Usage}
 use Rattle.filser.specs.declared.request.Request.{Request}
 use Rattle.filser.specs.declared.request.Request.TheVariants.{Fresh, Init, Work, Convert, Migrate, Import, Export}
 use Rattle.filser.specs.declared.request.Request.TheVariants.{Salvage}
-use Rattle.blockcache.proofs.Seen.{some_same}
-use Rattle.blockcache.proofs.CachedContents.{none_some}
+use Rattle.blockcache.proofs.CachedContents.{none_some, some_same}
 
 -- The command line is one of those whose matches `clap` computes.
 

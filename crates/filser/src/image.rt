@@ -271,7 +271,8 @@ pub(crate) fn open_start<H: Host>(
     }
 }
 
-/// Returns the same disk, with memory to read several neighbouring blocks by one call of its file, if there is memory.
+/// Returns the same disk, with memory, if there is any, to read several neighbouring blocks by one call of its file,
+/// and to read ahead.
 fn with_room(alloc: Global, disk: ImageDisk<HostFile>) -> ImageDisk<HostFile>
     ensures began { (form : Forms) (u : Unseen) → BeganAs form u (⟦<ImageDisk<HostFile> as Disk>⟧.state disk)
         → BeganAs form u (⟦<ImageDisk<HostFile> as Disk>⟧.state result) }

@@ -99,7 +99,7 @@ fn search<D: Disk>(alloc: Global, disk: &mut D) -> Result<Survey, SalvageError>
         ..
     } = Copied::of(alloc, disk, 0)?;
     if faults.unread > 0 {
-        return Err(SalvageError::Device); // a disk that keeps blocks doesn't give the neighbours either
+        return Err(SalvageError::Device); // a cable that was pulled looks the same
     }
     let reads = READS_PER_BLOCK * u64::from(copy.blocks());
     let mut copy = FuseDisk::new(copy, reads, Fail::All);

@@ -27,7 +27,7 @@ module _ (a k : ℕ) (xs ys : List (List ℕ)) (room : a + k ≤ length xs) (lon
       filled_at (a + i) (omega arith) (omega (arith, less)) ∙ ap (λ j. get_or ys j []) back
 
 -- Part of the bytes of a file is bytes of the file.
-window_part : (b : Bytes) (at len i n : ℕ) → i + n ≤ len → take n (drop i (window b at len)) ≡ window b (at + i) n
+pub window_part : (b : Bytes) (at len i n : ℕ) → i + n ≤ len → take n (drop i (window b at len)) ≡ window b (at + i) n
 window_part b at len i n within = ext_get_or 0 (take n (drop i (window b at len))) (window b (at + i) n)
     (length-take n (drop i (window b at len)) ∙ shorter ∙ sym (length-window b (at + i) n)) each
   where

@@ -7,3 +7,4 @@ pub mod ImageCalls
 pub mod BlockReads
 pub mod BlockWrites
 pub mod Began
+pub mod Buffers

@@ -10,6 +10,8 @@ pub use Rattle.imagefile.specs.ImageLaws.{image_reaches_back, image_syncs, image
 pub use Rattle.imagefile.specs.ImageLaws.{window-same}
 pub use Rattle.imagefile.specs.Measured.{IsCutImage, IsImageOf, IsNoCutImage, IsNoImage}
 pub use Rattle.imagefile.specs.ImageDisk.{blocks_of, form_of}
+pub use Rattle.imagefile.specs.Buffer.{AreHeld, HeldBytes, HeldTwice, IsHeld}
+pub use Rattle.imagefile.specs.BufferedFile.{buffered_file}
 pub use Rattle.imagefile.specs.Memory.{FileLeaves, FileMemory, FileMoment, HasRoom, IsFileReplayed, Step, Synced}
 pub use Rattle.imagefile.specs.Memory.{Wrote, after_step, after_steps, begun, bytes_synced, bytes_written, memory_of}
 pub use Rattle.imagefile.specs.Memory.{memory_state, moment_at, moment_now, sync_refused, write_refused}

@@ -6,7 +6,7 @@ use Rattle.imagefile.specs.declared.durable.Durable as durable
 
 module _ {F : Type 0} {g : durable.Ghosts F} where
   abbrev pub file_of : ImageDisk F g → F
-  file_of disk = disk.file
+  file_of disk = disk.file.file
 
   abbrev pub form_of : ImageDisk F g → Form
   form_of disk = disk.form

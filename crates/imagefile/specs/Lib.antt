@@ -1,4 +1,6 @@
 pub mod File
+pub mod Buffer
+pub mod BufferedFile
 pub mod Image
 pub mod ImageLaws
 pub mod Measured

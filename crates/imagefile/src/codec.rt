@@ -1,7 +1,8 @@
 //! The blocks of an image in the bytes of its file, in either form.
-ghost use Rattle.std.specs.Prelude.{◌≡◌, ◌+◌, ◌*◌, ◌<◌, ◌≤◌, ◌^◌, ℕ, Some, length};
+ghost use Rattle.std.specs.Prelude.{◌≡◌, ◌+◌, ◌-◌, ◌*◌, ◌<◌, ◌≤◌, ◌^◌, ℕ, Some, IsErrOf, length};
 ghost use Rattle.blockdisk.specs.Common.{IsRead, IsRunRead, IsVerify, IsWrite, IsRunWrite, AreFilled, HoldRun};
 ghost use Rattle.blockdisk.specs.Common.{IsWithin};
+ghost use Rattle.blockdisk.specs.declared.fault.Fault.TheVariants.{Device};
 ghost use Rattle.imagefile.specs.File.{SameFile};
 ghost use Rattle.imagefile.specs.Image.{block_content, block_length, spelled_blocks, image_state};
 ghost use Rattle.imagefile.specs.declared.form.Form.TheVariants.{Wide, Packed};
@@ -13,7 +14,7 @@ use words36::{
     block_to_bytes, block_to_nine, first_bad_word,
 };
 
-/// The number of neighbouring blocks that one call of the file reads, verifies or writes.
+/// The number of neighbouring blocks that one call of the file writes, and without more room reads or verifies.
 const GROUP_BLOCKS: u32 = 16;
 
 /// Reads the words of block n of the image that this file is.
@@ -26,6 +27,8 @@ pub(crate) fn read_block<F: Durable>(form: Form, file: &mut F, n: u32) -> Result
     ensures same { SameFile (F.state file.old) (F.state file.new) }
     ensures reads { (blocks : ℕ) → IsRead n (image_state form blocks (F.state file.old))
         (image_state form blocks (F.state file.new)) result }
+    ensures refused { IsErrOf result Device → (from : F)
+        × F.refused from file.new (block_length form * n) (block_length form) }
 {
     match form {
         Form::Wide => read_wide(file, n),
@@ -134,10 +137,54 @@ pub(crate) fn verify_blocks<F: Durable>(
     ensures verifies { (blocks : ℕ) → IsVerify first end (image_state form blocks (F.state file.old))
         (image_state form blocks (F.state file.new)) result }
 {
+    let mut room = [0; GROUP_BLOCKS as usize * BLOCK_BYTES];
+    verify_groups(form, file, &mut room, first, end)
+}
+
+/// Verifies blocks as `verify_blocks` does, but through memory for the bytes of more blocks, if there is any.
+///
+/// # Errors
+///
+/// As for a disk: `Device` if the file fails.
+pub(crate) fn verify_blocks_through<F: Durable>(
+    form: Form,
+    file: &mut F,
+    room: &mut Option<Vec<u8>>,
+    first: u32,
+    end: u32,
+) -> Result<Option<u32>, Fault>
+    requires { (F.state file.old).honest → block_length form * end ≤ (F.state file.old).size }
+    ensures same { SameFile (F.state file.old) (F.state file.new) }
+    ensures verifies { (blocks : ℕ) → IsVerify first end (image_state form blocks (F.state file.old))
+        (image_state form blocks (F.state file.new)) result }
+{
+    if let Some(room) = room {
+        if room.len() >= BLOCK_BYTES {
+            return verify_groups(form, file, room.as_mut_slice(), first, end);
+        }
+    }
+    verify_blocks(form, file, first, end)
+}
+
+/// Verifies blocks as `verify_blocks` does, with as many in each call of the file as there is room for.
+fn verify_groups<F: Durable>(
+    form: Form,
+    file: &mut F,
+    room: &mut [u8],
+    first: u32,
+    end: u32,
+) -> Result<Option<u32>, Fault>
+    requires room { 1024 ≤ length room.old }
+    requires inside { (F.state file.old).honest → block_length form * end ≤ (F.state file.old).size }
+    ensures same { SameFile (F.state file.old) (F.state file.new) }
+    ensures verifies { (blocks : ℕ) → IsVerify first end (image_state form blocks (F.state file.old))
+        (image_state form blocks (F.state file.new)) result }
+{
+    let group = room.len() / BLOCK_BYTES;
     let mut next = first;
     while next < end {
-        let stop = group_end(next, end);
-        match verify_group(form, file, next, stop) {
+        let stop = group_end(next, end, group);
+        match verify_group(form, file, room, next, stop) {
             Ok(None) => next = stop,
             Ok(Some(bad)) => return Ok(Some(bad)),
             Err(fault) => return Err(fault),
@@ -209,6 +256,7 @@ fn read_wide<F: Durable>(file: &mut F, n: u32) -> Result<Block, Fault>
     ensures same { SameFile (F.state file.old) (F.state file.new) }
     ensures reads { (blocks : ℕ) → IsRead n (image_state Wide blocks (F.state file.old))
         (image_state Wide blocks (F.state file.new)) result }
+    ensures refused { IsErrOf result Device → (from : F) × F.refused from file.new (1024 * n) 1024 }
 {
     let mut bytes = [0; BLOCK_BYTES];
     file.read_at(place_of(Form::Wide, n), &mut bytes)?;
@@ -224,6 +272,7 @@ fn read_packed<F: Durable>(file: &mut F, n: u32) -> Result<Block, Fault>
     ensures same { SameFile (F.state file.old) (F.state file.new) }
     ensures reads { (blocks : ℕ) → IsRead n (image_state Packed blocks (F.state file.old))
         (image_state Packed blocks (F.state file.new)) result }
+    ensures refused { IsErrOf result Device → (from : F) × F.refused from file.new (576 * n) 576 }
 {
     let mut bytes = [0; PACKED_BYTES];
     file.read_at(place_of(Form::Packed, n), &mut bytes)?;
@@ -295,51 +344,58 @@ fn block_of(form: Form, bytes: &[u8]) -> Option<Block>
     }
 }
 
-/// Returns the end of the group of blocks that begins at block `first`, no later than `end`.
-fn group_end(first: u32, end: u32) -> u32
-    requires { first < end }
+/// Returns the end of the group of at most this number of blocks that begins at block `first`, no later than `end`.
+fn group_end(first: u32, end: u32, most: usize) -> u32
+    requires some { 0 < most }
+    requires rising { first < end }
     ensures some { first < result }
-    ensures few { result ≤ first + 16 }
+    ensures few { result ≤ first + most }
     ensures within { result ≤ end }
 {
-    if end - first > GROUP_BLOCKS {
-        first + GROUP_BLOCKS
+    if (end - first) as usize > most {
+        first + most as u32
     } else {
         end
     }
 }
 
-/// Returns the first damaged one of neighbouring blocks, if any, which it reads by one call.
+/// Returns the first damaged one of neighbouring blocks, if any, whose bytes it reads by one call, through room for
+/// them.
 fn verify_group<F: Durable>(
     form: Form,
     file: &mut F,
+    room: &mut [u8],
     first: u32,
     end: u32,
 ) -> Result<Option<u32>, Fault>
     requires some { first < end }
-    requires few { end ≤ first + 16 }
+    requires room { 1024 * (end - first) ≤ length room.old }
     requires inside { (F.state file.old).honest → block_length form * end ≤ (F.state file.old).size }
     ensures same { SameFile (F.state file.old) (F.state file.new) }
     ensures verifies { (blocks : ℕ) → IsVerify first end (image_state form blocks (F.state file.old))
         (image_state form blocks (F.state file.new)) result }
 {
     match form {
-        Form::Wide => verify_wide(file, first, end),
-        Form::Packed => verify_packed(file, first, end),
+        Form::Wide => verify_wide(file, room, first, end),
+        Form::Packed => verify_packed(file, room, first, end),
     }
 }
 
 /// Verifies a group with eight bytes to a word: checks the top bits, and makes no word.
-fn verify_wide<F: Durable>(file: &mut F, first: u32, end: u32) -> Result<Option<u32>, Fault>
+fn verify_wide<F: Durable>(
+    file: &mut F,
+    room: &mut [u8],
+    first: u32,
+    end: u32,
+) -> Result<Option<u32>, Fault>
     requires some { first < end }
-    requires few { end ≤ first + 16 }
+    requires room { 1024 * (end - first) ≤ length room.old }
     requires inside { (F.state file.old).honest → 1024 * end ≤ (F.state file.old).size }
     ensures same { SameFile (F.state file.old) (F.state file.new) }
     ensures verifies { (blocks : ℕ) → IsVerify first end (image_state Wide blocks (F.state file.old))
         (image_state Wide blocks (F.state file.new)) result }
 {
-    let mut bytes = [0; GROUP_BLOCKS as usize * BLOCK_BYTES];
-    let group = &mut bytes[..(end - first) as usize * BLOCK_BYTES];
+    let group = &mut room[..(end - first) as usize * BLOCK_BYTES];
     file.read_at(place_of(Form::Wide, first), group)?;
     match first_bad_word(group) {
         None => Ok(None),
@@ -348,16 +404,20 @@ fn verify_wide<F: Durable>(file: &mut F, first: u32, end: u32) -> Result<Option<
 }
 
 /// Verifies a group with nine bytes to two words: any bytes are words, if they can be read.
-fn verify_packed<F: Durable>(file: &mut F, first: u32, end: u32) -> Result<Option<u32>, Fault>
+fn verify_packed<F: Durable>(
+    file: &mut F,
+    room: &mut [u8],
+    first: u32,
+    end: u32,
+) -> Result<Option<u32>, Fault>
     requires some { first < end }
-    requires few { end ≤ first + 16 }
+    requires room { 1024 * (end - first) ≤ length room.old }
     requires inside { (F.state file.old).honest → 576 * end ≤ (F.state file.old).size }
     ensures same { SameFile (F.state file.old) (F.state file.new) }
     ensures verifies { (blocks : ℕ) → IsVerify first end (image_state Packed blocks (F.state file.old))
         (image_state Packed blocks (F.state file.new)) result }
 {
-    let mut bytes = [0; GROUP_BLOCKS as usize * PACKED_BYTES];
-    let group = &mut bytes[..(end - first) as usize * PACKED_BYTES];
+    let group = &mut room[..(end - first) as usize * PACKED_BYTES];
     file.read_at(place_of(Form::Packed, first), group)?;
     Ok(None)
 }

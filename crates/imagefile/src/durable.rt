@@ -1,5 +1,5 @@
 //! The trait of a file that keeps to the disk's model byte by byte.
-ghost use Rattle.std.specs.Prelude.{◌≡◌, ◌+◌, ◌<◌, ◌≤◌, ℕ, length, IfOk, OnOk, OnErr, IsErrOf};
+ghost use Rattle.std.specs.Prelude.{◌≡◌, ◌+◌, ◌<◌, ◌≤◌, ℕ, length, take, IfOk, OnOk, OnErr, IsErrOf};
 ghost use Rattle.blockdisk.specs.Common.{one_more};
 ghost use Rattle.blockdisk.specs.declared.fault.Fault.TheVariants.{Device, Damaged};
 ghost use Rattle.imagefile.specs.File.{Remains, FileState, MayRemain, SameFile, FileKeeps, FileWrites, FileSyncs};
@@ -16,6 +16,10 @@ use blockdisk::Fault;
 /// rest holds for every file.
 pub trait Durable {
     ghost state: { Self → FileState };
+
+    /// A read of this number of bytes from this place was refused, and turned the first value into the second. Code
+    /// that is generic over this trait can only prove it by making that call.
+    ghost refused: { Self → Self → ℕ → ℕ → Type 0 };
 
     /// Returns the number of bytes.
     ///
@@ -39,11 +43,22 @@ pub trait Durable {
         requires { (state self.old).honest → at + length bytes.old ≤ (state self.old).size }
         ensures read { (state self.new).honest
             → OnOk result (bytes.new ≡ window (state self.old).bytes at (length bytes.old)) }
+        ensures refused { OnErr result (refused self.old self.new at (length bytes.old)) }
         ensures keeps { (state self.new).honest → FileKeeps (state self.old) (state self.new) }
         ensures same { SameFile (state self.old) (state self.new) }
         ensures device { IsErrOf result Damaged → ⊥ }
         ensures failed { IsErrOf result Device → (state self.new).failures ≡ one_more (state self.old).failures }
         ensures served { OnOk result ((state self.new).failures ≡ (state self.old).failures) };
+
+    /// Reads bytes from place `at` that nobody needs yet, and returns how many came: fewer than requested, or none, if
+    /// they can't be read. That is no failure of the file.
+    fn prefetch(&mut self, at: u64, bytes: &mut [u8]) -> usize
+        requires { (state self.old).honest → at + length bytes.old ≤ (state self.old).size }
+        ensures few { result ≤ length bytes.old }
+        ensures read { (state self.new).honest → take result bytes.new ≡ window (state self.old).bytes at result }
+        ensures keeps { (state self.new).honest → FileKeeps (state self.old) (state self.new) }
+        ensures same { SameFile (state self.old) (state self.new) }
+        ensures served { (state self.new).failures ≡ (state self.old).failures };
 
     /// Writes `bytes` from place `at`. After that, they are open until a sync succeeds, whatever the answer was.
     ///

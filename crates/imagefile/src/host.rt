@@ -187,6 +187,8 @@ impl<C: FileCalls> Durable for HostFile<C> {
 
     ghost state = { λ file. with_failures (C.state file.calls) file.failures };
 
+    ghost refused = { λ before after at count. Unit {0} };
+
     ghost counts_now = { λ file t r h le may. C.counts_now file.calls t r h le may };
 
     ghost only_now = { λ file r h left. C.only_now file.calls r h left };
@@ -242,6 +244,24 @@ impl<C: FileCalls> Durable for HostFile<C> {
             done += self.get_some(place, &mut bytes[done..])?;
         }
         Ok(())
+    }
+
+    fn prefetch(&mut self, at: u64, bytes: &mut [u8]) -> usize
+        requires { (C.state (calls_of self.old)).honest → at + length bytes.old ≤ (C.state (calls_of self.old)).size }
+        ensures few { result ≤ length bytes.old }
+        ensures read { (C.state (calls_of self.new)).honest
+            → take result bytes.new ≡ window (C.state (calls_of self.old)).bytes at result }
+        ensures keeps { (C.state (calls_of self.new)).honest
+            → FileKeeps (C.state (calls_of self.old)) (C.state (calls_of self.new)) }
+        ensures same { SameFile (C.state (calls_of self.old)) (C.state (calls_of self.new)) }
+        ensures quiet { failure_of self.new ≡ failure_of self.old }
+        ensures keeps_size { known_size_of self.new ≡ known_size_of self.old }
+        ensures served { failures_of self.new ≡ failures_of self.old }
+    {
+        match self.calls.read_some(at, bytes) {
+            Ok(count) => count,
+            Err(_) => 0,
+        }
     }
 
     fn write_at(&mut self, at: u64, bytes: &[u8]) -> Result<(), Fault>

@@ -1,6 +1,8 @@
 //! A disk over an image of either form.
-ghost use Rattle.std.specs.Prelude.{◌≡◌, ◌*◌, ◌<◌, ◌≤◌, ◌↔◌, ℕ, Some, None, IfOk, IfErr, IsSome, List, All, length};
+ghost use Rattle.std.specs.Prelude.{◌≡◌, ◌*◌, ◌<◌, ◌≤◌, ◌↔◌, ℕ, Some, None, IfOk, IfErr, IsErrOf, IsSome, List, All};
+ghost use Rattle.std.specs.Prelude.{length};
 ghost use Rattle.words36.specs.Common.{IsBlock, block_bytes, nine_bytes};
+ghost use Rattle.blockdisk.specs.Common.{IsRead};
 ghost use Rattle.blockdisk.specs.declared.fault.Fault.TheVariants.{Device};
 ghost use Rattle.imagefile.specs.Began.{BeganAs, BeganCut};
 ghost use Rattle.imagefile.specs.Image.{block_length, image_state, block_content, IsImageSize};
@@ -13,7 +15,10 @@ ghost use Rattle.imagefile.specs.declared.form.Form.TheVariants.{Wide, Packed};
 ghost use Rattle.imagefile.specs.declared.size.ImageError.TheVariants.{BadSize};
 ghost use Rattle.imagefile.specs.declared.size.ImageError.TheVariants as ImageError;
 
-use crate::codec::{read_block, read_blocks_through, verify_blocks, write_block, write_blocks};
+use crate::buffered::BufferedFile;
+use crate::codec::{
+    read_block, read_blocks_through, verify_blocks_through, write_block, write_blocks,
+};
 use crate::{AssumedImage, Durable, Form, HostFile, ImageError, block_count, whole_blocks};
 use blockdisk::{Disk, Fault};
 use std::alloc::Global;
@@ -26,12 +31,12 @@ const RUN_BLOCKS: usize = 128;
 /// A disk whose blocks are in a file, one after the other. The file may have more bytes than they do.
 #[derive(Drop)]
 pub struct ImageDisk<F: Durable> {
-    file: F,
+    file: BufferedFile<F>,
     form: Form,
     blocks: u32,
     // For the bytes of a run that is read.
     room: Option<Vec<u8>>,
-    ghost sized: { (F.state file).honest → block_length form * blocks ≤ (F.state file).size },
+    ghost sized: { (F.state file.file).honest → block_length form * blocks ≤ (F.state file.file).size },
 }
 
 impl<F: Durable> ImageDisk<F> {
@@ -71,7 +76,7 @@ impl<F: Durable> ImageDisk<F> {
         };
         match block_count(form, size) {
             Ok(blocks) => Ok(ImageDisk {
-                file,
+                file: BufferedFile::new(file, form.block_bytes() * blocks as u64),
                 form,
                 blocks,
                 room: None,
@@ -102,7 +107,7 @@ impl<F: Durable> ImageDisk<F> {
             Err(error) => return Err((error, file)),
         };
         let disk = ImageDisk {
-            file,
+            file: BufferedFile::new(file, form.block_bytes() * blocks as u64),
             form,
             blocks,
             room: None,
@@ -110,8 +115,9 @@ impl<F: Durable> ImageDisk<F> {
         Ok((disk, tail))
     }
 
-    /// Returns the same disk, with memory to read up to 128 neighbouring blocks by one call of the file. If there is
-    /// none, the disk silently reads up to 16.
+    /// Returns the same disk, with memory to read up to 128 neighbouring blocks by one call of the file, and to read
+    /// ahead: a read of few blocks takes neighbours along, which are in memory if they are needed next. Without memory
+    /// the disk silently reads up to 16 blocks by one call, and none ahead.
     pub fn with_room(self, alloc: Global) -> Self
         ensures file { file_of result ≡ file_of self }
         ensures form { form_of result ≡ form_of self }
@@ -123,7 +129,7 @@ impl<F: Durable> ImageDisk<F> {
             Err(_) => None,
         };
         ImageDisk {
-            file: self.file,
+            file: self.file.with_buffers(alloc),
             form: self.form,
             blocks: self.blocks,
             room,
@@ -134,14 +140,14 @@ impl<F: Durable> ImageDisk<F> {
     pub fn file(&self) -> &F
         ensures { result.now ≡ file_of self.now }
     {
-        &self.file
+        &self.file.file
     }
 
     /// Returns the file that the disk is in.
     pub fn finish(self) -> F
         ensures { result ≡ file_of self }
     {
-        self.file
+        self.file.file
     }
 }
 
@@ -213,22 +219,31 @@ pub fn packed_bytes_are_words()
 {}
 
 impl<F: Durable> Disk for ImageDisk<F> {
-    ghost state = { λ disk. image_state disk.form disk.blocks (F.state disk.file) };
+    ghost use Rattle.imagefile.specs.ImageDisk.{file_of};
+    ghost use Rattle.imagefile.specs.Common.{form_of, blocks_of};
 
-    ghost counts_now = { λ disk t c h le left. image_counts_now disk.form disk.blocks (F.state disk.file) t c
-        (λ r may. F.counts_now disk.file t r h le may) left };
+    ghost state = { λ disk. image_state disk.form disk.blocks (F.state disk.file.file) };
 
-    ghost only_now = { λ disk c h left. image_only_now disk.form disk.blocks (F.state disk.file) c
-        (λ r was. F.only_now disk.file r h was) left };
+    ghost counts_now = { λ disk t c h le left. image_counts_now disk.form disk.blocks (F.state disk.file.file) t c
+        (λ r may. F.counts_now disk.file.file t r h le may) left };
 
-    ghost reaches_back = { λ disk t u c h le left. image_reaches_back disk.form disk.blocks (F.state disk.file) t u c
-        (λ r was. F.reaches_back disk.file t u r h le was) left };
+    ghost only_now = { λ disk c h left. image_only_now disk.form disk.blocks (F.state disk.file.file) c
+        (λ r was. F.only_now disk.file.file r h was) left };
+
+    ghost reaches_back = { λ disk t u c h le left. image_reaches_back disk.form disk.blocks (F.state disk.file.file) t
+        u c (λ r was. F.reaches_back disk.file.file t u r h le was) left };
 
     fn blocks(&self) -> u32 {
         self.blocks
     }
 
-    fn read(&mut self, n: u32) -> Result<Block, Fault> {
+    fn read(&mut self, n: u32) -> Result<Block, Fault>
+        requires { n < blocks_of self.old }
+        ensures reads { IsRead n (image_state (form_of self.old) (blocks_of self.old) (F.state (file_of self.old)))
+            (image_state (form_of self.new) (blocks_of self.new) (F.state (file_of self.new))) result }
+        ensures refused { IsErrOf result Device → (from : F) × F.refused from (file_of self.new)
+            (block_length (form_of self.old) * n) (block_length (form_of self.old)) }
+    {
         read_block(self.form, &mut self.file, n)
     }
 
@@ -238,7 +253,7 @@ impl<F: Durable> Disk for ImageDisk<F> {
     }
 
     fn verify(&mut self, first: u32, end: u32) -> Result<Option<u32>, Fault> {
-        verify_blocks(self.form, &mut self.file, first, end)
+        verify_blocks_through(self.form, &mut self.file, &mut self.room, first, end)
     }
 
     fn write(&mut self, n: u32, block: &Block) -> Result<(), Fault> {

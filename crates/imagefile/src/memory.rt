@@ -1,6 +1,6 @@
 //! A file in memory that records its writes and syncs.
 ghost use Rattle.std.specs.Prelude.{◌≡◌, ◌<◌, ◌≤◌, ◌+◌, ◌*◌, ◌++◌, ◌∷◌, Ok, IsOk, IsTrue, ◌↔◌, get_or, [], true, false};
-ghost use Rattle.std.specs.Prelude.{IfOk, IfErr, OnOk, OnErr, length, replicate, vec_capacity};
+ghost use Rattle.std.specs.Prelude.{IfOk, IfErr, OnOk, OnErr, length, replicate, take, vec_capacity};
 ghost use Rattle.std.proofs.Common.{inr};
 ghost use Rattle.blockdisk.specs.declared.fault.Fault.TheVariants.{Device};
 ghost use Rattle.imagefile.specs.File.{FileWrites, FileSyncs, window};
@@ -86,6 +86,8 @@ impl MemFile {
 impl Durable for MemFile {
     ghost state = { memory_state };
 
+    ghost refused = { λ before after at count. Unit {0} };
+
     ghost counts_now = { λ m t r h le may. inr may };
 
     ghost only_now = { λ m r h left. only_now m r left };
@@ -108,6 +110,18 @@ impl Durable for MemFile {
         let at = at as usize;
         bytes.copy_from_slice(&self.bytes[at..at + bytes.len()]);
         Ok(())
+    }
+
+    fn prefetch(&mut self, at: u64, bytes: &mut [u8]) -> usize
+        requires { at + length bytes.old ≤ length self.old.bytes }
+        ensures all { result ≡ length bytes.old }
+        ensures read { take result bytes.new ≡ window (memory_state self.old).bytes at result }
+        ensures unchanged { self.new ≡ self.old }
+    {
+        match self.read_at(at, bytes) {
+            Ok(()) => bytes.len(),
+            Err(_) => 0,
+        }
     }
 
     fn write_at(&mut self, at: u64, bytes: &[u8]) -> Result<(), Fault>

@@ -73,13 +73,18 @@ pub(crate) fn disk_over<F: Durable + Drop>(rt: &impl Abort, file: F, form: Form)
 }
 
 /// Checks the answer to a read of a block.
-fn expect_block<D: Disk>(rt: &impl Abort, disk: &mut D, n: u32, wanted: Result<Block, Fault>) {
+pub(crate) fn expect_block<D: Disk>(
+    rt: &impl Abort,
+    disk: &mut D,
+    n: u32,
+    wanted: Result<Block, Fault>,
+) {
     assert!(rt; n < disk.blocks());
     assert!(rt; disk.read(n) == wanted);
 }
 
 /// Checks the answer to a write of a block filled with this number.
-fn expect_write<D: Disk>(
+pub(crate) fn expect_write<D: Disk>(
     rt: &impl Abort,
     disk: &mut D,
     n: u32,

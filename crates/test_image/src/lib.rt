@@ -5,6 +5,8 @@
 #![tactic(auto)]
 
 #[cfg(test)]
+mod buffer_tests;
+#[cfg(test)]
 mod call_tests;
 #[cfg(test)]
 mod host_tests;

@@ -11,7 +11,7 @@ pub returns-in-Err-clause-denied : goal.returns-in-Err-clause-denied
 returns-in-Err-clause-denied c = (
   c.init_layout.new.disk,
   refl,
-  λ blocks. no_volume _ c.args.disk.blocks c.args.disk.file.failures _ blocks c.in-Err.error _ _ c.failure_of.ensures
-      c.in-Err.ensures.disk.same.size c.requires c.in-Err.ensures.only c.in-Err.ensures.range.0
-      c.in-Err.ensures.disk.failed,
+  λ blocks. no_volume _ c.args.disk.blocks c.args.disk.file.file.failures _ blocks c.in-Err.error _ _
+      c.failure_of.ensures c.in-Err.ensures.disk.same.size c.requires c.in-Err.ensures.only
+      c.in-Err.ensures.range.0 c.in-Err.ensures.disk.failed,
 )

@@ -4,12 +4,14 @@ use Rattle.blockcache.specs.Cache.{CachedBlocks, AreCached}
 use Rattle.blockcache.proofs.CachedContents.{held_without, gone}
 use Rattle.blockcache.proofs.cache.Cached.forget.Goals as goal
 
-pub invariant_of-self-clause-coherent : goal.invariant_of-self-clause-coherent
-invariant_of-self-clause-coherent g c =
-    λ h. subst (λ (kept : CachedBlocks). AreCached kept.entries (g.D.Disk.state c.args.self.now.inner).contents)
-    (sym c.pop-block.ensures.entries)
-    (held_without c.args.self.now.cache (g.D.Disk.state c.args.self.now.inner).contents c.args.n
-    (c.args.self.now.coherent h))
+pub invariant_of-self : goal.invariant_of-self
+invariant_of-self g c =
+    let contents = (g.D.Disk.state c.args.self.now.inner).contents in
+    record {
+      coherent = λ h. subst (λ (kept : CachedBlocks). AreCached kept.entries contents)
+          (sym c.pop-block.ensures.entries)
+          (held_without c.args.self.now.cache contents c.args.n (c.args.self.now.coherent h));
+    }
 
 pub returns-clause-none : goal.returns-clause-none
 returns-clause-none g c = subst (λ (kept : CachedBlocks). lookup (nat_eq c.args.n) kept.entries ≡ None)

@@ -14,7 +14,6 @@ loop-number-init g c = record {
       let none : 0 ≡ c.args.first - c.args.first = omega arith in
       ap (λ k. without_run c.args.first k c.args.self.now.cache) none;
   inner = refl;
-  windows = refl;
 }
 
 pub loop-number-preserved : goal.loop-number-preserved
@@ -39,7 +38,6 @@ loop-number-preserved g c =
           ∙ ap (λ k. without k (without_run c.args.first (number - c.args.first) c.args.self.now.cache)) here
           ∙ run_more c.args.first (number - c.args.first) (number + 1 - c.args.first) c.args.self.now.cache more;
       inner = c.forget.ensures.inner ∙ c.loop-number.invariant.inner;
-      windows = c.forget.ensures.windows ∙ c.loop-number.invariant.windows;
     }
 
 pub returns-clause-none : goal.returns-clause-none

@@ -9,5 +9,4 @@ invariant-loop-number g l = record {
   no_others : (e : ℕ × List ℕ) → Contains l.self.cache.entries e → Contains l.fn.self.cache.entries e;
   forgotten : l.self.cache ≡ without_run l.first (l.number - l.first) l.fn.self.cache;
   inner : l.self.inner ≡ l.fn.self.inner;
-  windows : l.self.windows ≡ l.fn.self.windows;
 }

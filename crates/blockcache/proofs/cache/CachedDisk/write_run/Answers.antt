@@ -15,10 +15,10 @@ returns-then-blocks-eq1-clause-writes g c =
     (subst (λ words. IsWrite c.args.first words s s' c.write.result)
     (get_or_read blocks 0 c.index-blocks-0.result some c.index-blocks-0.is []) c.write.ensures.writes)
 
-pub invariant_of-self-clause-coherent : goal.invariant_of-self-clause-coherent
-invariant_of-self-clause-coherent g c =
-    λ h. held_outside (IsInRun c.args.first (length c.args.blocks.now))
-    c.forget_run.new.self.cache.entries
-    (g.D.Disk.state c.forget_run.new.self.inner).contents (g.D.Disk.state c.write_run.new.self).contents
-    (c.forget_run.new.self.coherent (c.write_run.ensures.same.was_honest h)) c.forget_run.ensures.none
-    (c.write_run.ensures.writes h).contents
+pub invariant_of-self : goal.invariant_of-self
+invariant_of-self g c = record {
+  coherent = λ h. held_outside (IsInRun c.args.first (length c.args.blocks.now)) c.forget_run.new.self.cache.entries
+      (g.D.Disk.state c.forget_run.new.self.inner).contents (g.D.Disk.state c.write_run.new.self).contents
+      (c.forget_run.new.self.coherent (c.write_run.ensures.same.was_honest h)) c.forget_run.ensures.none
+      (c.write_run.ensures.writes h).contents;
+}

@@ -1,19 +1,9 @@
 use Rattle.imagefile.proofs.image.ImageDiskDisk.read.Goals as goal
 
-pub returns-clause-words : goal.returns-clause-words
-returns-clause-words g c = (c.read_block.ensures.reads c.args.self.now.blocks).words
+pub returns-clause-reads : goal.returns-clause-reads
+returns-clause-reads g c = c.read_block.ensures.reads c.args.self.now.blocks
 
-pub returns-clause-damaged : goal.returns-clause-damaged
-returns-clause-damaged g c = (c.read_block.ensures.reads c.args.self.now.blocks).damaged
-
-pub returns-clause-keeps : goal.returns-clause-keeps
-returns-clause-keeps g c = (c.read_block.ensures.reads c.args.self.now.blocks).keeps
-
-pub returns-clause-same : goal.returns-clause-same
-returns-clause-same g c = (c.read_block.ensures.reads c.args.self.now.blocks).same
-
-pub returns-clause-failed : goal.returns-clause-failed
-returns-clause-failed g c = (c.read_block.ensures.reads c.args.self.now.blocks).failed
-
-pub returns-clause-served : goal.returns-clause-served
-returns-clause-served g c = (c.read_block.ensures.reads c.args.self.now.blocks).served
+pub returns-clause-refused : goal.returns-clause-refused
+returns-clause-refused g c is =
+    let from = c.read_block.ensures.refused is in
+    (from.1.0, from.1.1)
