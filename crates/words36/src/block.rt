@@ -1,13 +1,17 @@
 //! The bytes of a block in an image: eight to a word.
 ghost use Rattle.std.specs.Prelude.{◌≡◌, ◌+◌, ◌*◌, ◌/◌, ◌<◌, ◌≤◌, ◌^◌, ◌↔◌, ◌++◌, ℕ, List, Ok, IfOk, IfErr, IfSome};
-ghost use Rattle.std.specs.Prelude.{Some, IsSome, IsErrOf, length, take, drop};
+ghost use Rattle.std.specs.Prelude.{Some, IsSome, IsTrue, IsErrOf, length, slice_index, take, drop};
 ghost use Rattle.words36.specs.Common.{IsWord, IsBlock, IsFirstBadWord, block_bytes, word_bytes, number_at};
 
 use crate::{BLOCK_WORDS, Block, Word, WordError};
 use byteorder::{BigEndian, ByteOrder};
+use std::simd::prelude::*;
 
 /// The number of bytes that a block takes in an image.
 pub const BLOCK_BYTES: usize = 8 * BLOCK_WORDS;
+
+/// The number of bytes that are joined at once: those of eight words.
+const LANES: usize = 64;
 
 /// Returns the bytes of a block: eight to a word, the most significant first.
 pub fn block_to_bytes(block: &Block) -> [u8; BLOCK_BYTES]
@@ -34,16 +38,26 @@ pub fn block_from_bytes(bytes: &[u8; BLOCK_BYTES]) -> Result<Block, WordError>
         (WordError.BadWord place) ↔ IsFirstBadWord BLOCK_WORDS bytes.now place) }
     ensures refused { IfErr result (λ error. (place : ℕ) × (error ≡ WordError.BadWord place)) }
 {
-    let mut block = [Word::ZERO; BLOCK_WORDS];
-    for place in 0..BLOCK_WORDS {
-        block[place] = word_at(bytes, place).ok_or(WordError::BadWord(place))?;
+    match first_bad_word(bytes) {
+        Some(place) => Err(WordError::BadWord(place)),
+        None => Ok(block_of_words(bytes)),
     }
-    Ok(block)
 }
 
 /// Returns the place, counted from 0, of the first word in an image's bytes whose top 28 bits aren't zero, or `None`
 /// if there is no such word. Ignores a last word of fewer than eight bytes.
 pub fn first_bad_word(bytes: &[u8]) -> Option<usize>
+    ensures { (place : ℕ) → (result ≡ Some place ↔ IsFirstBadWord (length bytes.now / 8) bytes.now place) }
+{
+    if are_words(bytes) {
+        None
+    } else {
+        search_bad_word(bytes)
+    }
+}
+
+/// Returns the same as `first_bad_word`, and checks one word after the other.
+fn search_bad_word(bytes: &[u8]) -> Option<usize>
     ensures { (place : ℕ) → (result ≡ Some place ↔ IsFirstBadWord (length bytes.now / 8) bytes.now place) }
 {
     for place in 0..bytes.len() / 8 {
@@ -52,6 +66,44 @@ pub fn first_bad_word(bytes: &[u8]) -> Option<usize>
         }
     }
     None
+}
+
+/// Returns whether the top 28 bits of each word in an image's bytes are zero. Checks eight words at a time, and ignores
+/// a last word of fewer than eight bytes.
+fn are_words(bytes: &[u8]) -> bool
+    ensures { IsTrue result ↔ ((place : ℕ) → place < length bytes.now / 8 → IsWord (number_at bytes.now place)) }
+{
+    let joined = joined_words(bytes);
+    if search_bad_word(&joined).is_some() {
+        return false;
+    }
+    search_bad_word(&bytes[bytes.len() / LANES * LANES..]).is_none()
+}
+
+/// Returns the bytes of eight numbers: each has the bits that are set in any number at its place in a group of eight.
+/// Ignores a last group of fewer than eight.
+fn joined_words(bytes: &[u8]) -> [u8; LANES]
+    ensures { (place : ℕ) → place < 8 → (IsWord (number_at result place) ↔ ((group : ℕ)
+        → group < length bytes.now / 64 → IsWord (number_at bytes.now (8 * group + place)))) }
+{
+    let mut joined = u8x64::splat(0);
+    for group in 0..bytes.len() / LANES {
+        joined |= u8x64::from_slice(&bytes[LANES * group..]);
+    }
+    joined.to_array()
+}
+
+/// Returns the block that has these bytes, which are those of words.
+fn block_of_words(bytes: &[u8; BLOCK_BYTES]) -> Block
+    requires { (place : ℕ) → place < 128 → IsWord (number_at bytes.now place) }
+    ensures words { IsBlock result }
+    ensures each { (place : ℕ) → place < 128 → slice_index result place ≡ number_at bytes.now place }
+{
+    let mut block = [Word::ZERO; BLOCK_WORDS];
+    for place in 0..BLOCK_WORDS {
+        block[place] = Word::from_bits(number_of(bytes, place));
+    }
+    block
 }
 
 /// Puts the eight bytes of a word at an offset in an image's bytes.
@@ -69,7 +121,16 @@ fn word_at(bytes: &[u8], place: usize) -> Option<Word>
     ensures value { IfSome result (λ word. word ≡ number_at bytes.now place) }
     ensures fits { IsSome result ↔ (number_at bytes.now place < 2 ^ 36) }
 {
-    let mut group = [0; 8];
-    group.copy_from_slice(&bytes[8 * place..8 * place + 8]);
-    Word::new(u64::from_be_bytes(group))
+    Word::new(number_of(bytes, place))
+}
+
+/// Returns the number in the eight bytes at a place, counted from 0 in words.
+fn number_of(bytes: &[u8], place: usize) -> u64
+    requires { 8 * place + 8 ≤ length bytes.now }
+    ensures { result ≡ number_at bytes.now place }
+{
+    let Ok(group) = <&[u8; 8]>::try_from(&bytes[8 * place..8 * place + 8]) else {
+        unreachable!() // these are eight bytes
+    };
+    u64::from_be_bytes(*group)
 }
