@@ -1,11 +1,13 @@
 #!/usr/bin/env python3
-"""Counts the system calls of a start.
+"""Counts the system calls and the instructions of a start, and the reads of other runs.
 
 usage: benchmarks/starts.py PROGRAM
 
 Makes an image for each line of the table, in a new folder, and counts the calls that a start (`check`) makes on it, by
-strace, seeks and the sync included, and the blocks that they read. In the second image the files were written again in
-random order, so that they are in another order than their names in the directory. This isn't part of the gate.
+strace, seeks and the sync included, the blocks that they read, and the program's instructions, by valgrind. In the
+second image the files were written again in random order, so that they are in another order than their names in the
+directory. A second table has the reads of runs on an image with a file of 1 MiB and one of 64 blocks, that of their
+start included. This isn't part of the gate.
 """
 import os
 import random
@@ -13,6 +15,11 @@ import re
 import subprocess
 import sys
 import tempfile
+
+sys.path.insert(0, os.path.dirname(os.path.abspath(__file__)))
+sys.dont_write_bytecode = True
+
+from speed import cost  # noqa: E402  (the folder has to be in the path first)
 
 TRACER = ["strace", "-f", "-y", "-s", "0", "-e", "trace=read,pread64,lseek,fdatasync", "-o", "trace"]
 CALL = re.compile(r"\d+ +(\w+)\(\d+<([^>]*)>.* = (\d+)")
@@ -25,6 +32,13 @@ ROWS = [
     ("100 files of 50 blocks", 8192, [(100, 50)], False),
     ("60 files of 100 blocks", 8192, [(60, 100)], False),
     ("a file of 10 MiB and fifty of 1 MiB", 131072, [(1, 10240), (50, 1024)], False),
+]
+RUNS = [
+    ("only logs in", []),
+    ("types the file of 1 MiB", ["TYPE F00000.TXT"]),
+    ("types it twice", ["TYPE F00000.TXT"] * 2),
+    ("copies it", ["COPY COPY.TXT=F00000.TXT"]),
+    ("types the file of 64 blocks 50 times", ["TYPE F10000.TXT"] * 50),
 ]
 
 
@@ -64,15 +78,18 @@ class Maker:
         lines = "".join(f"COPY {other}={first}\n" for other in others)
         self.run("run", "RUN.IMG", given=b"LOGIN [10,20]\n" + lines.encode())
 
-    def count(self):
-        """Returns how many system calls a start makes on the image, and how many blocks they read."""
-        subprocess.run([*TRACER, self.program, "check", "RUN.IMG"], stdout=subprocess.DEVNULL, cwd=self.folder, check=True)
+    def count(self, *words, given=b"", only=""):
+        """Returns how many system calls a run makes on the image, of one kind if it is named, and how many blocks they
+        read."""
+        words = words or ("check",)
+        subprocess.run([*TRACER, self.program, *words, "RUN.IMG"], input=given, stdout=subprocess.DEVNULL,
+                       cwd=self.folder, check=True)
         calls = size = 0
         with open(os.path.join(self.folder, "trace"), encoding="utf-8") as lines:
             for line in lines:
                 found = CALL.match(line)
                 if found and found[2].endswith("/RUN.IMG"):
-                    calls += 1
+                    calls += only in found[1]
                     size += int(found[3]) if "read" in found[1] else 0
         return calls, size // 1024
 
@@ -83,11 +100,17 @@ def main():
         return 2
     with tempfile.TemporaryDirectory(dir="/dev/shm" if os.path.isdir("/dev/shm") else None) as folder:
         maker = Maker(os.path.abspath(sys.argv[1]), folder)
-        print("| an image with | calls | blocks read |\n|---|---|---|")
+        print("| an image with | calls | blocks read | thousands of instructions |\n|---|---|---|---|")
         for what, blocks, groups, again in ROWS:
             maker.make(blocks, groups, again)
             calls, read = maker.count()
-            print(f"| {what} | {calls:,} | {read:,} |", flush=True)
+            work = cost([maker.program, "check", os.path.join(folder, "RUN.IMG")])
+            print(f"| {what} | {calls:,} | {read:,} | {round(work / 1000):,} |", flush=True)
+        print("\n| a run that | reads |\n|---|---|")
+        for what, lines in RUNS:
+            maker.make(8192, [(1, 1024), (1, 64)], False)
+            given = "".join(f"{line}\n" for line in ["LOGIN [10,20]", *lines]).encode()
+            print(f"| {what} | {maker.count('run', given=given, only='read')[0]:,} |", flush=True)
     return 0
 
 
