@@ -12,7 +12,8 @@ use std::marker::Model;
 use std::mem::swap;
 use words36::BLOCK_BYTES;
 
-/// The most bytes of a read that is answered from a buffer. One of more bytes goes to the file.
+/// The most bytes of a read for which bytes are read ahead. A longer one goes to the file, unless a buffer has all of
+/// it.
 const FEW_BYTES: usize = 16 * BLOCK_BYTES;
 
 /// Two buffers: the one that was filled last, and the one before.
